@@ -1,0 +1,2 @@
+-- Laws of a list seen as a matrix, cited by every crate above.
+pub mod Laws

@@ -1,0 +1,7 @@
+-- Places of a column-major panel. Definitions only. Assumes nothing.
+use Prim.Native.Nat.{ℕ, _+_, _*_, _<_}
+
+-- row i and column j stand within a list of that length
+pub record In (n i j len : ℕ) : Type 0 where
+  pub row : i < n
+  pub off : i + j * n < len

@@ -1,0 +1,21 @@
+// One number of a column-major panel: read and written.
+ghost use mathlib.Core.Path.{_≡_};
+ghost use lib.ListN.{length};
+ghost use Rattle.model.specs.Matrix.{view, putAt};
+ghost use Rattle.grid.specs.Grid.{In};
+
+// The number at row i, column j.
+pub fn get(panel: &[f64], nrow: usize, i: usize, j: usize) -> f64
+    requires { ⌜ In nrow i j (length (now panel)) ⌝ }
+    ensures { λ r. ⌜ r ≡ view nrow (now (panel .entry)) i j ⌝ }
+{
+    panel[i + j * nrow]
+}
+
+// Writes v at row i, column j, and nothing else.
+pub fn put(panel: &mut [f64], nrow: usize, i: usize, j: usize, v: f64)
+    requires { ⌜ In nrow i j (length (now panel)) ⌝ }
+    ensures { λ _. ⌜ view nrow (now (panel .exit)) ≡ putAt (view nrow (now (panel .entry))) i j v ⌝ }
+{
+    panel[i + j * nrow] = v;
+}

@@ -1,0 +1,199 @@
+-- The factor call whole: refusals 1 to 9 in their order, and every lent cell at the end. From document 01, 'Sizes held', 'What is turned away', 'll_cdiv_emit'.
+-- The head alone decides (`headAnswerOf`); a tail row follows from the panels and itself (`factorRowOf`). Definitions only. Assumes nothing.
+use mathlib.Core.Bool.{Bool, true, false, cond, not, _&&_, _||_}
+use mathlib.Core.List.{List}
+use Prim.Native.Nat.{ℕ, zero, suc, _+_, _-_, _*_, min, max}
+use lib.Dec.{leb, ltb, eqb}
+use lib.ListN.{length, replicate}
+use lib.Ieee.{Float, lt}
+use Rattle.model.specs.Scalar.{zeroF, reciprocalOf, isFinite}
+use Rattle.model.specs.Matrix.{Row, Mat, view, headOf, rowOf, tabulate, columnMajor}
+use Rattle.model.specs.Step.{Pivots, blockAt, begins}
+use Rattle.model.specs.Panel.{Panel, tailRowOf}
+use Rattle.model.specs.Head as head
+use Rattle.model.specs.Inertia.{talliedOf}
+use Rattle.model.specs.Answer.{Said, refused, accepted, Check, sound, stop, orElse, refuseIf}
+use Rattle.model.specs.declared.Mode.{Mode}
+use Rattle.model.specs.declared.Mode.the-variants.{Fail, Lift}
+use Rattle.model.specs.declared.Settings.{Settings}
+use Rattle.model.specs.declared.Report.{Report}
+
+-- the nine buffers that a call writes
+pub record Buffers : Type 0 where
+  pub panel : List Float
+  pub d : List Float
+  pub sub : List Float
+  pub blocks : List ℕ
+  pub lifts : List ℕ
+  pub amounts : List Float
+  pub order : List ℕ
+  pub marks : List ℕ
+  pub work : List Float
+
+-- ---- entry checks
+
+-- refusal 1
+abbrev pub shapeSound : ℕ → ℕ → Bool
+shapeSound ncol nrow = leb ncol 128 && (leb nrow 1024 && leb ncol nrow)
+
+-- 'working f64 buffer 3·nrow·(nb+1) + nb², nb as passed'
+abbrev pub workLength : ℕ → ℕ → ℕ
+workLength nrow nb = 3 * nrow * (nb + 1) + nb * nb
+
+-- refusal 3
+unfoldable pub lengthsSound : Settings → List Float → Buffers → Bool
+lengthsSound c input b =
+    eqb (length input) (c .nrow * c .ncol) && (eqb (length (b .panel)) (c .nrow * c .ncol) && (eqb (length (b .d)) (c .ncol)
+    && (eqb (length (b .sub)) (c .ncol) && (eqb (length (b .blocks)) (c .ncol) && (eqb (length (b .lifts)) (c .ncol)
+    && (eqb (length (b .amounts)) (c .ncol) && (eqb (length (b .order)) (c .nrow) && (eqb (length (b .marks)) (c .nrow - c .ncol)
+    && eqb (length (b .work)) (workLength (c .nrow) (c .nb))))))))))
+
+-- refusals 4 and 5
+unfoldable pub modeCheck : Mode → ℕ → Check
+modeCheck Fail limit = sound
+modeCheck (Lift floor) limit = orElse (refuseIf (not (isFinite floor && lt zeroF floor)) 4) (refuseIf (not (leb 1 limit && leb limit 64)) 5)
+
+-- refusal 6: the first of n rows from i on, in column j, that is not finite
+unfoldable pub columnCheck : Mat → ℕ → ℕ → ℕ → Check
+columnCheck a j zero i = sound
+columnCheck a j (suc n) i =
+    let rest = columnCheck a j n (i + 1) in
+    cond (isFinite (a i j)) rest (stop 6 j i)
+
+-- the least of n columns from j on that has one, each from its diagonal down
+unfoldable pub columnsCheck : Mat → ℕ → ℕ → ℕ → Check
+columnsCheck a nrow zero j = sound
+columnsCheck a nrow (suc n) j = let rest = columnsCheck a nrow n (j + 1) in orElse (columnCheck a j (nrow - j) j) rest
+
+-- 1 to 5, and 6
+unfoldable pub settingsCheck : Settings → List Float → Buffers → Check
+settingsCheck c input b =
+    orElse (refuseIf (not (shapeSound (c .ncol) (c .nrow))) 1)
+    (orElse (refuseIf (not (leb 1 (c .nb) && leb (c .nb) 64)) 2)
+    (orElse (refuseIf (not (lengthsSound c input b)) 3) (modeCheck (c .mode) (c .limit))))
+
+unfoldable pub entryCheck : Settings → List Float → Buffers → Check
+entryCheck c input b = orElse (settingsCheck c input b) (columnsCheck (view (c .nrow) input) (c .nrow) (c .ncol) 0)
+
+-- ---- the head's run and refusal 9
+
+-- nothing eliminated yet
+unfoldable pub start : Mat → head.State
+start a =
+    record {
+      a = a;
+      mult = head.blank;
+      pivots = record { d = λ i. zeroF; sub = λ i. zeroF; amounts = λ i. zeroF; blocks = λ i. 0; lifts = λ i. 0; order = λ i. i; partners = λ i. 0 };
+      rounds = 0;
+    }
+
+-- 'used as min(nb, max(ncol, 1))'; nothing but the head enters it
+unfoldable pub headRunOf : Mode → ℕ → ℕ → ℕ → Mat → head.Run
+headRunOf mode limit ncol nb a = head.panelsOf mode limit ncol (min nb (max ncol 1)) ncol 0 (start (headOf ncol a))
+
+-- f at each of n places from i on
+unfoldable pub everyFrom : (ℕ → Bool) → ℕ → ℕ → Bool
+everyFrom f zero i = true
+everyFrom f (suc n) i = f i && everyFrom f n (i + 1)
+
+-- a pivot's own number at k: the reciprocal of a 1x1; of a block's first column its determinant with its reciprocal; its second column has none
+unfoldable pub pivotSound : Pivots → ℕ → Bool
+pivotSound p k =
+    let det = blockAt (p .d) (p .sub) k .det in
+    let block = isFinite det && isFinite (reciprocalOf det) in
+    let single = (ltb 0 k && begins (p .blocks) (k - 1)) || isFinite (reciprocalOf (p .d k)) in
+    cond (begins (p .blocks) k) block single
+
+-- column k after the last column: 'd, subdiagonal, lower head entry, block determinant, or reciprocal of a 1x1 pivot or determinant'
+unfoldable pub columnSound : ℕ → head.State → ℕ → Bool
+columnSound ncol s k =
+    isFinite (s .pivots .d k) && (isFinite (s .pivots .sub k) && (pivotSound (s .pivots) k && everyFrom (λ i. isFinite (s .a i k)) (ncol - k) k))
+
+-- the least of n columns from k on that is not: refusal 9
+unfoldable pub resultCheck : ℕ → head.State → ℕ → ℕ → Check
+resultCheck ncol s zero k = sound
+resultCheck ncol s (suc n) k =
+    let rest = resultCheck ncol s n (k + 1) in
+    cond (columnSound ncol s k) rest (stop 9 k 0)
+
+-- the head's answer: a run refusal with its place, or the state and the panels
+pub data HeadAnswer : Type 0 where
+  fails : (number at : ℕ) → HeadAnswer
+  stands : head.State → List Panel → HeadAnswer
+
+abbrev pub judged : Check → head.State → List Panel → HeadAnswer
+judged sound s ps = stands s ps
+judged (stop n a b) s ps = fails n a
+
+abbrev pub judgedRun : ℕ → head.Run → HeadAnswer
+judgedRun ncol (head.refused n p) = fails n p
+judgedRun ncol (head.done s ps) = judged (resultCheck ncol s ncol 0) s ps
+
+unfoldable pub headAnswerOf : Mode → ℕ → ℕ → ℕ → Mat → HeadAnswer
+headAnswerOf mode limit ncol nb a = judgedRun ncol (headRunOf mode limit ncol nb a)
+
+-- ---- the whole answer
+
+-- the factor row of a tail row
+unfoldable pub factorRowOf : ℕ → List Panel → Row → Row
+factorRowOf ncol ps r = tailRowOf ncol ps (rowOf ncol r)
+
+-- '1 if a tail row holds a number not finite, else 0'
+unfoldable pub markOf : ℕ → Row → ℕ
+markOf ncol r = cond (everyFrom (λ j. isFinite (r j)) ncol 0) 0 1
+
+-- upper positions as given, the head's lower triangle, the tail's factor rows
+unfoldable pub factorEntry : ℕ → head.State → List Panel → Mat → Mat
+factorEntry ncol s ps a = λ i j.
+    let tail = factorRowOf ncol ps (a i) j in
+    cond (ltb i j) (a i j) (cond (ltb i ncol) (s .a i j) tail)
+
+-- what a call leaves: its answer and the buffers
+pub record Outcome : Type 0 where
+  pub answer : Said Report
+  pub buffers : Buffers
+
+-- 'every factor output and the working buffer hold zeros'
+abbrev pub zeros : Buffers → Buffers
+zeros b = record {
+  panel = replicate (length (b .panel)) zeroF;
+  d = replicate (length (b .d)) zeroF;
+  sub = replicate (length (b .sub)) zeroF;
+  blocks = replicate (length (b .blocks)) 0;
+  lifts = replicate (length (b .lifts)) 0;
+  amounts = replicate (length (b .amounts)) zeroF;
+  order = replicate (length (b .order)) 0;
+  marks = replicate (length (b .marks)) 0;
+  work = replicate (length (b .work)) zeroF;
+}
+
+abbrev pub written : Settings → Mat → head.State → List Panel → Buffers → Buffers
+written c a s ps b = record {
+  panel = columnMajor (c .nrow) (c .ncol) (factorEntry (c .ncol) s ps a);
+  d = tabulate (c .ncol) (s .pivots .d);
+  sub = tabulate (c .ncol) (s .pivots .sub);
+  blocks = tabulate (c .ncol) (s .pivots .blocks);
+  lifts = tabulate (c .ncol) (s .pivots .lifts);
+  amounts = tabulate (c .ncol) (s .pivots .amounts);
+  order = tabulate (c .nrow) (s .pivots .order);
+  marks = tabulate (c .nrow - c .ncol) (λ i. markOf (c .ncol) (factorRowOf (c .ncol) ps (a (c .ncol + i))));
+  work = replicate (length (b .work)) zeroF;
+}
+
+abbrev pub reportOf : ℕ → head.State → Report
+reportOf ncol s = record { rounds = s .rounds; inertia = talliedOf ncol (s .pivots .d) (s .pivots .sub) (s .pivots .blocks) }
+
+abbrev pub afterHead : HeadAnswer → Settings → Mat → Buffers → Outcome
+afterHead (fails n p) c a b = record { answer = refused n p 0; buffers = zeros b }
+afterHead (stands s ps) c a b = record { answer = accepted (reportOf (c .ncol) s); buffers = written c a s ps b }
+
+abbrev pub afterCheck : Check → Outcome → Buffers → Outcome
+afterCheck sound o b = o
+afterCheck (stop n x y) o b = record { answer = refused n x y; buffers = b }
+
+-- the factor call
+unfoldable pub factorOf : Settings → List Float → Buffers → Outcome
+factorOf c input b =
+    let a = view (c .nrow) input in
+    let o = afterHead (headAnswerOf (c .mode) (c .limit) (c .ncol) (c .nb) a) c a b in
+    afterCheck (entryCheck c input b) o b

@@ -1,0 +1,212 @@
+-- The head's elimination: pivots within a panel, panels in turn. From document 01, 'll_bk_panel_step' and 'll_cdiv_emit'. Definitions only. Assumes nothing.
+use mathlib.Core.Bool.{Bool, true, false, cond, _&&_}
+use mathlib.Core.List.{List, [], _∷_}
+use Prim.Native.Nat.{ℕ, zero, suc, _+_, _-_, min}
+use lib.Dec.{leb, ltb, eqb}
+use lib.Ieee.{Float, lt, le, eq}
+use Rattle.model.specs.Scalar.{_⊕_, _⊖_, _⊗_, zeroF, reciprocalOf, magnitudeOf, maximumOf, liftOf, growthEps}
+use Rattle.model.specs.Root.{sqrtOf}
+use Rattle.model.specs.Matrix.{Row, Mat, put, swapped, exchanged, withColumn}
+use Rattle.model.specs.Choice.{Choice, zeroColumn, single, block, chooseOf}
+use Rattle.model.specs.Step.{one, two, Pivots, blockOf, firstMultiplier, secondMultiplier, eliminated, rowAfterSteps}
+use Rattle.model.specs.Panel.{Panel, rowAfterPanel}
+use Rattle.model.specs.declared.Mode.{Mode}
+use Rattle.model.specs.declared.Mode.the-variants.{Fail, Lift}
+use Rattle.model.specs.declared.Block.{Block}
+use Rattle.model.specs.declared.Pivot.{Pivot}
+
+-- the head, the multipliers of the panel at work, the pivots so far, the rounds so far
+pub record State : Type 0 where
+  pub a : Mat
+  pub mult : Mat
+  pub pivots : Pivots
+  pub rounds : ℕ
+
+-- ---- the numbers of a pivot, lifted where the mode asks it
+
+-- refused under a number, or a 1x1 number with its lift byte and amount
+pub data SettledOne : Type 0 where
+  oneRefused : ℕ → SettledOne
+  oneIs : Float → (lifted : ℕ) → (amount : Float) → SettledOne
+
+-- a 1x1: in Fail a zero is refusal 7; in Lift 'applies if |d| < floor strictly', and the amount is new less old
+unfoldable pub settledOne : Mode → Float → SettledOne
+settledOne Fail d = cond (eq d zeroF) (oneRefused 7) (oneIs d 0 zeroF)
+settledOne (Lift floor) d =
+    let new = liftOf floor d in
+    let lifted = oneIs new 1 (new ⊖ d) in
+    cond (lt (magnitudeOf d) floor) lifted (oneIs d 0 zeroF)
+
+-- refused under a number, or a block with its lift byte, amount and rounds
+pub data SettledTwo : Type 0 where
+  twoRefused : ℕ → SettledTwo
+  twoIs : Block → (lifted : ℕ) → (amount : Float) → (rounds : ℕ) → SettledTwo
+
+-- 'scale is the greatest magnitude'; 'growth floor (1e-14·scale)·scale'
+abbrev pub scaleOf : Block → Float
+scaleOf b = maximumOf (maximumOf (magnitudeOf (b .d11)) (magnitudeOf (b .d22))) (magnitudeOf (b .d21))
+
+abbrev pub growthFloorOf : Block → Float
+growthFloorOf b = growthEps ⊗ scaleOf b ⊗ scaleOf b
+
+-- rounds of a block's lift: `left` may still be tried, `r` is the round at hand, `sum` the r-fold running sum of step.
+-- 'until |det| ≥ bar or is not-a-number': a not-a-number is not below the bar
+unfoldable pub raisedFrom : Block → Float → Float → ℕ → ℕ → Float → SettledTwo
+raisedFrom b bar step zero r sum = twoRefused 8
+raisedFrom b bar step (suc left) r sum =
+    let tried = blockOf (b .d11 ⊕ sum) (b .d21) (b .d22 ⊕ sum) in
+    let again = raisedFrom b bar step left (r + 1) (sum ⊕ step) in
+    let enough = twoIs tried 1 sum r in
+    cond (lt (magnitudeOf (tried .det)) bar) again enough
+
+-- 'bar = max(floor², growth floor)' and 'step = max(floor, scale·√1e-14)'
+abbrev pub barOf : Float → Block → Float
+barOf floor b = maximumOf (floor ⊗ floor) (growthFloorOf b)
+
+abbrev pub liftStepOf : Float → Block → Float
+liftStepOf floor b = maximumOf floor (scaleOf b ⊗ sqrtOf growthEps)
+
+-- a block against its growth floor: refusal 7 in Fail; in Lift a lift, refusal 8 where the limit is too small
+unfoldable pub settledTwo : Mode → ℕ → Block → SettledTwo
+settledTwo Fail limit b = cond (le (magnitudeOf (b .det)) (growthFloorOf b)) (twoRefused 7) (twoIs b 0 zeroF 0)
+settledTwo (Lift floor) limit b =
+    let raised = raisedFrom b (barOf floor b) (liftStepOf floor b) limit 1 (liftStepOf floor b) in
+    cond (lt (magnitudeOf (b .det)) (barOf floor b)) raised (twoIs b 0 zeroF 0)
+
+-- ---- a step: a refusal with its number and place, or a pivot with the head and the multipliers after it
+
+pub data Tried : Type 0 where
+  refusedAt : (number at : ℕ) → Tried
+  took : Pivot → Mat → Mat → Tried
+
+-- the panel's rows after a 1x1 pivot d at k, each up to its own column; the diagonal holds d
+unfoldable pub headOne : ℕ → ℕ → Float → Mat → Mat
+headOne ke k d a = λ i.
+    let row = eliminated (one k k d (λ j. a j k ⊗ reciprocalOf d)) (i + 1) (a i) in
+    cond (ltb k i && ltb i ke) row (cond (eqb i k) (put (a i) k d) (a i))
+
+-- and after a block at k and k + 1: 'the panel keeps the unlifted diagonal'
+unfoldable pub headTwo : ℕ → ℕ → Block → Mat → Mat
+headTwo ke k b a = λ i.
+    let row = eliminated (two k k b (λ j. firstMultiplier b (a j k) (a j (k + 1))) (λ j. secondMultiplier b (a j k) (a j (k + 1)))) (i + 1) (a i) in
+    cond (ltb (k + 1) i && ltb i ke) row (a i)
+
+-- the multipliers that the step keeps for the rows below the panel
+unfoldable pub keptOne : ℕ → ℕ → Float → Mat → Mat → Mat
+keptOne ke k d a mult = withColumn mult k (k + 1) ke (λ j. a j k ⊗ reciprocalOf d)
+
+unfoldable pub keptTwo : ℕ → ℕ → Block → Mat → Mat → Mat
+keptTwo ke k b a mult =
+    withColumn (withColumn mult k (k + 2) ke (λ j. firstMultiplier b (a j k) (a j (k + 1)))) (k + 1) (k + 2) ke
+    (λ j. secondMultiplier b (a j k) (a j (k + 1)))
+
+module _ (ke : ℕ) (a₀ mult : Mat) where
+  -- a 1x1 at k, exchanged with row kp
+  abbrev pub afterOne : ℕ → ℕ → SettledOne → Tried
+  afterOne k kp (oneRefused n) = refusedAt n k
+  afterOne k kp (oneIs d lifted amount) =
+      let a = exchanged k kp ke a₀ in
+      took (record { kp = kp; two = false; d11 = d; d21 = zeroF; d22 = zeroF; lifted = lifted; amount = amount; rounds = 0 })
+      (headOne ke k d a) (keptOne ke k d a mult)
+
+  -- a block at k and k + 1, k + 1 exchanged with row kp
+  abbrev pub afterTwo : ℕ → ℕ → SettledTwo → Tried
+  afterTwo k kp (twoRefused n) = refusedAt n k
+  afterTwo k kp (twoIs b lifted amount rounds) =
+      let a = exchanged (k + 1) kp ke a₀ in
+      took (record { kp = kp; two = true; d11 = b .d11; d21 = b .d21; d22 = b .d22; lifted = lifted; amount = amount; rounds = rounds })
+      (headTwo ke k b a) (keptTwo ke k b a mult)
+
+  -- the chosen 1x1 stands at row kp; the block is read after the exchange; a zero column is refusal 7 in Fail and a 1x1 in Lift
+  abbrev pub tryBy : Mode → ℕ → ℕ → Choice → Tried
+  tryBy Fail limit k zeroColumn = refusedAt 7 k
+  tryBy (Lift floor) limit k zeroColumn = afterOne k k (settledOne (Lift floor) (a₀ k k))
+  tryBy mode limit k (single kp) = afterOne k kp (settledOne mode (a₀ kp kp))
+  tryBy mode limit k (block kp) =
+      let a = exchanged (k + 1) kp ke a₀ in
+      afterTwo k kp (settledTwo mode limit (blockOf (a k k) (a (k + 1) k) (a (k + 1) (k + 1))))
+
+  -- the step at k
+  unfoldable pub tryOf : Mode → ℕ → ℕ → Tried
+  tryOf mode limit k = tryBy mode limit k (chooseOf a₀ k ke)
+
+-- ---- what is noted of a pivot
+
+-- its last column
+unfoldable pub lastOf : ℕ → Bool → ℕ
+lastOf k wide = cond wide (k + 1) k
+
+abbrev pub byteOf : Bool → ℕ
+byteOf b = cond b 1 0
+
+-- of a pivot in columns k to e: what stands at e is put first, so that a 1x1 keeps what is meant for k
+unfoldable pub noted : Pivots → ℕ → ℕ → Pivot → Pivots
+noted p k e v =
+    record {
+      d = put (put (p .d) e (v .d22)) k (v .d11);
+      sub = put (put (p .sub) e zeroF) k (v .d21);
+      amounts = put (put (p .amounts) e (v .amount)) k (v .amount);
+      blocks = put (put (p .blocks) e 0) k (byteOf (v .two));
+      lifts = put (put (p .lifts) e (v .lifted)) k (v .lifted);
+      order = swapped (p .order) e (v .kp);
+      partners = put (p .partners) k (v .kp);
+    }
+
+-- ---- a panel's steps in turn
+
+-- a run refusal with its number and place, or the next column and the state there
+pub data Progress : Type 0 where
+  stopped : (number at : ℕ) → Progress
+  going : ℕ → State → Progress
+
+abbrev pub after : Tried → State → ℕ → (ℕ → State → Progress) → Progress
+after (refusedAt n p) s k f = stopped n p
+after (took v a m) s k f =
+    let e = lastOf k (v .two) in
+    f (e + 1) (record { a = a; mult = m; pivots = noted (s .pivots) k e v; rounds = s .rounds + v .rounds })
+
+-- at most n steps from column k on, up to ke
+unfoldable pub panelOf : ℕ → Mode → ℕ → ℕ → ℕ → State → Progress
+panelOf ke mode limit zero k s = going k s
+panelOf ke mode limit (suc n) k s =
+    let next = after (tryOf ke (s .a) (s .mult) mode limit k) s k (panelOf ke mode limit n) in
+    cond (ltb k ke) next (going k s)
+
+-- ---- panels in turn
+
+pub data Run : Type 0 where
+  refused : (number at : ℕ) → Run
+  done : State → List Panel → Run
+
+-- no multiplier yet
+unfoldable pub blank : Mat
+blank i j = zeroF
+
+-- the finished panel, with the head's rows from ke on after its steps
+unfoldable pub closed : ℕ → ℕ → State → Panel
+closed kb ke s =
+    record { kb = kb; ke = ke; pivots = s .pivots; mult = s .mult; below = λ i. rowAfterSteps (s .pivots) (s .mult) ke (ke - kb) kb (s .a i) }
+
+-- the later rows of the head go through the panel, each up to its own column
+unfoldable pub passed : Panel → State → State
+passed p s =
+    let later : Mat = λ i. let row = rowAfterPanel p (i + 1) (s .a i) in cond (leb (p .ke) i) row (s .a i) in
+    record { a = later; mult = blank; pivots = s .pivots; rounds = s .rounds }
+
+abbrev pub withPanel : Panel → Run → Run
+withPanel p (refused n q) = refused n q
+withPanel p (done s ps) = done s (p ∷ ps)
+
+abbrev pub continued : Progress → (State → Run) → Run
+continued (stopped n p) f = refused n p
+continued (going k s) f = f s
+
+-- at most n panels of width nb from column kb on
+unfoldable pub panelsOf : Mode → ℕ → ℕ → ℕ → ℕ → ℕ → State → Run
+panelsOf mode limit ncol nb zero kb s = done s []
+panelsOf mode limit ncol nb (suc n) kb s =
+    let ke = min (kb + nb) ncol in
+    let more =
+    continued (panelOf ke mode limit (ke - kb) kb s)
+    (λ t. withPanel (closed kb ke t) (panelsOf mode limit ncol nb n ke (passed (closed kb ke t) t))) in
+    cond (ltb kb ncol) more (done s [])

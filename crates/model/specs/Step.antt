@@ -1,0 +1,93 @@
+-- One elimination step: what it does to a row, and how it is read off the record of pivots. From document 01, 'll_bk_panel_step' and 'apply_bk_panel_trailing'.
+-- Definitions only. Assumes nothing.
+use mathlib.Core.Bool.{Bool, cond}
+use Prim.Native.Nat.{ℕ, zero, suc, _+_}
+use lib.Dec.{eqb, ltb}
+use lib.Ieee.{Float, eq}
+use Rattle.model.specs.Scalar.{_⊖_, _⊗_, zeroF, reciprocalOf}
+use Rattle.model.specs.Matrix.{Row, Mat, within, exchangedPlace}
+use Rattle.model.specs.declared.Block.{Block}
+
+-- A 1x1 pivot d at k, or a block at k and k + 1; kp is the row exchanged with k, or with k + 1; the rows hold the multipliers of the panel's
+-- rows, by row, as they were when the step was taken.
+pub data Step : Type 0 where
+  one : (k kp : ℕ) → Float → Row → Step
+  two : (k kp : ℕ) → Block → Row → Row → Step
+
+-- 'det = d11·d22 − d21·d21'
+abbrev pub blockOf : Float → Float → Float → Block
+blockOf d11 d21 d22 = record { d11 = d11; d21 = d21; d22 = d22; det = d11 ⊗ d22 ⊖ d21 ⊗ d21 }
+
+-- 'l1' and 'l2': a block's multipliers of a row with x and y in its two columns
+abbrev pub firstMultiplier : Block → Float → Float → Float
+firstMultiplier b x y = (b .d22 ⊗ x ⊖ b .d21 ⊗ y) ⊗ reciprocalOf (b .det)
+
+abbrev pub secondMultiplier : Block → Float → Float → Float
+secondMultiplier b x y = (b .d11 ⊗ y ⊖ b .d21 ⊗ x) ⊗ reciprocalOf (b .det)
+
+-- 'x − entry·m', left alone where m is a zero of either sign
+abbrev pub lessMultiple : Float → Float → Float → Float
+lessMultiple x entry m = let less = x ⊖ entry ⊗ m in cond (eq m zeroF) x less
+
+-- a row after the step: its pivot columns become multipliers, its columns past them and before `end` lose the pivot's part
+unfoldable pub eliminated : Step → ℕ → Row → Row
+eliminated (one k kp d m) end r = λ j.
+    let scaled = r k ⊗ reciprocalOf d in
+    let less = lessMultiple (r j) (r k) (m j) in
+    cond (eqb j k) scaled (cond (within (k + 1) end j) less (r j))
+eliminated (two k kp b m1 m2) end r = λ j.
+    let first = firstMultiplier b (r k) (r (k + 1)) in
+    let second = secondMultiplier b (r k) (r (k + 1)) in
+    let less = (r j ⊖ r k ⊗ m1 j) ⊖ r (k + 1) ⊗ m2 j in
+    cond (eqb j k) first (cond (eqb j (k + 1)) second (cond (within (k + 2) end j) less (r j)))
+
+-- the column that a step exchanges, and the row that it exchanges it with
+abbrev pub movedColumn : Step → ℕ
+movedColumn (one k kp d m) = k
+movedColumn (two k kp b m1 m2) = k + 1
+
+abbrev pub partnerOf : Step → ℕ
+partnerOf (one k kp d m) = kp
+partnerOf (two k kp b m1 m2) = kp
+
+-- a row below the panel that ends at ke: 'the same exchanges and steps'
+unfoldable pub rowAfterStep : ℕ → Step → Row → Row
+rowAfterStep ke s r = eliminated s ke (λ j. r (exchangedPlace (movedColumn s) (partnerOf s) j))
+
+-- ---- the record of pivots
+
+-- d, subdiagonal, lift amounts; bytes 1 where a block begins and where a lift was; the order; the row that the step at k exchanged
+pub record Pivots : Type 0 where
+  pub d : Row
+  pub sub : Row
+  pub amounts : Row
+  pub blocks : ℕ → ℕ
+  pub lifts : ℕ → ℕ
+  pub order : ℕ → ℕ
+  pub partners : ℕ → ℕ
+
+-- a block begins at k
+abbrev pub begins : (ℕ → ℕ) → ℕ → Bool
+begins blocks k = eqb (blocks k) 1
+
+-- the column after the pivot at k
+unfoldable pub pastOf : (ℕ → ℕ) → ℕ → ℕ
+pastOf blocks k = cond (begins blocks k) (k + 2) (k + 1)
+
+-- the block that begins at k
+abbrev pub blockAt : Row → Row → ℕ → Block
+blockAt d sub k = blockOf (d k) (sub k) (d (k + 1))
+
+-- the step at k; `mult j k` is the multiplier of the head's row j in column k, as it was when the step was taken
+unfoldable pub stepAt : Pivots → Mat → ℕ → Step
+stepAt p mult k =
+    let block = two k (p .partners k) (blockAt (p .d) (p .sub) k) (λ j. mult j k) (λ j. mult j (k + 1)) in
+    let single = one k (p .partners k) (p .d k) (λ j. mult j k) in
+    cond (begins (p .blocks) k) block single
+
+-- at most n steps from column k on, up to ke
+unfoldable pub rowAfterSteps : Pivots → Mat → ℕ → ℕ → ℕ → Row → Row
+rowAfterSteps p mult ke zero k r = r
+rowAfterSteps p mult ke (suc n) k r =
+    let next = rowAfterSteps p mult ke n (pastOf (p .blocks) k) (rowAfterStep ke (stepAt p mult k) r) in
+    cond (ltb k ke) next r

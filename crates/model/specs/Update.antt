@@ -1,0 +1,109 @@
+-- A descendant's update of a target node. From document 01, 'Assembly and update', refusals 13 to 18. Definitions only. Assumes nothing.
+use mathlib.Core.Bool.{Bool, true, cond, not, _&&_, _||_}
+use mathlib.Core.List.{List}
+use Prim.Native.Nat.{ℕ, zero, suc, _+_, _*_}
+use lib.Dec.{leb, ltb, eqb}
+use lib.ListN.{length}
+use lib.Ieee.{Float}
+use Rattle.model.specs.Scalar.{_⊖_, _⊗_, zeroF, isFinite}
+use Rattle.model.specs.Matrix.{Row, Mat, view, vec, bytes, columnMajor}
+use Rattle.model.specs.Step.{Pivots, begins}
+use Rattle.model.specs.Panel.{timesD, sumFrom}
+use Rattle.model.specs.Inertia.{checkBytes}
+use Rattle.model.specs.Factor.{shapeSound, everyFrom}
+use Rattle.model.specs.Assembly.{Panelled, panelAfter, firstNot}
+use Rattle.model.specs.Answer.{Check, sound, stop, orElse, refuseIf}
+
+-- the target: ncol columns, nrow rows, the global row of its first column, its global rows
+pub record Target : Type 0 where
+  pub ncol : ℕ
+  pub nrow : ℕ
+  pub first : ℕ
+  pub rows : List ℕ
+
+-- the descendant: nk columns, mk rows below, its panel with the nk head rows first, d, subdiagonal, block bytes, and the mk global rows
+pub record Descendant : Type 0 where
+  pub nk : ℕ
+  pub mk : ℕ
+  pub panel : List Float
+  pub d : List Float
+  pub sub : List Float
+  pub blocks : List ℕ
+  pub rows : List ℕ
+
+-- ---- refusals
+
+-- refusal 13
+unfoldable pub updateSound : Target → Descendant → List Float → Bool
+updateSound t k panel =
+    shapeSound (t .ncol) (t .nrow) && (leb (k .nk) 128 && (leb (k .nk + k .mk) 1024
+    && (eqb (length panel) (t .nrow * t .ncol) && (eqb (length (t .rows)) (t .nrow) && (eqb (length (k .panel)) ((k .nk + k .mk) * k .nk)
+    && (eqb (length (k .d)) (k .nk) && (eqb (length (k .sub)) (k .nk) && (eqb (length (k .blocks)) (k .nk) && eqb (length (k .rows)) (k .mk)))))))))
+
+-- 'strictly rising': each of n rows is above the one before it
+abbrev pub rising : (ℕ → ℕ) → ℕ → Bool
+rising rows n = everyFrom (λ i. eqb (i + 1) n || ltb (rows i) (rows (i + 1))) n 0
+
+-- 'begin first, first+1, .. for ncol rows'
+abbrev pub beginsAt : ℕ → (ℕ → ℕ) → ℕ → Bool
+beginsAt first rows ncol = everyFrom (λ i. eqb (rows i) (first + i)) ncol 0
+
+-- the least of m places from i on where f is g, and the end where it is at none
+unfoldable pub placeFrom : (ℕ → ℕ) → ℕ → ℕ → ℕ → ℕ
+placeFrom f g zero i = i
+placeFrom f g (suc m) i = let rest = placeFrom f g m (i + 1) in cond (eqb (f i) g) i rest
+
+-- 'a row lands if it is one of the target's first ncol rows'
+abbrev pub lands : Target → ℕ → Bool
+lands t g = leb (t .first) g && ltb g (t .first + t .ncol)
+
+-- 'row A (the first at or past that landing) is absent from the target': the first of m rows from i on; `landed` says that a row before it landed
+unfoldable pub absentFrom : Target → (ℕ → ℕ) → ℕ → ℕ → Bool → Check
+absentFrom t rows zero i landed = sound
+absentFrom t rows (suc m) i landed =
+    let now = landed || lands t (rows i) in
+    let there = ltb (placeFrom (bytes (t .rows)) (rows i) (t .nrow) 0) (t .nrow) in
+    let rest = absentFrom t rows m (i + 1) now in
+    cond (now && not there) (stop 17 i 0) rest
+
+-- column c of the descendant: 'a number below its head, or a d, or a subdiagonal under a 1'
+unfoldable pub descendantSound : Descendant → ℕ → Bool
+descendantSound k c =
+    isFinite (vec (k .d) c) && ((not (begins (bytes (k .blocks)) c) || isFinite (vec (k .sub) c))
+    && everyFrom (λ i. isFinite (view (k .nk + k .mk) (k .panel) i c)) (k .mk) (k .nk))
+
+unfoldable pub updateCheck : Target → Descendant → List Float → Check
+updateCheck t k panel =
+    orElse (refuseIf (not (updateSound t k panel)) 13)
+    (orElse (refuseIf (not (rising (bytes (t .rows)) (t .nrow) && beginsAt (t .first) (bytes (t .rows)) (t .ncol))) 14)
+    (orElse (refuseIf (not (rising (bytes (k .rows)) (k .mk))) 15)
+    (orElse (checkBytes (k .blocks))
+    (orElse (cond (leb 1 (k .nk)) (absentFrom t (bytes (k .rows)) (k .mk) 0 (not true)) sound) (firstNot (descendantSound k) 18 (k .nk) 0)))))
+
+-- ---- the update
+
+-- D as the descendant has it; its order and lifts play no part
+abbrev pub pivotsOf : Descendant → Pivots
+pivotsOf k =
+    record { d = vec (k .d); sub = vec (k .sub); amounts = λ i. zeroF; blocks = bytes (k .blocks); lifts = λ i. 0; order = λ i. i; partners = λ i. 0 }
+
+-- the descendant's row r below its head, as a row of its columns
+abbrev pub descendantRow : Descendant → ℕ → Row
+descendantRow k r = view (k .nk + k .mk) (k .panel) (k .nk + r)
+
+-- 'each landing row c forms v', 'each row from c on subtracts acc, summed from +0.0 in column order'
+abbrev pub updateAcc : Descendant → ℕ → ℕ → Float
+updateAcc k r c = sumFrom (λ j. descendantRow k r j ⊗ timesD (pivotsOf k) (descendantRow k c) j) 0 (k .nk) zeroF
+
+-- row i and column j of the target: less acc where both are rows of the descendant, the column's not after the row's
+unfoldable pub updated : Target → Descendant → Mat → Mat
+updated t k a = λ i j.
+    let r = placeFrom (bytes (k .rows)) (bytes (t .rows) i) (k .mk) 0 in
+    let c = placeFrom (bytes (k .rows)) (bytes (t .rows) j) (k .mk) 0 in
+    let less = a i j ⊖ updateAcc k r c in
+    cond (leb 1 (k .nk) && (ltb r (k .mk) && leb c r)) less (a i j)
+
+unfoldable pub updateOf : Target → Descendant → List Float → Panelled
+updateOf t k panel =
+    let new = columnMajor (t .nrow) (t .ncol) (updated t k (view (t .nrow) panel)) in
+    panelAfter (updateCheck t k panel) new panel

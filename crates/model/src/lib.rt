@@ -1,0 +1,101 @@
+// The declared types that the definitions in specs/ speak of, and that every crate above passes on.
+// Nothing here computes: a reader may rely on the names and on the comments alone.
+
+// A row of a node's panel, counted from 0: the source's li.
+pub struct LocalRow(pub usize);
+
+// A row of the whole system: the source's g.
+pub struct GlobalRow(pub u32);
+
+// A column of a node by its position in the elimination: the source's e, less the node's own offset.
+pub struct Elim(pub usize);
+
+// What a pivot below the floor meets: refusal 7, or a lift to the floor that Lift carries.
+pub enum Mode {
+    Fail,
+    Lift(f64),
+}
+
+// The settings of a factor call: columns, rows, panel width, mode, rounds that a block's lift may take.
+pub struct Settings {
+    pub ncol: usize,
+    pub nrow: usize,
+    pub nb: usize,
+    pub mode: Mode,
+    pub limit: usize,
+}
+
+// A two-by-two pivot with its determinant, passed by value from the choice to elimination, tail and inertia.
+pub struct Block {
+    pub d11: f64,
+    pub d21: f64,
+    pub d22: f64,
+    pub det: f64,
+}
+
+// What a step took: the row exchanged with its last column, whether it is a block, its numbers (d21 and d22 are 0.0 of
+// a 1x1), the lift byte, the lift amount, the rounds that its lift used.
+pub struct Pivot {
+    pub kp: usize,
+    pub two: bool,
+    pub d11: f64,
+    pub d21: f64,
+    pub d22: f64,
+    pub lifted: u8,
+    pub amount: f64,
+    pub rounds: usize,
+}
+
+// Counts of positive, negative and zero eigenvalues of D.
+pub struct Tally {
+    pub positive: usize,
+    pub negative: usize,
+    pub zero: usize,
+}
+
+// What an accepted factor call reports: the rounds of all block lifts, and the inertia.
+pub struct Report {
+    pub rounds: usize,
+    pub inertia: Tally,
+}
+
+// Document 01's refusals 1 to 19 in their order. `turnedAway` of specs/Answer.antt gives the number and the place of each.
+pub enum Refusal {
+    Shape,
+    Width,
+    Length,
+    Floor,
+    Limit,
+    Input(Elim, LocalRow),
+    ZeroPivot(Elim),
+    Rounds(Elim),
+    NotFinite(Elim),
+    AssemblyLength,
+    AssemblyPlace(usize),
+    AssemblyNumber(usize),
+    UpdateLength,
+    TargetRows,
+    DescendantRows,
+    BlockByte(Elim),
+    AbsentRow(usize),
+    DescendantNumber(Elim),
+    InertiaLength,
+}
+
+// The answer of a factor call.
+pub enum Factored {
+    Accepted(Report),
+    Refused(Refusal),
+}
+
+// The answer of an inertia call.
+pub enum Counted {
+    Counts(Tally),
+    Refused(Refusal),
+}
+
+// The answer of an assembly or an update.
+pub enum Applied {
+    Done,
+    Refused(Refusal),
+}

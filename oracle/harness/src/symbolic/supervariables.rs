@@ -1,0 +1,1 @@
+//! Supervariables are left out.
