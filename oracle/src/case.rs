@@ -60,12 +60,19 @@ pub struct Descendant {
     pub blocks: Vec<u8>,
 }
 
+/// Where a target stands: its first column and all its rows, global.
+#[derive(Clone, Debug)]
+pub struct Place {
+    pub first: u32,
+    pub rows: Vec<u32>,
+}
+
 /// A descendant's update of a target.
 #[derive(Clone, Debug)]
 pub struct Update {
     pub ncol: usize,
     pub nrow: usize,
-    pub rows: Vec<u32>,
+    pub place: Place,
     pub panel: Vec<f64>,
     pub descendant: Descendant,
 }
@@ -75,7 +82,7 @@ pub struct Update {
 pub struct Whole {
     pub settings: Settings,
     pub assembly: Assembly,
-    pub rows: Vec<u32>,
+    pub place: Place,
     pub descendants: Vec<Descendant>,
 }
 

@@ -121,6 +121,10 @@ impl<'a> Fields<'a> {
         })
     }
 
+    fn place(&self) -> Result<Place, String> {
+        Ok(Place { first: self.get("first", count)?, rows: self.counts("rows")? })
+    }
+
     fn assembly(&self) -> Result<Assembly, String> {
         Ok(Assembly {
             ncol: self.get("ncol", count)?,
@@ -148,14 +152,14 @@ pub fn case(line: &str) -> Result<Case, String> {
         "update" => Case::Update(Update {
             ncol: f.get("ncol", count)?,
             nrow: f.get("nrow", count)?,
-            rows: f.counts("rows")?,
+            place: f.place()?,
             panel: f.numbers("panel")?,
             descendant: f.get("descendant", descendant)?,
         }),
         "whole" => Case::Whole(Whole {
             settings: f.settings()?,
             assembly: f.assembly()?,
-            rows: f.counts("rows")?,
+            place: f.place()?,
             descendants: f.every("descendant").iter().map(|t| descendant(t)).collect::<Result<_, _>>()?,
         }),
         "inertia" => Case::Inertia(Inertia {
@@ -177,6 +181,10 @@ fn settings_text(s: &Settings) -> String {
     format!("ncol={ncol} nrow={nrow} nb={nb} mode={} limit={limit}", mode_text(mode))
 }
 
+fn place_text(place: &Place) -> String {
+    format!("first={} rows={}", place.first, counts(&place.rows))
+}
+
 fn entries_text(a: &Assembly) -> String {
     let parts = (numbers(&a.panel), counts(&a.rows), counts(&a.cols), numbers(&a.numbers));
     format!("panel={} erows={} ecols={} enumbers={}", parts.0, parts.1, parts.2, parts.3)
@@ -194,12 +202,12 @@ pub fn case_text(case: &Case) -> String {
         }
         Case::Assembly(a) => format!("assembly ncol={} nrow={} {}", a.ncol, a.nrow, entries_text(a)),
         Case::Update(u) => {
-            let (rows, panel, k) = (counts(&u.rows), numbers(&u.panel), descendant_text(&u.descendant));
-            format!("update ncol={} nrow={} rows={rows} panel={panel} descendant={k}", u.ncol, u.nrow)
+            let (place, panel, k) = (place_text(&u.place), numbers(&u.panel), descendant_text(&u.descendant));
+            format!("update ncol={} nrow={} {place} panel={panel} descendant={k}", u.ncol, u.nrow)
         }
         Case::Whole(w) => {
             let (settings, entries) = (settings_text(&w.settings), entries_text(&w.assembly));
-            let mut text = format!("whole {settings} rows={} {entries}", counts(&w.rows));
+            let mut text = format!("whole {settings} {} {entries}", place_text(&w.place));
             for k in &w.descendants {
                 write!(text, " descendant={}", descendant_text(k)).unwrap();
             }

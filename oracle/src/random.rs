@@ -203,15 +203,15 @@ fn assembly(rng: &mut Rng, bounds: Bounds) -> Assembly {
     a
 }
 
-/// A target's rows: ncol in a run, then others with gaps.
-fn target_rows(rng: &mut Rng, ncol: usize, nrow: usize) -> Vec<u32> {
-    let mut next = rng.within(0, 9) as u32;
-    (0..nrow)
-        .map(|i| {
-            next += if i >= ncol { rng.within(1, 3) as u32 } else { 1 };
-            next
-        })
-        .collect()
+/// A target's place: ncol rows in a run, then others with gaps.
+fn place(rng: &mut Rng, ncol: usize, nrow: usize) -> Place {
+    let first = rng.within(0, 9) as u32;
+    let mut rows = vec![first];
+    while rows.len() < nrow {
+        let gap = if rows.len() < ncol { 1 } else { rng.within(1, 3) as u32 };
+        rows.push(rows[rows.len() - 1] + gap);
+    }
+    Place { first, rows }
 }
 
 fn blocks(rng: &mut Rng, n: usize) -> Vec<u8> {
@@ -244,13 +244,14 @@ fn descendant(rng: &mut Rng, bounds: Bounds, rows: &[u32]) -> Descendant {
 /// One thing of an update made wrong: refusals 13 to 18, or a number in the
 /// descendant's head, which is not read.
 fn spoil_update(rng: &mut Rng, u: &mut Update) {
-    let k = &mut u.descendant;
-    match rng.within(0, 7) {
+    let (k, rows) = (&mut u.descendant, &mut u.place.rows);
+    match rng.within(0, 8) {
         0 => k.d.push(1.0),
-        1 if u.rows.len() > 1 => u.rows.swap(0, 1),
+        1 if rows.len() > 1 => rows.swap(0, 1),
         2 if k.rows.len() > 1 => k.rows.swap(0, 1),
         3 if k.ncol > 0 => k.blocks[k.ncol - 1] = rng.one_of(&[1, 2]),
-        4 if u.rows.len() > u.ncol => *u.rows.last_mut().unwrap() += 1,
+        4 if rows.len() > u.ncol => *rows.last_mut().unwrap() += 1,
+        8 => u.place.first += 1,
         5 if !k.panel.is_empty() => {
             let at = rng.within(0, k.panel.len() - 1);
             k.panel[at] = not_finite(rng);
@@ -264,9 +265,9 @@ fn spoil_update(rng: &mut Rng, u: &mut Update) {
 fn update(rng: &mut Rng, bounds: Bounds) -> Update {
     let ncol = rng.within(1, bounds.max_col);
     let nrow = rng.within(ncol, bounds.max_row.max(ncol));
-    let rows = target_rows(rng, ncol, nrow);
-    let descendant = descendant(rng, bounds, &rows);
-    let mut u = Update { ncol, nrow, rows, panel: numbers(rng, nrow * ncol), descendant };
+    let place = place(rng, ncol, nrow);
+    let descendant = descendant(rng, bounds, &place.rows);
+    let mut u = Update { ncol, nrow, place, panel: numbers(rng, nrow * ncol), descendant };
     if rng.once_in(4) {
         spoil_update(rng, &mut u);
     }
@@ -276,11 +277,11 @@ fn update(rng: &mut Rng, bounds: Bounds) -> Update {
 fn whole(rng: &mut Rng, bounds: Bounds) -> Whole {
     let assembly = assembly(rng, bounds);
     let (ncol, nrow) = (assembly.ncol, assembly.nrow);
-    let rows = target_rows(rng, ncol, nrow);
-    let descendants = (0..rng.within(0, 3)).map(|_| descendant(rng, bounds, &rows)).collect();
+    let place = place(rng, ncol, nrow);
+    let descendants = (0..rng.within(0, 3)).map(|_| descendant(rng, bounds, &place.rows)).collect();
     let nb = rng.within(1, ncol.min(64));
     let settings = Settings { ncol, nrow, nb, mode: mode(rng, &assembly.panel), limit: rng.within(1, 3) };
-    Whole { settings, assembly, rows, descendants }
+    Whole { settings, assembly, place, descendants }
 }
 
 fn inertia(rng: &mut Rng, bounds: Bounds) -> Inertia {
@@ -302,7 +303,11 @@ fn leaf(rng: &mut Rng) -> Leaf {
         if rng.once_in(12) { not_finite(rng) } else { number(rng, kind) }
     };
     let (a, b) = (any(), any());
-    Leaf { name: name.to_string(), a, b: if name == "lift" { b.abs() } else { b } }
+    // A lift's floor has no sign. Of zeros of unlike sign the Rust's maximum
+    // may be either.
+    let b = if name == "lift" || (a == 0.0 && b == 0.0) { b.abs() } else { b };
+    let a = if b == 0.0 && a == 0.0 { a.abs() } else { a };
+    Leaf { name: name.to_string(), a, b }
 }
 
 /// A case of the kind that a word names.

@@ -195,7 +195,7 @@ fn assembly_entry(a: &Assembly) -> Checked {
 
 /// Refusals 13 to 18, then the Rust's panel.
 fn updated(u: &Update) -> Result<Vec<f64>, Refusal> {
-    update_entry(u.ncol, u.nrow, &u.rows, u.panel.len(), &u.descendant)?;
+    update_entry(u.ncol, u.nrow, &u.place, u.panel.len(), &u.descendant)?;
     let none = Assembly {
         ncol: u.ncol,
         nrow: u.nrow,
@@ -204,21 +204,22 @@ fn updated(u: &Update) -> Result<Vec<f64>, Refusal> {
         cols: Vec::new(),
         numbers: Vec::new(),
     };
-    Ok(reach::updated(&node(&none, &u.rows, std::slice::from_ref(&u.descendant))))
+    Ok(reach::updated(&node(&none, &u.place.rows, std::slice::from_ref(&u.descendant))))
 }
 
 fn rising(rows: &[u32]) -> bool {
     rows.windows(2).all(|w| w[0] < w[1])
 }
 
-fn update_entry(ncol: usize, nrow: usize, rows: &[u32], panel: usize, k: &Descendant) -> Checked {
+fn update_entry(ncol: usize, nrow: usize, place: &Place, panel: usize, k: &Descendant) -> Checked {
+    let rows = &place.rows;
     let lengths = panel == nrow * ncol
         && rows.len() == nrow
         && k.panel.len() == (k.ncol + k.below) * k.ncol
         && [k.d.len(), k.sub.len(), k.blocks.len()] == [k.ncol; 3]
         && k.rows.len() == k.below;
     refuse_if(bad_shape(ncol, nrow) || k.ncol > MAX_COL || k.ncol + k.below > MAX_ROW || !lengths, 13)?;
-    let in_a_run = rows[..ncol].windows(2).all(|w| w[0].checked_add(1) == Some(w[1]));
+    let in_a_run = (0..ncol).all(|i| rows[i] as usize == place.first as usize + i);
     refuse_if(!rising(rows) || !in_a_run, 14)?;
     refuse_if(!rising(&k.rows), 15)?;
     refuse_at(bad_block(&k.blocks), 16)?;
@@ -266,9 +267,9 @@ fn whole(w: &Whole) -> Result<Answer, Refusal> {
     let (s, a) = (&w.settings, &w.assembly);
     assembly_entry(a)?;
     for k in &w.descendants {
-        update_entry(a.ncol, a.nrow, &w.rows, a.panel.len(), k)?;
+        update_entry(a.ncol, a.nrow, &w.place, a.panel.len(), k)?;
     }
-    let node = node(a, &w.rows, &w.descendants);
+    let node = node(a, &w.place.rows, &w.descendants);
     entry(&Factor { settings: *s, panel: reach::updated(&node), lengths: None })?;
     judge(s, reach::whole(&node, s.nb, s.mode.floor()))
 }

@@ -36,7 +36,8 @@ fn panel(name: &'static str, ncol: usize, nrow: usize, panel: &[f64]) -> Named {
 }
 
 fn update(name: &'static str, rows: &[u32], given: &[f64], k: Descendant) -> Named {
-    (name, Case::Update(Update { ncol: 1, nrow: rows.len(), rows: rows.to_vec(), panel: given.to_vec(), descendant: k }))
+    let place = Place { first: rows[0], rows: rows.to_vec() };
+    (name, Case::Update(Update { ncol: 1, nrow: rows.len(), place, panel: given.to_vec(), descendant: k }))
 }
 
 /// A descendant of one column: its rows below with their L, and d.

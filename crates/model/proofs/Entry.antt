@@ -12,17 +12,7 @@ use Rattle.model.specs.Matrix.{view}
 use Rattle.model.specs.Factor.{Buffers, shapeSound, workLength, lengthsSound, modeCheck, columnsCheck, settingsCheck, entryCheck, headAnswerOf, afterHead, factorOf}
 use Rattle.model.specs.Answer.{Check, sound, stop, orElse, refuseIf}
 use Rattle.model.specs.declared.Settings.{Settings}
-
-pub and-left : (s t : Bool) → s && t ≡ true → s ≡ true
-and-left true t h = refl
-and-left false t h = h
-
-pub and-right : (s t : Bool) → s && t ≡ true → t ≡ true
-and-right true t h = h
-and-right false t h = absurd (never h)
-  where
-    never : false ≡ true → ⊥
-    never e = let w : _≡_ {A = ℕ} 0 1 = cc in omega arith
+use Rattle.model.proofs.Cases.{and-left, and-right}
 
 -- the first of two checks, and the second, where both pass
 pub first-sound : (a b : Check) → orElse a b ≡ sound → a ≡ sound

@@ -17,7 +17,8 @@ use Rattle.model.specs.Answer.{accepted}
 use Rattle.model.specs.Independence.{Call, outcomeOf, Alike, SameHead, SameInput, SameTailRow, TailRowsSteerNothing}
 use Rattle.model.specs.declared.Mode.{Mode}
 use Rattle.model.proofs.Tabulated.{off-lt, getD-tabulate, view-columnMajor}
-use Rattle.model.proofs.Entry.{and-left, and-right, Passed, passed, past-entry}
+use Rattle.model.proofs.Cases.{and-left, and-right}
+use Rattle.model.proofs.Entry.{Passed, passed, past-entry}
 
 -- ---- the head and a row are cut before anything looks at them
 

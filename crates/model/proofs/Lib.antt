@@ -1,5 +1,10 @@
 -- Laws over the definitions, cited by the crates above.
+pub mod Cases
+pub mod Root
+pub mod Nearest
 pub mod Tabulated
 pub mod Entry
 pub mod Stations
 pub mod Independence
+pub mod Bounds
+pub mod Accepted

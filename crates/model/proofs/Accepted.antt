@@ -1,0 +1,311 @@
+-- What an accepted call may be relied on for: its order is a permutation that leaves the tail in place, and its block bytes are well formed, so that
+-- inertia and update never answer 16 to them. Assumes nothing.
+use mathlib.Core.Path.{_≡_, refl, sym, _∙_, ap, subst}
+use mathlib.Core.Logic.{_⊎_, inl, inr, ⊎-elim}
+use mathlib.Core.Bool.{Bool, true, false, cond, not, _&&_, _||_}
+use mathlib.Core.List.{List}
+use Prim.Native.Nat.{ℕ, zero, suc, _+_, _-_, _≤_, _<_, min, max}
+use native.Mathlib.Omega.{arith}
+use borrow.Author.Tests.{lt-ltb, le-ltb, le-leb, eq-eqb, ne-eqb, eqb-true, eqb-false, ltb-true, ltb-false}
+use lib.Dec.{leb, ltb, eqb}
+use lib.ListN.{length, getD}
+use Rattle.model.specs.Matrix.{Mat, view, headOf, bytes, put, exchangedPlace, swapped, tabulate}
+use Rattle.model.specs.Step.{Pivots, begins}
+use Rattle.model.specs.Panel.{Panel}
+use Rattle.model.specs.Head as head
+use Rattle.model.specs.Head.{State, Tried, refusedAt, took, tryOf, lastOf, byteOf, noted, Progress, stopped, going, after, panelOf, Run, done, closed, passed, withPanel, continued, panelsOf}
+use Rattle.model.specs.Inertia.{byteSound, bytesFrom, checkBytes}
+use Rattle.model.specs.Factor.{Outcome, start, headRunOf, HeadAnswer, fails, stands, judged, judgedRun, headAnswerOf, entryCheck, resultCheck, afterHead, afterCheck, factorOf}
+use Rattle.model.specs.Answer.{Said, refused, accepted, Check, sound, stop}
+use Rattle.model.specs.Independence.{Call, PastEntry, outcomeOf}
+use Rattle.model.specs.declared.Mode.{Mode}
+use Rattle.model.specs.declared.Pivot.{Pivot}
+use Rattle.model.specs.declared.Report.{Report}
+use Rattle.model.proofs.Tabulated.{length-tabulateFrom, getD-tabulate}
+use Rattle.model.proofs.Cases.{test, cmp}
+use Rattle.model.proofs.Entry.{Passed, passed as entry-passed, past-entry}
+use Rattle.model.proofs.Bounds.{Good, GoodPivot, try-good}
+
+-- ---- permutations
+
+-- f has an inverse, and moves nothing at or past n
+pub record Permutes (n : ℕ) (f : ℕ → ℕ) : Type 0 where
+  pub inverse : ℕ → ℕ
+  pub left : (i : ℕ) → inverse (f i) ≡ i
+  pub right : (i : ℕ) → f (inverse i) ≡ i
+  pub fixes : (i : ℕ) → n ≤ i → f i ≡ i
+
+-- an exchange of places done twice is none
+pub place-twice : (p q i : ℕ) → exchangedPlace p q (exchangedPlace p q i) ≡ i
+place-twice p q i =
+    test (eqb i p)
+    (λ e. let x : i ≡ p = eqb-true i p e in rw e (test (eqb q p)
+    (λ f. let y : q ≡ p = eqb-true q p f in rw f (omega arith))
+    (λ f. rw (f, eq-eqb q q refl) (sym x))))
+    (λ e. rw e (test (eqb i q)
+    (λ f. rw (f, eq-eqb p p refl) (sym (eqb-true i q f)))
+    (λ f. rw (f, e, f))))
+
+place-past : (n p q i : ℕ) → p < n → q < n → n ≤ i → exchangedPlace p q i ≡ i
+place-past n p q i hp hq h = rw (ne-eqb i p (λ e. omega arith), ne-eqb i q (λ e. omega arith))
+
+swapped-permutes : (n : ℕ) (f : ℕ → ℕ) (p q : ℕ) → p < n → q < n → Permutes n f → Permutes n (swapped f p q)
+unfolding swapped
+swapped-permutes n f p q hp hq w = record {
+  inverse = λ i. exchangedPlace p q (w .inverse i);
+  left = λ i. ap (λ (x : ℕ). exchangedPlace p q x) (w .left (exchangedPlace p q i)) ∙ place-twice p q i;
+  right = λ i. ap f (place-twice p q (w .inverse i)) ∙ w .right i;
+  fixes = λ i h. ap f (place-past n p q i hp hq h) ∙ w .fixes i h;
+}
+
+-- ---- block bytes
+
+-- before n: each is 0 or 1, and a 1 has a 0 after it, before n too
+pub record Paired (n : ℕ) (f : ℕ → ℕ) : Type 0 where
+  pub byte : (c : ℕ) → c < n → f c ≤ 1
+  pub room : (c : ℕ) → c < n → f c ≡ 1 → c + 1 < n
+  pub apart : (c : ℕ) → c < n → f c ≡ 1 → f (c + 1) ≡ 0
+
+-- a step's bytes: 0 at its last column, then 1 at k for a block
+stepBytes : (ℕ → ℕ) → ℕ → Bool → ℕ → ℕ
+stepBytes f k two = put (put f (lastOf k two) 0) k (byteOf two)
+
+bytes-before : (f : ℕ → ℕ) (k : ℕ) (two : Bool) (c : ℕ) → c < k → stepBytes f k two c ≡ f c
+unfolding stepBytes put lastOf
+bytes-before f k true c h = rw (ne-eqb c k (λ e. omega arith), ne-eqb c (k + 1) (λ e. omega arith))
+bytes-before f k false c h = rw (ne-eqb c k (λ e. omega arith))
+
+bytes-at : (f : ℕ → ℕ) (k : ℕ) (two : Bool) → stepBytes f k two k ≡ byteOf two
+unfolding stepBytes put
+bytes-at f k two = rw (eq-eqb k k refl)
+
+bytes-second : (f : ℕ → ℕ) (k : ℕ) → stepBytes f k true (k + 1) ≡ 0
+unfolding stepBytes put lastOf
+bytes-second f k = rw (ne-eqb (k + 1) k (λ e. omega arith), eq-eqb (k + 1) (k + 1) refl)
+
+step-paired : (f : ℕ → ℕ) (k : ℕ) (two : Bool) → Paired k f → Paired (lastOf k two + 1) (stepBytes f k two)
+unfolding lastOf
+step-paired f k true w = record {
+  byte = λ c h. cmp c k (λ l. omega (arith, bytes-before f k true c l, w .byte c l)) (λ e. omega (arith, ap (stepBytes f k true) e, bytes-at f k true))
+      (λ g. let x : c ≡ k + 1 = omega arith in omega (arith, ap (stepBytes f k true) x, bytes-second f k));
+  room = λ c h e. cmp c k (λ l. omega (arith, w .room c l (sym (bytes-before f k true c l) ∙ e))) (λ x. omega arith) (λ g. absurd (second c h g e));
+  apart = λ c h e. cmp c k
+      (λ l. let r : c + 1 < k = w .room c l (sym (bytes-before f k true c l) ∙ e) in
+      bytes-before f k true (c + 1) r ∙ w .apart c l (sym (bytes-before f k true c l) ∙ e))
+      (λ x. ap (λ (n : ℕ). stepBytes f k true (n + 1)) x ∙ bytes-second f k) (λ g. absurd (second c h g e));
+}
+  where
+    second : (c : ℕ) → c < k + 1 + 1 → k < c → stepBytes f k true c ≡ 1 → ⊥
+    second c h g e = let x : c ≡ k + 1 = omega arith in omega (arith, ap (stepBytes f k true) x, bytes-second f k)
+step-paired f k false w = record {
+  byte = λ c h. cmp c k (λ l. omega (arith, bytes-before f k false c l, w .byte c l)) (λ e. omega (arith, ap (stepBytes f k false) e, bytes-at f k false)) (λ g. omega arith);
+  room = λ c h e. cmp c k (λ l. omega (arith, w .room c l (sym (bytes-before f k false c l) ∙ e))) (λ x. absurd (own c x e)) (λ g. omega arith);
+  apart = λ c h e. cmp c k
+      (λ l. let r : c + 1 < k = w .room c l (sym (bytes-before f k false c l) ∙ e) in
+      bytes-before f k false (c + 1) r ∙ w .apart c l (sym (bytes-before f k false c l) ∙ e))
+      (λ x. absurd (own c x e)) (λ g. absurd (omega arith));
+}
+  where
+    own : (c : ℕ) → c ≡ k → stepBytes f k false c ≡ 1 → ⊥
+    own c x e = omega (arith, ap (stepBytes f k false) x, bytes-at f k false)
+
+-- ---- the run keeps both
+
+-- at column k of a run over ncol columns
+pub record Kept (ncol k : ℕ) (p : Pivots) : Type 0 where
+  pub order : Permutes ncol (p .order)
+  pub blocks : Paired k (p .blocks)
+
+noted-kept : (ncol ke limit k : ℕ) (p : Pivots) (v : Pivot) → ke ≤ ncol → GoodPivot ke limit k v → Kept ncol k p
+    → Kept ncol (lastOf k (v .two) + 1) (noted p k (lastOf k (v .two)) v)
+unfolding noted stepBytes
+noted-kept ncol ke limit k p v h g w = record {
+  order = swapped-permutes ncol (p .order) (lastOf k (v .two)) (v .kp) (omega (arith, g .last)) (omega (arith, g .row)) (w .order);
+  blocks = step-paired (p .blocks) k (v .two) (w .blocks);
+}
+
+-- a panel's loop that goes on has come to its end
+abbrev Ended : ℕ → ℕ → Progress → Type 0
+Ended ncol ke (stopped n p) = Unit {0}
+Ended ncol ke (going k s) = (k ≡ ke) × Kept ncol ke (s .pivots)
+
+last-from : (k : ℕ) (two : Bool) → k ≤ lastOf k two
+unfolding lastOf
+last-from k true = omega arith
+last-from k false = omega arith
+
+after-kept : (ncol ke limit k : ℕ) (s : State) (f : ℕ → State → Progress) (t : Tried) → ke ≤ ncol → Good ke limit k t → Kept ncol k (s .pivots)
+    → ((m : ℕ) (u : State) → k < m → m ≤ ke → Kept ncol m (u .pivots) → Ended ncol ke (f m u)) → Ended ncol ke (after t s k f)
+after-kept ncol ke limit k s f (refusedAt n p) l g w next = tt
+after-kept ncol ke limit k s f (took v a m) l g w next =
+    next (lastOf k (v .two) + 1) _ (omega (arith, last-from k (v .two))) (omega (arith, g .last)) (noted-kept ncol ke limit k (s .pivots) v l g w)
+
+pub panel-kept : (ncol ke : ℕ) (mode : Mode) (limit n k : ℕ) (s : State) → k ≤ ke → ke ≤ ncol → ke - k ≤ n → Kept ncol k (s .pivots) → Ended ncol ke (panelOf ke mode limit n k s)
+unfolding panelOf
+panel-kept ncol ke mode limit zero k s h l f w = let e : k ≡ ke = omega arith in (e, subst (λ (m : ℕ). Kept ncol m (s .pivots)) e w)
+panel-kept ncol ke mode limit (suc n) k s h l f w =
+    test (ltb k ke)
+    (λ t. rw t (after-kept ncol ke limit k s (panelOf ke mode limit n) (tryOf ke (s .a) (s .mult) mode limit k) l
+    (try-good ke (s .a) (s .mult) mode limit k (ltb-true k ke t)) w (λ m u a b kept. panel-kept ncol ke mode limit n m u b l (omega arith) kept)))
+    (λ t. let e : k ≡ ke = omega (arith, ltb-false k ke t) in rw t (e, subst (λ (m : ℕ). Kept ncol m (s .pivots)) e w))
+
+abbrev AtEnd : ℕ → Run → Type 0
+AtEnd ncol (head.refused n p) = Unit {0}
+AtEnd ncol (done s ps) = Kept ncol ncol (s .pivots)
+
+with-panel-kept : (ncol : ℕ) (p : Panel) (r : Run) → AtEnd ncol r → AtEnd ncol (withPanel p r)
+with-panel-kept ncol p (head.refused n q) w = tt
+with-panel-kept ncol p (done s ps) w = w
+
+continued-kept : (ncol ke : ℕ) (g : Progress) (f : State → Run) → Ended ncol ke g → ((t : State) → Kept ncol ke (t .pivots) → AtEnd ncol (f t)) → AtEnd ncol (continued g f)
+continued-kept ncol ke (stopped n p) f e next = tt
+continued-kept ncol ke (going k s) f e next = next s (e .1)
+
+same-pivots : (ncol k : ℕ) (p : Panel) (u : State) → Kept ncol k (u .pivots) → Kept ncol k (passed p u .pivots)
+unfolding passed
+same-pivots ncol k p u w = w
+
+pub panels-kept : (mode : Mode) (limit ncol nb n kb : ℕ) (s : State) → 1 ≤ nb → kb ≤ ncol → ncol - kb ≤ n → Kept ncol kb (s .pivots) → AtEnd ncol (panelsOf mode limit ncol nb n kb s)
+unfolding panelsOf
+panels-kept mode limit ncol nb zero kb s b h f w = let e : kb ≡ ncol = omega arith in subst (λ (m : ℕ). Kept ncol m (s .pivots)) e w
+panels-kept mode limit ncol nb (suc n) kb s b h f w =
+    test (ltb kb ncol)
+    (λ t. let l : kb < ncol = ltb-true kb ncol t in
+    let ke = min (kb + nb) ncol in
+    rw t (continued-kept ncol ke (panelOf ke mode limit (ke - kb) kb s)
+    (λ u. withPanel (closed kb ke u) (panelsOf mode limit ncol nb n ke (passed (closed kb ke u) u)))
+    (panel-kept ncol ke mode limit (ke - kb) kb s (omega arith) (omega arith) (omega arith) w)
+    (λ u kept. with-panel-kept ncol (closed kb ke u) (panelsOf mode limit ncol nb n ke (passed (closed kb ke u) u))
+    (panels-kept mode limit ncol nb n ke (passed (closed kb ke u) u) b (omega arith) (omega arith) (same-pivots ncol ke (closed kb ke u) u kept)))))
+    (λ t. let e : kb ≡ ncol = omega (arith, ltb-false kb ncol t) in rw t (subst (λ (m : ℕ). Kept ncol m (s .pivots)) e w))
+
+-- of the head's run
+head-kept : (mode : Mode) (limit ncol nb : ℕ) (a : Mat) → 1 ≤ nb → AtEnd ncol (headRunOf mode limit ncol nb a)
+unfolding headRunOf start
+head-kept mode limit ncol nb a b =
+    panels-kept mode limit ncol (min nb (max ncol 1)) ncol 0 (start (headOf ncol a)) (omega arith) (omega arith) (omega arith)
+    (record {
+      order = record { inverse = λ i. i; left = λ i. refl; right = λ i. refl; fixes = λ i h. refl };
+      blocks = record { byte = λ c h. omega arith; room = λ c h e. absurd (omega arith); apart = λ c h e. absurd (omega arith) };
+    })
+
+-- ---- an accepted call
+
+-- it passed the entry checks, and its head stands
+pub record Accepted (x : Call) : Type 0 where
+  pub state : State
+  pub panels : List Panel
+  pub entry : PastEntry x
+  pub head : headAnswerOf (x .settings .mode) (x .settings .limit) (x .settings .ncol) (x .settings .nb) (view (x .settings .nrow) (x .input)) ≡ stands state panels
+
+refused-not : (n p q : ℕ) (r : Report) (a : Said Report) → a ≡ refused n p q → a ≡ accepted r → ⊥
+refused-not n p q r a e f = let w : _≡_ {A = ℕ} 0 1 = cc in omega arith
+
+pub accepted-is : (x : Call) (r : Report) → outcomeOf x .answer ≡ accepted r → Accepted x
+unfolding factorOf
+accepted-is x r e = by-check (entryCheck (x .settings) (x .input) (x .lent)) refl
+  where
+    headOfCall : HeadAnswer
+    headOfCall = headAnswerOf (x .settings .mode) (x .settings .limit) (x .settings .ncol) (x .settings .nb) (view (x .settings .nrow) (x .input))
+
+    answerBy : Check → HeadAnswer → Said Report
+    answerBy c h = afterCheck c (afterHead h (x .settings) (view (x .settings .nrow) (x .input)) (x .lent)) (x .lent) .answer
+
+    by-head : entryCheck (x .settings) (x .input) (x .lent) ≡ sound → (h : HeadAnswer) → headOfCall ≡ h → Accepted x
+    by-head c (fails n p) h =
+        absurd (refused-not n p 0 r (outcomeOf x .answer) (ap (λ (k : Check). answerBy k headOfCall) c ∙ ap (λ (k : HeadAnswer). answerBy sound k) h) e)
+    by-head c (stands s ps) h = record { state = s; panels = ps; entry = c; head = h }
+
+    by-check : (c : Check) → entryCheck (x .settings) (x .input) (x .lent) ≡ c → Accepted x
+    by-check sound h = by-head h headOfCall refl
+    by-check (stop n p q) h = absurd (refused-not n p q r (outcomeOf x .answer) (ap (λ (k : Check). answerBy k headOfCall) h) e)
+
+-- the run of a head that stands was done
+stands-kept : (ncol : ℕ) (g : Run) (s : State) (ps : List Panel) → AtEnd ncol g → judgedRun ncol g ≡ stands s ps → Kept ncol ncol (s .pivots)
+stands-kept ncol (head.refused n p) s ps w e = absurd (let z : _≡_ {A = ℕ} 0 1 = cc in omega arith)
+stands-kept ncol (done t qs) s ps w e = by-check (resultCheck ncol t ncol 0) e
+  where
+    by-check : (c : Check) → judged c t qs ≡ stands s ps → Kept ncol ncol (s .pivots)
+    by-check sound h = let z : t ≡ s = cc in subst (λ (u : State). Kept ncol ncol (u .pivots)) z w
+    by-check (stop n p q) h = absurd (let z : _≡_ {A = ℕ} 0 1 = cc in omega arith)
+
+pub accepted-kept : (x : Call) (w : Accepted x) → Kept (x .settings .ncol) (x .settings .ncol) (w .state .pivots)
+unfolding headAnswerOf
+accepted-kept x w =
+    stands-kept (x .settings .ncol) (headRunOf (x .settings .mode) (x .settings .limit) (x .settings .ncol) (x .settings .nb) (view (x .settings .nrow) (x .input)))
+    (w .state) (w .panels)
+    (head-kept (x .settings .mode) (x .settings .limit) (x .settings .ncol) (x .settings .nb) (view (x .settings .nrow) (x .input)) (passed-entry .some)) (w .head)
+  where
+    passed-entry : Passed (x .settings) (x .input) (x .lent)
+    passed-entry = entry-passed (x .settings) (x .input) (x .lent) (w .entry)
+
+-- what it leaves
+accepted-leaves : (x : Call) (w : Accepted x) → outcomeOf x ≡ afterHead (stands (w .state) (w .panels)) (x .settings) (view (x .settings .nrow) (x .input)) (x .lent)
+accepted-leaves x w =
+    past-entry (x .settings) (x .input) (x .lent) (w .entry)
+    ∙ ap (λ (h : HeadAnswer). afterHead h (x .settings) (view (x .settings .nrow) (x .input)) (x .lent)) (w .head)
+
+-- ---- the order
+
+-- a permutation of 0 .. nrow - 1 that leaves the tail in place
+pub record Ordered (ncol nrow : ℕ) (order : List ℕ) : Type 0 where
+  pub all : length order ≡ nrow
+  pub inside : (i : ℕ) → i < nrow → bytes order i < nrow
+  pub distinct : (i j : ℕ) → i < nrow → j < nrow → bytes order i ≡ bytes order j → i ≡ j
+  pub tail : (i : ℕ) → ncol ≤ i → i < nrow → bytes order i ≡ i
+
+ordered : (ncol nrow : ℕ) (f : ℕ → ℕ) → ncol ≤ nrow → Permutes ncol f → Ordered ncol nrow (tabulate nrow f)
+unfolding bytes
+ordered ncol nrow f l w = record {
+  all = length-tabulateFrom 0 nrow f;
+  inside = λ i h. subst (λ (v : ℕ). v < nrow) (sym (getD-tabulate nrow i f 0 h)) (within i h);
+  distinct = λ i j h g e. injective i j (sym (getD-tabulate nrow i f 0 h) ∙ e ∙ getD-tabulate nrow j f 0 g);
+  tail = λ i h g. getD-tabulate nrow i f 0 g ∙ w .fixes i h;
+}
+  where
+    injective : (i j : ℕ) → f i ≡ f j → i ≡ j
+    injective i j e = sym (w .left i) ∙ ap (w .inverse) e ∙ w .left j
+
+    within : (i : ℕ) → i < nrow → f i < nrow
+    within i h =
+        test (ltb (f i) nrow) (λ t. ltb-true (f i) nrow t)
+        (λ t. let g : nrow ≤ f i = ltb-false (f i) nrow t in let same : f i ≡ i = injective (f i) i (w .fixes (f i) (omega arith)) in omega arith)
+
+pub accepted-ordered : (x : Call) → Accepted x → Ordered (x .settings .ncol) (x .settings .nrow) (outcomeOf x .buffers .order)
+accepted-ordered x w =
+    let p : Passed (x .settings) (x .input) (x .lent) = entry-passed (x .settings) (x .input) (x .lent) (w .entry) in
+    subst (λ (o : List ℕ). Ordered (x .settings .ncol) (x .settings .nrow) o) (sym (ap (λ (o : Outcome). o .buffers .order) (accepted-leaves x w)))
+    (ordered (x .settings .ncol) (x .settings .nrow) (w .state .pivots .order) (p .head) (accepted-kept x w .order))
+
+-- ---- the block bytes
+
+sound-at : (f : ℕ → ℕ) (n k : ℕ) → Paired n f → k < n → byteSound f n k ≡ true
+unfolding byteSound
+sound-at f n k w h =
+    rw (le-leb (f k) 1 (w .byte k h)) (test (eqb (f k) 1)
+    (λ t. let e : f k ≡ 1 = eqb-true (f k) 1 t in
+    let z : f (k + 1) ≡ 0 = w .apart k h e in
+    rw (t, ne-eqb (k + 1) n (λ x. omega (arith, w .room k h e)), ne-eqb (f (k + 1)) 1 (λ x. omega arith)))
+    (λ t. rw t))
+
+bytes-sound : (f : ℕ → ℕ) (n m k : ℕ) → k + m ≤ n → Paired n f → bytesFrom f n m k ≡ sound
+unfolding bytesFrom
+bytes-sound f n zero k h w = refl
+bytes-sound f n (suc m) k h w = rw (sound-at f n k w (omega arith)) (bytes-sound f n m (k + 1) (omega arith) w)
+
+tabulated-paired : (n : ℕ) (f : ℕ → ℕ) → Paired n f → Paired n (bytes (tabulate n f))
+unfolding bytes
+tabulated-paired n f w = record {
+  byte = λ c h. subst (λ (v : ℕ). v ≤ 1) (sym (getD-tabulate n c f 0 h)) (w .byte c h);
+  room = λ c h e. w .room c h (sym (getD-tabulate n c f 0 h) ∙ e);
+  apart = λ c h e. let g : f c ≡ 1 = sym (getD-tabulate n c f 0 h) ∙ e in getD-tabulate n (c + 1) f 0 (w .room c h g) ∙ w .apart c h g;
+}
+
+-- neither inertia nor an update answers 16 to what an accepted call emits
+pub accepted-bytes : (x : Call) → Accepted x → checkBytes (outcomeOf x .buffers .blocks) ≡ sound
+accepted-bytes x w =
+    let n = x .settings .ncol in
+    let f = w .state .pivots .blocks in
+    ap (λ (o : Outcome). checkBytes (o .buffers .blocks)) (accepted-leaves x w)
+    ∙ ap (λ (m : ℕ). bytesFrom (bytes (tabulate n f)) m m 0) (length-tabulateFrom 0 n f)
+    ∙ bytes-sound (bytes (tabulate n f)) n n 0 (omega arith) (tabulated-paired n f (accepted-kept x w .blocks))

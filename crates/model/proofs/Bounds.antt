@@ -1,0 +1,179 @@
+-- Where the pivot search can end, and what a step's pivot keeps to: its rows and columns stand within the panel, its rounds within the limit. Assumes nothing.
+use mathlib.Core.Path.{_≡_, refl, sym, _∙_, ap, subst}
+use mathlib.Core.Logic.{_⊎_, inl, inr, ⊎-elim}
+use mathlib.Core.Bool.{Bool, true, false, cond, _&&_, _||_, Bool·beq}
+use Prim.Native.Nat.{ℕ, zero, suc, _+_, _-_, _*_, _≤_, _<_}
+use native.Mathlib.Omega.{arith}
+use native.Mathlib.Nat.{zero-mul}
+use borrow.Author.Tests.{lt-ltb, eq-eqb, ltb-true, ltb-false}
+use lib.Dec.{ltb, eqb}
+use lib.Count.{trailingZeros}
+use lib.Ieee.{Float, nan, inf, fin, binary64, up, down, lt, le, eq, isNan, ofBits, ofFields, odd, add, mul, div, sum, round, units, size, span, climb}
+use Rattle.model.specs.Scalar.{_⊕_, _⊗_, _⊘_, zeroF, squareOf, magnitudeOf, maximumOf, growthEps}
+use Rattle.model.specs.Root.{sqrtOf, alpha, roundRoot, isqrt, wholeRoot}
+use Rattle.model.specs.Matrix.{Row, Mat, exchanged}
+use Rattle.model.specs.Choice.{Greatest, greatest, noneYet, columnGreatest, rowGreatest, Choice, zeroColumn, single, block, chooseOf}
+use Rattle.model.specs.Head.{SettledOne, oneRefused, oneIs, settledOne, SettledTwo, twoRefused, twoIs, raisedFrom, settledTwo, barOf, liftStepOf, growthFloorOf, Tried, refusedAt, took, afterOne, afterTwo, tryBy, tryOf, lastOf}
+use Rattle.model.specs.Step.{blockOf}
+use Rattle.model.specs.declared.Mode.{Mode}
+use Rattle.model.specs.declared.Mode.the-variants.{Fail, Lift}
+use Rattle.model.specs.declared.Block.{Block}
+use Rattle.model.specs.declared.Pivot.{Pivot}
+use Rattle.model.proofs.Cases.{test}
+
+-- ---- the greatest square
+
+-- nothing was greater, or the place lies among those searched
+abbrev Found : ℕ → ℕ → Greatest → Greatest → Type 0
+Found lo n best g = (g ≡ best) ⊎ ((lo ≤ g .at) × (g .at < lo + n))
+
+cond-either : {A : Type 0} (t : Bool) (a b : A) → (cond t a b ≡ a) ⊎ (cond t a b ≡ b)
+cond-either true a b = inl refl
+cond-either false a b = inr refl
+
+pub greatest-where : (f : Row) (lo n : ℕ) (best : Greatest) → Found lo n best (greatest f lo n best)
+unfolding greatest
+greatest-where f lo zero best = inl refl
+greatest-where f lo (suc n) best =
+    let new : Greatest = record { square = squareOf (f lo); at = lo } in
+    ⊎-elim (λ e. ⊎-elim (λ x. at-lo (e ∙ x)) (λ x. inl (e ∙ x)) (cond-either (lt (best .square) (squareOf (f lo))) new best))
+    (λ h. let a = h .0 in let b = h .1 in inr (omega arith, omega arith))
+    (greatest-where f (lo + 1) n (cond (lt (best .square) (squareOf (f lo))) new best))
+  where
+    at-lo : {g : Greatest} → g ≡ record { square = squareOf (f lo); at = lo } → Found lo (suc n) best g
+    at-lo {g} e = let p : g .at ≡ lo = ap (λ (r : Greatest). r .at) e in inr (omega arith, omega arith)
+
+-- ---- the choice
+
+-- what a choice may name
+abbrev pub Chosen : ℕ → ℕ → Choice → Type 0
+Chosen k ke zeroColumn = Unit {0}
+Chosen k ke (single kp) = (k ≤ kp) × (kp < ke)
+Chosen k ke (block kp) = (k < kp) × (kp < ke)
+
+either-chosen : (k ke : ℕ) (t : Bool) (a b : Choice) → Chosen k ke a → Chosen k ke b → Chosen k ke (cond t a b)
+either-chosen k ke true a b p q = p
+either-chosen k ke false a b p q = q
+
+-- where nothing below the diagonal has a square above 0, the bar is +0.0
+colmax-zero : sqrtOf zeroF ≡ zeroF
+unfolding sqrtOf ofBits ofFields odd trailingZeros
+colmax-zero = refl
+
+bar-zero : alpha ⊗ zeroF ≡ zeroF
+unfolding sqrtOf roundRoot isqrt wholeRoot alpha add mul div sum round units size span climb ofBits ofFields odd trailingZeros
+bar-zero = refl
+
+level-or-below : (a b : ℕ) → a ≤ b → ltb a b || (eqb a b && (true || eqb a 0)) ≡ true
+level-or-below a b h = test (ltb a b) (λ t. rw t) (λ t. rw (t, eq-eqb a b (omega (arith, ltb-false a b t))))
+
+-- and a diagonal that is a number reaches it; one that is none leaves a zero column
+own-or-zero : (x : Float) → (le zeroF (magnitudeOf x) ≡ true) ⊎ (eq (maximumOf (magnitudeOf x) zeroF) zeroF ≡ true)
+unfolding magnitudeOf maximumOf isNan le lt eq ofBits ofFields odd trailingZeros
+own-or-zero nan = inr refl
+own-or-zero (inf s) = inl refl
+own-or-zero (fin s m e) = inl (rw zero-mul (level-or-below 0 (m * up e * 1) (omega arith)))
+
+column-where : (a : Mat) (k ke : ℕ) → (columnGreatest a k ke ≡ noneYet k) ⊎ ((k + 1 ≤ columnGreatest a k ke .at) × (columnGreatest a k ke .at < k + 1 + (ke - (k + 1))))
+unfolding columnGreatest
+column-where a k ke = greatest-where (λ i. a i k) (k + 1) (ke - (k + 1)) (noneYet k)
+
+-- the column scan ends within the panel
+pub column-in : (a : Mat) (k ke : ℕ) → k < ke → (k ≤ columnGreatest a k ke .at) × (columnGreatest a k ke .at < ke)
+column-in a k ke h =
+    ⊎-elim (λ e. let p : columnGreatest a k ke .at ≡ k = ap (λ (g : Greatest). g .at) e in (omega arith, omega arith))
+    (λ p. let l = p .0 in let r = p .1 in (omega arith, omega arith)) (column-where a k ke)
+
+none-chosen : (k ke : ℕ) (x : Float) (rest : Choice) → k < ke
+    → Chosen k ke (cond (eq (maximumOf (magnitudeOf x) zeroF) zeroF) zeroColumn (cond (le zeroF (magnitudeOf x)) (single k) rest))
+none-chosen k ke x rest h =
+    ⊎-elim (λ t. rw t (either-chosen k ke (eq (maximumOf (magnitudeOf x) zeroF) zeroF) zeroColumn (single k) tt (omega arith, h))) (λ t. rw t tt) (own-or-zero x)
+
+some-chosen : (k ke at : ℕ) (zero own row other : Bool) → k < at → at < ke
+    → Chosen k ke (cond zero zeroColumn (cond own (single k) (cond row (single k) (cond other (single at) (block at)))))
+some-chosen k ke at true own row other l r = tt
+some-chosen k ke at false true row other l r = (omega arith, omega arith)
+some-chosen k ke at false false true other l r = (omega arith, omega arith)
+some-chosen k ke at false false false true l r = (omega arith, omega arith)
+some-chosen k ke at false false false false l r = (l, r)
+
+-- a block's two rows are different rows of the panel, so it never crosses ke
+pub choose-in : (a : Mat) (k ke : ℕ) → k < ke → Chosen k ke (chooseOf a k ke)
+unfolding chooseOf
+choose-in a k ke h =
+    ⊎-elim
+    (λ e. let colmax : sqrtOf (columnGreatest a k ke .square) ≡ zeroF = ap (λ (g : Greatest). sqrtOf (g .square)) e ∙ colmax-zero in
+    rw (colmax, bar-zero) (none-chosen k ke (a k k) _ h))
+    (λ p. let l = p .0 in
+    let r = p .1 in
+    let own = magnitudeOf (a k k) in
+    let at = columnGreatest a k ke .at in
+    let colmax = sqrtOf (columnGreatest a k ke .square) in
+    let rowmax = sqrtOf (rowGreatest a k ke at .square) in
+    some-chosen k ke at (eq (maximumOf own colmax) zeroF) (le (alpha ⊗ colmax) own) (le (alpha ⊗ colmax ⊗ (colmax ⊘ rowmax)) own)
+    (le (alpha ⊗ rowmax) (magnitudeOf (a at at))) (omega arith) (omega arith)) (column-where a k ke)
+
+-- ---- a step
+
+-- the pivot's last column and its row stand within the panel, the row not before the column; its rounds keep to the limit
+pub record GoodPivot (ke limit k : ℕ) (v : Pivot) : Type 0 where
+  pub last : lastOf k (v .two) < ke
+  pub from : lastOf k (v .two) ≤ v .kp
+  pub row : v .kp < ke
+  pub few : v .rounds ≤ limit
+
+abbrev pub Good : ℕ → ℕ → ℕ → Tried → Type 0
+Good ke limit k (refusedAt n p) = Unit {0}
+Good ke limit k (took v a m) = GoodPivot ke limit k v
+
+-- a block's rounds
+abbrev pub FewRounds : ℕ → SettledTwo → Type 0
+FewRounds limit (twoRefused n) = Unit {0}
+FewRounds limit (twoIs b l x r) = r ≤ limit
+
+either-few : (limit : ℕ) (t : Bool) (a b : SettledTwo) → FewRounds limit a → FewRounds limit b → FewRounds limit (cond t a b)
+either-few limit true a b p q = p
+either-few limit false a b p q = q
+
+raised-few : (limit : ℕ) (b : Block) (bar step : Float) (left r : ℕ) (sum : Float) → r + left ≤ limit + 1 → FewRounds limit (raisedFrom b bar step left r sum)
+unfolding raisedFrom
+raised-few limit b bar step zero r total h = tt
+raised-few limit b bar step (suc left) r total h =
+    let tried = blockOf (b .d11 ⊕ total) (b .d21) (b .d22 ⊕ total) in
+    either-few limit (lt (magnitudeOf (tried .det)) bar) (raisedFrom b bar step left (r + 1) (total ⊕ step)) (twoIs tried 1 total r)
+    (raised-few limit b bar step left (r + 1) (total ⊕ step) (omega arith)) (omega arith)
+
+pub settled-few : (mode : Mode) (limit : ℕ) (b : Block) → FewRounds limit (settledTwo mode limit b)
+unfolding settledTwo
+settled-few Fail limit b = either-few limit (le (magnitudeOf (b .det)) (growthFloorOf b)) (twoRefused 7) (twoIs b 0 zeroF 0) tt (omega arith)
+settled-few (Lift floor) limit b =
+    either-few limit (lt (magnitudeOf (b .det)) (barOf floor b)) (raisedFrom b (barOf floor b) (liftStepOf floor b) limit 1 (liftStepOf floor b)) (twoIs b 0 zeroF 0)
+    (raised-few limit b (barOf floor b) (liftStepOf floor b) limit 1 (liftStepOf floor b) (omega arith)) (omega arith)
+
+module _ (ke : ℕ) (a m : Mat) (limit k : ℕ) where
+  one-good : (kp : ℕ) (s : SettledOne) → k ≤ kp → kp < ke → Good ke limit k (afterOne ke a m k kp s)
+  unfolding lastOf
+  one-good kp (oneRefused n) l r = tt
+  one-good kp (oneIs d b x) l r = record { last = omega arith; from = l; row = r; few = omega arith }
+
+  two-good : (kp : ℕ) (s : SettledTwo) → FewRounds limit s → k < kp → kp < ke → Good ke limit k (afterTwo ke a m k kp s)
+  unfolding lastOf
+  two-good kp (twoRefused n) f l r = tt
+  two-good kp (twoIs b y x n) f l r = record { last = omega arith; from = omega arith; row = r; few = f }
+
+  -- the block read after the exchange
+  abbrev blockBy : ℕ → Block
+  blockBy kp = blockOf (exchanged (k + 1) kp ke a k k) (exchanged (k + 1) kp ke a (k + 1) k) (exchanged (k + 1) kp ke a (k + 1) (k + 1))
+
+  by-good : (mode : Mode) (c : Choice) → k < ke → Chosen k ke c → Good ke limit k (tryBy ke a m mode limit k c)
+  by-good Fail zeroColumn h p = tt
+  by-good (Lift floor) zeroColumn h p = one-good k (settledOne (Lift floor) (a k k)) (omega arith) h
+  by-good Fail (single kp) h p = one-good kp (settledOne Fail (a kp kp)) (p .0) (p .1)
+  by-good (Lift floor) (single kp) h p = one-good kp (settledOne (Lift floor) (a kp kp)) (p .0) (p .1)
+  by-good Fail (block kp) h p = two-good kp (settledTwo Fail limit (blockBy kp)) (settled-few Fail limit (blockBy kp)) (p .0) (p .1)
+  by-good (Lift floor) (block kp) h p =
+      two-good kp (settledTwo (Lift floor) limit (blockBy kp)) (settled-few (Lift floor) limit (blockBy kp)) (p .0) (p .1)
+
+pub try-good : (ke : ℕ) (a m : Mat) (mode : Mode) (limit k : ℕ) → k < ke → Good ke limit k (tryOf ke a m mode limit k)
+unfolding tryOf
+try-good ke a m mode limit k h = by-good ke a m limit k mode (chooseOf a k ke) h (choose-in a k ke h)

@@ -1,0 +1,2 @@
+-- Laws of the scans.
+pub mod Laws

@@ -1,0 +1,50 @@
+-- The declared answer of a scan for the greatest square as the definitions have it, its two parts, and what the scan asks of its callers.
+-- Definitions only. Assumes nothing.
+use mathlib.Core.Path.{_≡_}
+use Prim.Native.Nat.{ℕ, _+_, _-_, _*_, _<_, _≤_}
+use Rattle.model.specs.Matrix.{Mat}
+use Rattle.model.specs.Choice.{Greatest, greatest}
+use Rattle.scan.specs.declared.Greatest as declared
+
+-- the declared struct is the definitions' record
+abbrev pub found : declared.Greatest → Greatest
+found g = record { square = g .square; at = g .at }
+
+-- the greatest square of rows lo up to hi of a column, and of columns lo up to hi of a row, beginning with `best`
+unfoldable pub greatestDown : Mat → ℕ → ℕ → ℕ → Greatest → Greatest
+greatestDown a column lo hi best = greatest (λ i. a i column) lo (hi - lo) best
+
+unfoldable pub greatestAlong : Mat → ℕ → ℕ → ℕ → Greatest → Greatest
+greatestAlong a row lo hi best = greatest (a row) lo (hi - lo) best
+
+-- lo ≤ i < hi
+pub record Within (lo hi i : ℕ) : Type 0 where
+  pub low : lo ≤ i
+  pub high : i < hi
+
+-- rows lo up to hi of a column that is there
+pub record DownPre (n column lo hi len : ℕ) : Type 0 where
+  pub up : lo ≤ hi
+  pub rows : hi ≤ n
+  pub there : n + column * n ≤ len
+
+-- columns lo up to hi of a row, all of them there
+pub record AlongPre (n row lo hi len : ℕ) : Type 0 where
+  pub up : lo ≤ hi
+  pub inside : row < n
+  pub there : hi * n ≤ len
+
+-- column k of a panel that ends at ke
+pub record ColumnPre (n c k ke len : ℕ) : Type 0 where
+  pub here : k < ke
+  pub columns : ke ≤ c
+  pub rows : c ≤ n
+  pub panel : len ≡ n * c
+
+-- row and column r of a panel from k to ke
+pub record RowPre (n c k ke r len : ℕ) : Type 0 where
+  pub here : k ≤ r
+  pub below : r < ke
+  pub columns : ke ≤ c
+  pub rows : c ≤ n
+  pub panel : len ≡ n * c

@@ -1,0 +1,2 @@
+-- What the scans find, and what they ask of their callers.
+pub mod Greatest

@@ -1,0 +1,2 @@
+-- The elimination over the whole panel.
+pub mod Whole
