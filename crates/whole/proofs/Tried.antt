@@ -1,0 +1,87 @@
+-- The cut to the head goes through a step: through the choice, and with the parts of Masked through `tryOf`. Assumes nothing.
+use Prim.Native.Nat.{ℕ, zero, suc, _+_, _-_, _<_, _≤_}
+use mathlib.Core.Path.{_≡_, refl, _∙_, ap}
+use native.Mathlib.Omega.{arith}
+use Rattle.model.specs.Matrix.{Row, Mat, headOf, exchanged}
+use Rattle.model.specs.Choice.{Greatest, greatest, columnGreatest, rowGreatest, noneYet, Choice, zeroColumn, single, block, chooseOf}
+use Rattle.model.specs.Step.{blockOf}
+use Rattle.model.specs.Head.{SettledOne, oneRefused, oneIs, settledOne, SettledTwo, twoRefused, twoIs, settledTwo, afterOne, afterTwo, tryBy, tryOf}
+use Rattle.model.specs.declared.Mode.{Mode}
+use Rattle.model.specs.declared.Mode.the-variants.{Fail, Lift}
+use Rattle.model.specs.declared.Block.{Block}
+use Rattle.model.proofs.Bounds.{column-in, Chosen, choose-in}
+use Rattle.whole.specs.Whole.{cutTried}
+use Rattle.whole.proofs.Masked.{head-at, exchanged-masked, headOne-masked, headTwo-masked, keptOne-masked, keptTwo-masked}
+
+-- ---- the choice
+
+-- the search sees nothing but its places
+pub greatest-alike : (f g : Row) (lo n : ℕ) (best : Greatest) → ((i : ℕ) → lo ≤ i → i < lo + n → f i ≡ g i) → greatest f lo n best ≡ greatest g lo n best
+unfolding greatest
+greatest-alike f g lo zero best h = refl
+greatest-alike f g lo (suc n) best h = rw (h lo (omega arith) (omega arith)) (greatest-alike f g (lo + 1) n _ (λ i x y. h i (omega arith) (omega arith)))
+
+module _ (c : ℕ) (a : Mat) (k ke : ℕ) (hk : k < ke) (hc : ke ≤ c) where
+  column-masked : columnGreatest (headOf c a) k ke ≡ columnGreatest a k ke
+  unfolding columnGreatest
+  column-masked = greatest-alike (λ i. headOf c a i k) (λ i. a i k) (k + 1) (ke - (k + 1)) (noneYet k) (λ i x y. head-at c a i k (omega arith) (omega arith))
+
+  row-masked : (r : ℕ) → k ≤ r → r < ke → rowGreatest (headOf c a) k ke r ≡ rowGreatest a k ke r
+  unfolding rowGreatest
+  row-masked r h l =
+      greatest-alike (λ i. headOf c a i r) (λ i. a i r) (r + 1) (ke - (r + 1)) _ (λ i x y. head-at c a i r (omega arith) (omega arith))
+      ∙ ap (λ (b : Greatest). greatest (λ i. a i r) (r + 1) (ke - (r + 1)) b)
+      (greatest-alike (headOf c a r) (a r) k (r - k) (noneYet k) (λ j x y. head-at c a r j (omega arith) (omega arith)))
+
+  pub choose-masked : chooseOf (headOf c a) k ke ≡ chooseOf a k ke
+  unfolding chooseOf
+  choose-masked =
+      let b = column-in a k ke hk in
+      let r = columnGreatest a k ke .at in
+      rw (column-masked, row-masked r (b .0) (b .1), head-at c a k k (omega arith) (omega arith), head-at c a r r (omega arith) (omega (arith, b .1)))
+
+-- ---- the step
+
+module _ (c ke : ℕ) (a m : Mat) (hc : ke ≤ c) where
+  one-tried : (k kp : ℕ) (s : SettledOne) → k < ke → kp < ke → afterOne ke (headOf c a) m k kp s ≡ cutTried c (afterOne ke a m k kp s)
+  one-tried k kp (oneRefused n) hk hp = refl
+  one-tried k kp (oneIs d lifted amount) hk hp =
+      let x = exchanged k kp ke a in
+      rw (exchanged-masked c k kp ke a hk hp hc, headOne-masked c ke k d x hk hc, keptOne-masked c ke k x m hc d)
+
+  two-tried : (k kp : ℕ) (s : SettledTwo) → k + 1 < ke → kp < ke → afterTwo ke (headOf c a) m k kp s ≡ cutTried c (afterTwo ke a m k kp s)
+  two-tried k kp (twoRefused n) hk hp = refl
+  two-tried k kp (twoIs b lifted amount rounds) hk hp =
+      let x = exchanged (k + 1) kp ke a in
+      rw (exchanged-masked c (k + 1) kp ke a hk hp hc, headTwo-masked c ke k b x hc, keptTwo-masked c ke k x m hc b)
+
+  single-tried : (mode : Mode) (k kp : ℕ) → k < ke → kp < ke
+      → afterOne ke (headOf c a) m k kp (settledOne mode (headOf c a kp kp)) ≡ cutTried c (afterOne ke a m k kp (settledOne mode (a kp kp)))
+  single-tried mode k kp hk hp = rw (head-at c a kp kp (omega arith) (omega arith)) (one-tried k kp (settledOne mode (a kp kp)) hk hp)
+
+  -- the block at k and k + 1
+  abbrev at-diagonal : ℕ → Mat → Block
+  at-diagonal k x = blockOf (x k k) (x (k + 1) k) (x (k + 1) (k + 1))
+
+  block-tried : (mode : Mode) (limit k kp : ℕ) → k + 1 < ke → kp < ke
+      → afterTwo ke (headOf c a) m k kp (settledTwo mode limit (at-diagonal k (exchanged (k + 1) kp ke (headOf c a))))
+      ≡ cutTried c (afterTwo ke a m k kp (settledTwo mode limit (at-diagonal k (exchanged (k + 1) kp ke a))))
+  block-tried mode limit k kp hk hp =
+      let x = exchanged (k + 1) kp ke a in
+      rw (exchanged-masked c (k + 1) kp ke a hk hp hc) (
+      rw (head-at c x k k (omega arith) (omega arith), head-at c x (k + 1) k (omega arith) (omega arith), head-at c x (k + 1) (k + 1) (omega arith) (omega arith))
+      (two-tried k kp (settledTwo mode limit (at-diagonal k x)) hk hp))
+
+  tried-by : (mode : Mode) (limit k : ℕ) (o : Choice) → k < ke → Chosen k ke o
+      → tryBy ke (headOf c a) m mode limit k o ≡ cutTried c (tryBy ke a m mode limit k o)
+  tried-by Fail limit k zeroColumn hk p = refl
+  tried-by (Lift floor) limit k zeroColumn hk p = single-tried (Lift floor) k k hk hk
+  tried-by Fail limit k (single kp) hk p = single-tried Fail k kp hk (p .1)
+  tried-by (Lift floor) limit k (single kp) hk p = single-tried (Lift floor) k kp hk (p .1)
+  tried-by Fail limit k (block kp) hk p = block-tried Fail limit k kp (omega (arith, p .0, p .1)) (p .1)
+  tried-by (Lift floor) limit k (block kp) hk p = block-tried (Lift floor) limit k kp (omega (arith, p .0, p .1)) (p .1)
+
+  -- the cut goes through a step
+  pub try-masked : (mode : Mode) (limit k : ℕ) → k < ke → tryOf ke (headOf c a) m mode limit k ≡ cutTried c (tryOf ke a m mode limit k)
+  unfolding tryOf
+  try-masked mode limit k hk = rw (choose-masked c a k ke hk hc) (tried-by mode limit k (chooseOf a k ke) hk (choose-in a k ke hk))
