@@ -183,7 +183,7 @@ panels-kept mode limit ncol nb (suc n) kb s b h f w =
 head-kept : (mode : Mode) (limit ncol nb : ℕ) (a : Mat) → 1 ≤ nb → AtEnd ncol (headRunOf mode limit ncol nb a)
 unfolding headRunOf start
 head-kept mode limit ncol nb a b =
-    panels-kept mode limit ncol (min nb (max ncol 1)) ncol 0 (start (headOf ncol a)) (omega arith) (omega arith) (omega arith)
+    panels-kept mode limit ncol (min nb (max ncol 1)) ncol 0 (start ncol (headOf ncol a)) (omega arith) (omega arith) (omega arith)
     (record {
       order = record { inverse = λ i. i; left = λ i. refl; right = λ i. refl; fixes = λ i h. refl };
       blocks = record { byte = λ c h. omega arith; room = λ c h e. absurd (omega arith); apart = λ c h e. absurd (omega arith) };

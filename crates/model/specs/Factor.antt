@@ -7,7 +7,7 @@ use lib.Dec.{leb, ltb, eqb}
 use lib.ListN.{length, replicate}
 use lib.Ieee.{Float, lt}
 use Rattle.model.specs.Scalar.{zeroF, reciprocalOf, isFinite}
-use Rattle.model.specs.Matrix.{Row, Mat, view, headOf, rowOf, tabulate, columnMajor}
+use Rattle.model.specs.Matrix.{Row, Mat, view, vec, headOf, rowOf, tabulate, columnMajor}
 use Rattle.model.specs.Step.{Pivots, blockAt, begins}
 use Rattle.model.specs.Panel.{Panel, tailRowOf}
 use Rattle.model.specs.Head as head
@@ -77,19 +77,20 @@ entryCheck c input b = orElse (settingsCheck c input b) (columnsCheck (view (c .
 
 -- ---- the head's run and refusal 9
 
--- nothing eliminated yet
-unfoldable pub start : Mat → head.State
-start a =
+-- nothing eliminated yet: ncol times +0.0, no block, no lift, every row in its place
+unfoldable pub start : ℕ → Mat → head.State
+start ncol a =
+    let none = vec (replicate ncol zeroF) in
     record {
       a = a;
       mult = head.blank;
-      pivots = record { d = λ i. zeroF; sub = λ i. zeroF; amounts = λ i. zeroF; blocks = λ i. 0; lifts = λ i. 0; order = λ i. i; partners = λ i. 0 };
+      pivots = record { d = none; sub = none; amounts = none; blocks = λ i. 0; lifts = λ i. 0; order = λ i. i; partners = λ i. 0 };
       rounds = 0;
     }
 
 -- 'used as min(nb, max(ncol, 1))'; nothing but the head enters it
 unfoldable pub headRunOf : Mode → ℕ → ℕ → ℕ → Mat → head.Run
-headRunOf mode limit ncol nb a = head.panelsOf mode limit ncol (min nb (max ncol 1)) ncol 0 (start (headOf ncol a))
+headRunOf mode limit ncol nb a = head.panelsOf mode limit ncol (min nb (max ncol 1)) ncol 0 (start ncol (headOf ncol a))
 
 -- f at each of n places from i on
 unfoldable pub everyFrom : (ℕ → Bool) → ℕ → ℕ → Bool
