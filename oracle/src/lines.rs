@@ -162,11 +162,7 @@ pub fn case(line: &str) -> Result<Case, String> {
             place: f.place()?,
             descendants: f.every("descendant").iter().map(|t| descendant(t)).collect::<Result<_, _>>()?,
         }),
-        "inertia" => Case::Inertia(Inertia {
-            d: f.numbers("d")?,
-            sub: f.numbers("sub")?,
-            blocks: f.counts("blocks")?,
-        }),
+        "inertia" => Case::Inertia(Inertia { d: f.numbers("d")?, sub: f.numbers("sub")?, blocks: f.counts("blocks")? }),
         "leaf" => Case::Leaf(Leaf {
             name: f.get("name", |t| Ok(t.to_string()))?,
             a: f.get("a", number)?,

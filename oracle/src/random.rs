@@ -54,8 +54,7 @@ enum Kind {
     Zeros,
 }
 
-const KINDS: [Kind; 7] =
-    [Kind::Small, Kind::Quarters, Kind::Rough, Kind::Wide, Kind::Tiny, Kind::Huge, Kind::Zeros];
+const KINDS: [Kind; 7] = [Kind::Small, Kind::Quarters, Kind::Rough, Kind::Wide, Kind::Tiny, Kind::Huge, Kind::Zeros];
 
 /// Random digits and sign with a biased exponent from lo to hi; 0 is subnormal.
 fn spread(rng: &mut Rng, lo: usize, hi: usize) -> f64 {
@@ -134,7 +133,7 @@ fn settings(rng: &mut Rng, bounds: Bounds, a: &mut Vec<f64>) -> Settings {
     let nrow = if rng.once_in(3) { ncol } else { rng.within(ncol, bounds.max_row.max(ncol)) };
     *a = panel(rng, ncol, nrow);
     let nb = match rng.within(0, 9) {
-        0 => rng.within(ncol.max(1), 64),
+        0 => rng.within(ncol.clamp(1, 64), 64),
         1..=3 => ncol.clamp(1, 64),
         _ => rng.within(1, ncol.clamp(1, 64)),
     };
@@ -300,7 +299,11 @@ fn leaf(rng: &mut Rng) -> Leaf {
     let name = rng.one_of(&["sqrt", "magnitude", "square", "maximum", "reciprocal", "lift"]);
     let mut any = || {
         let kind = rng.one_of(&KINDS);
-        if rng.once_in(12) { not_finite(rng) } else { number(rng, kind) }
+        if rng.once_in(12) {
+            not_finite(rng)
+        } else {
+            number(rng, kind)
+        }
     };
     let (a, b) = (any(), any());
     // A lift's floor has no sign. Of zeros of unlike sign the Rust's maximum

@@ -79,7 +79,12 @@ pub fn stations() -> Vec<Named> {
         settings("nb 65: 2", 2, 2, 65, Mode::Lift(0.5), 64),
         settings("limit 65: 5", 2, 2, 2, Mode::Lift(0.5), 65),
         panel("1 2 0 8: order 1 0", 2, 2, &[1.0, 2.0, 0.0, 8.0]),
-        fail("a not-a-number diagonal over nothing comparable is a zero column: 7 at 1", 2, 2, &[&[least, 0.0], &[1.0]]),
+        fail(
+            "a not-a-number diagonal over nothing comparable is a zero column: 7 at 1",
+            2,
+            2,
+            &[&[least, 0.0], &[1.0]],
+        ),
         fail("colmax/rowmax vanishes: 7 at 0", 3, 3, &[&[0.0, 1.0, 0.0], &[0.0, 1e160], &[0.0]]),
         fail("inf at most inf: 7 at 0", 2, 2, &[&[0.0, 1e200], &[0.0]]),
         lift("the same in Lift: 9 at 0", 2, 2, 0.5, 1, &[&[0.0, 1e200], &[0.0]]),
@@ -97,19 +102,32 @@ pub fn stations() -> Vec<Named> {
 pub fn telling() -> Vec<Named> {
     let tiny = f64::powi(2.0, -27);
     let bit = f64::powi(2.0, -30);
+    // 1 less their product lies by a middle of two numbers
+    let (d11, d22) = (0.5234648976475, 0.6219641659408808);
     vec![
-        fail("squares: 1e-170 is hidden, 7 at 0", 2, 2, &[&[0.0, 1e-170], &[0.0]]),
+        fail("squares: 1e-170 is hidden, 7 at 0", 2, 2, &[&[0.0, 1e-170], &[1.0]]),
         fail("squares: 1e-170 is hidden, no exchange", 2, 2, &[&[1e-200, 1e-170], &[1.0]]),
         fail("squares: the first of two that overflow, 7 at 2", 3, 3, &[&[0.0, 1e160, 1e200], &[0.0, 0.0], &[0.0]]),
         fail("squares: the first of two that round alike", 3, 3, &[&[1e-163, 2.0e-162, 2.2e-162], &[1.0, 0.0], &[1.0]]),
         fail("zero multipliers skipped in the head: -0 stays", 3, 3, &[&[1.0, 0.0, -1.0], &[1.0, -0.0], &[5.0]]),
         fail("zero multipliers skipped in the tail: -0 stays", 3, 2, &[&[1.0, 0.0, -1.0], &[1.0, -0.0]]),
-        fail("a block's zero multipliers applied: -0 goes", 4, 4, &[&[0.0, 1.0, 0.0, -1.0], &[0.0, 0.0, 0.0], &[1.0, -0.0], &[1.0]]),
-        fail("a block's zero multipliers applied in the tail", 4, 3, &[&[0.0, 1.0, 0.0, -1.0], &[0.0, 0.0, 0.0], &[1.0, -0.0]]),
+        fail(
+            "a block's zero multipliers applied: -0 goes",
+            4,
+            4,
+            &[&[0.0, 1.0, 0.0, -1.0], &[0.0, 0.0, 0.0], &[1.0, -0.0], &[1.0]],
+        ),
+        fail(
+            "a block's zero multipliers applied in the tail",
+            4,
+            3,
+            &[&[0.0, 1.0, 0.0, -1.0], &[0.0, 0.0, 0.0], &[1.0, -0.0]],
+        ),
         fail("not fused in the head: 7 at 1", 2, 2, &[&[1.0, 1.0 + bit], &[1.0 + 2.0 * bit]]),
         fail("not fused in the tail", 3, 2, &[&[1.0, 1.0 + bit, 1.0 + bit], &[4.0, 1.0 + 2.0 * bit]]),
         fail("not fused in a later panel: 7 at 1", 2, 1, &[&[1.0, 1.0 + bit], &[1.0 + 2.0 * bit]]),
-        fail("not fused in a determinant", 3, 2, &[&[1.5 * tiny, 1.0 + tiny, 1.0], &[-tiny, 1.0]]),
+        fail("d21·d21 not fused in a determinant", 3, 2, &[&[1.5 * tiny, 1.0 + tiny, 1.0], &[-tiny, 1.0]]),
+        fail("d11·d22 not fused in a determinant", 3, 2, &[&[d11, 1.0, 1.0], &[d22, 0.0]]),
         fail("no block across ke: 7 at 1", 3, 2, &[&[1.0, 0.0, 0.0], &[0.0, 1.0], &[0.0]]),
         fail("no block across ke: 1x1 of 0.125", 3, 2, &[&[1.0, 0.0, 0.0], &[0.125, 1.0], &[0.0]]),
         lift("no block across ke: 1x1 lifted", 3, 2, 0.5, 1, &[&[1.0, 0.0, 0.0], &[0.0, 1.0], &[0.0]]),

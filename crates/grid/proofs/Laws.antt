@@ -1,14 +1,14 @@
 -- Laws of a panel's offsets and of `view` and `putAt`. Assumes nothing.
 use Prim.Native.Nat.{ℕ, zero, suc, _+_, _-_, _*_, _<_, _≤_, _/_, _%_, _^_}
 use mathlib.Core.Path.{_≡_, refl, sym, _∙_, ap, subst, fun-ext}
-use mathlib.Core.Logic.{_⊎_, inl, inr, ⊎-elim}
 use mathlib.Core.Bool.{Bool, true, false, _&&_, cond}
-use mathlib.Core.List.{List, [], _++_, append-nil}
-use native.Mathlib.Nat.{mul-le-mul-right, add-mul, suc-mul, mul-comm, add-mul-div-right, add-mul-mod-self-right, mod-eq-of-lt, div-eq-of-lt, le-antisymm, div-add-mod', mod-lt}
+use mathlib.Core.List.{List, _++_, append-nil}
+use native.Mathlib.Nat.{mul-le-mul-right, suc-mul, mul-comm, add-mul-div-right, add-mul-mod-self-right, mod-eq-of-lt, div-eq-of-lt, le-antisymm, div-add-mod'}
+use native.Mathlib.Nat.{mod-lt}
 use native.Mathlib.Omega.{arith}
 use borrow.Author.Tests.{lt-ltb, le-ltb, le-leb, lt-leb, eq-eqb, ne-eqb, eqb-true, eqb-false, ltb-true, ltb-false}
 use lib.Dec.{ltb, leb, eqb}
-use lib.ListN.{length, getD, set, take, drop, length-set, length-drop, drop-of-length-le, List·getD-append, List·getD-eq-default}
+use lib.ListN.{length, getD, set, take, drop, length-drop, drop-of-length-le, List·getD-append}
 use lib.Seq.{getD-set-same, getD-set-other, getD-take, getD-drop, getD-append-add, length-take-le, take-all, ext-getD}
 use borrow.Rule.Slice.PartMut.{midOf, putMid}
 use lib.Ieee.{Float, nan}
@@ -26,7 +26,8 @@ test false t f = f refl
 
 -- three ways for two numbers to stand
 pub cmp : {P : Type 0} (a b : ℕ) → (a < b → P) → (a ≡ b → P) → (b < a → P) → P
-cmp a b l e g = test (ltb a b) (λ x. l (ltb-true a b x)) (λ x. test (eqb a b) (λ y. e (eqb-true a b y)) (λ y. g (omega (arith, ltb-false a b x, eqb-false a b y))))
+cmp a b l e g = test (ltb a b) (λ x. l (ltb-true a b x)) (λ x. test (eqb a b) (λ y. e (eqb-true a b y)) (λ y. g (omega
+    (arith, ltb-false a b x, eqb-false a b y))))
 
 pub no : (b : Bool) → b && false ≡ false
 no true = refl
@@ -133,14 +134,16 @@ withColumn-more M j lo hi N h =
     (λ r. let l : hi ≤ a = ltb-false a hi r in rw (p, r, le-ltb a (hi + 1) (omega (arith, eqb-false a hi p)))))
 
 -- the same as a loop has it: P is the matrix at the loop's head, Q after the store of v
-pub withColumn-step : (M P Q : Mat) (j lo i : ℕ) (N : ℕ → Float) (v : Float) → lo ≤ i → P ≡ withColumn M j lo i N → v ≡ N i → Q ≡ putAt P i j v → Q ≡ withColumn M j lo (i + 1) N
+pub withColumn-step : (M P Q : Mat) (j lo i : ℕ) (N : ℕ → Float) (v : Float) → lo ≤ i → P ≡ withColumn M j lo i N → v ≡ N i → Q ≡ putAt P i j v
+    → Q ≡ withColumn M j lo (i + 1) N
 withColumn-step M P Q j lo i N v h p e q = q ∙ rw (e, p) (withColumn-more M j lo i N h)
 
 pub withColumn-end : (M P : Mat) (j lo hi i : ℕ) (N : ℕ → Float) → i ≤ hi → hi ≤ i → P ≡ withColumn M j lo i N → P ≡ withColumn M j lo hi N
 withColumn-end M P j lo hi i N h l p = p ∙ ap (λ (e : ℕ). withColumn M j lo e N) (le-antisymm h l)
 
 -- a store in another column
-pub putAt-withColumn : (M : Mat) (j lo hi : ℕ) (N : ℕ → Float) (i k : ℕ) (v : Float) → (k ≡ j → ⊥) → putAt (withColumn M j lo hi N) i k v ≡ withColumn (putAt M i k v) j lo hi N
+pub putAt-withColumn : (M : Mat) (j lo hi : ℕ) (N : ℕ → Float) (i k : ℕ) (v : Float) → (k ≡ j → ⊥)
+    → putAt (withColumn M j lo hi N) i k v ≡ withColumn (putAt M i k v) j lo hi N
 unfolding withColumn putAt
 putAt-withColumn M j lo hi N i k v h =
     fun-ext λ a. fun-ext λ b.
@@ -152,7 +155,8 @@ putAt-withColumn M j lo hi N i k v h =
 pub two-columns-more : (M : Mat) (k l lo i : ℕ) (N O : ℕ → Float) → (k ≡ l → ⊥) → lo ≤ i
     → putAt (putAt (withColumn (withColumn M k lo i N) l lo i O) i k (N i)) i l (O i) ≡ withColumn (withColumn M k lo (i + 1) N) l lo (i + 1) O
 two-columns-more M k l lo i N O d h =
-    ap (λ (P : Mat). putAt P i l (O i)) (putAt-withColumn (withColumn M k lo i N) l lo i O i k (N i) d ∙ ap (λ (P : Mat). withColumn P l lo i O) (withColumn-more M k lo i N h))
+    ap (λ (P : Mat). putAt P i l (O i)) (putAt-withColumn (withColumn M k lo i N) l lo i O i k (N i) d
+    ∙ ap (λ (P : Mat). withColumn P l lo i O) (withColumn-more M k lo i N h))
     ∙ withColumn-more (withColumn M k lo (i + 1) N) l lo i O h
 
 -- ---- vectors
@@ -183,7 +187,8 @@ withPart-more f lo hi N h =
     (λ r. let l : a < hi = ltb-true a hi r in rw (p, r, lt-ltb a (hi + 1) (omega arith)))
     (λ r. let l : hi ≤ a = ltb-false a hi r in rw (p, r, le-ltb a (hi + 1) (omega (arith, eqb-false a hi p)))))
 
-pub withPart-step : (f p q : ℕ → Float) (lo i : ℕ) (N : ℕ → Float) (v : Float) → lo ≤ i → p ≡ withPart f lo i N → v ≡ N i → q ≡ put p i v → q ≡ withPart f lo (i + 1) N
+pub withPart-step : (f p q : ℕ → Float) (lo i : ℕ) (N : ℕ → Float) (v : Float) → lo ≤ i → p ≡ withPart f lo i N → v ≡ N i → q ≡ put p i v
+    → q ≡ withPart f lo (i + 1) N
 withPart-step f p q lo i N v h e n u = u ∙ rw (n, e) (withPart-more f lo i N h)
 
 pub withPart-end : (f p : ℕ → Float) (lo hi i : ℕ) (N : ℕ → Float) → i ≤ hi → hi ≤ i → p ≡ withPart f lo i N → p ≡ withPart f lo hi N
@@ -200,7 +205,8 @@ vec-back s xs ys h t =
 
 put-all : (s : ℕ) (xs ys : List Float) → putMid s (length xs - s) xs ys ≡ take s xs ++ ys
 put-all s xs ys =
-    ap (λ (z : List Float). take s xs ++ (ys ++ z)) (drop-of-length-le (drop s xs) {i = length xs - s} (omega (arith, length-drop s xs))) ∙ ap (λ (z : List Float). take s xs ++ z) (append-nil ys)
+    ap (λ (z : List Float). take s xs ++ (ys ++ z)) (drop-of-length-le (drop s xs) {i = length xs - s} (omega (arith, length-drop s xs)))
+    ∙ ap (λ (z : List Float). take s xs ++ z) (append-nil ys)
 
 mid-all : (s : ℕ) (xs : List Float) → midOf s (length xs - s) xs ≡ drop s xs
 mid-all s xs = take-all (length xs - s) (drop s xs) (omega (arith, length-drop s xs))

@@ -1,2 +1,4 @@
--- Laws of a list seen as a matrix, cited by every crate above.
+-- Laws of a list seen as a matrix, of the slice kernels, and of parts that are lent: cited by every crate above.
 pub mod Laws
+pub mod Rules
+pub mod Parts

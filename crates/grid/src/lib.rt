@@ -1,8 +1,12 @@
-// One number of a column-major panel: read and written.
+// A column-major panel: one number read and written here, slice kernels in kernels.rt, parts of columns lent to them in
+// columns.rt.
 ghost use mathlib.Core.Path.{_≡_};
 ghost use lib.ListN.{length};
 ghost use Rattle.model.specs.Matrix.{view, putAt};
 ghost use Rattle.grid.specs.Grid.{In};
+
+pub mod columns;
+pub mod kernels;
 
 // The number at row i, column j.
 pub fn get(panel: &[f64], nrow: usize, i: usize, j: usize) -> f64

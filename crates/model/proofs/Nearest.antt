@@ -2,7 +2,7 @@
 -- the format that is nearest to it, and no other is as near (`sqrt-rounds`); the special cases by name; the bits of alpha, of the growth constant,
 -- of 0 and of 1. Assumes nothing.
 use mathlib.Core.Path.{_≡_, refl, sym, ap, _∙_, subst}
-use mathlib.Core.Logic.{_⊎_, inl, inr, ⊎-elim}
+use mathlib.Core.Logic.{⊎-elim}
 use mathlib.Core.Bool.{Bool, true, false, _&&_, true≢false}
 use Prim.Native.Nat.{ℕ, zero, suc, _+_, _-_, _*_, _/_, _%_, _^_, _≤_, _<_, compare, Ordering, Ordering·lt, Ordering·eq, Ordering·gt}
 use native.Mathlib.Nat.{le-trans, le-of-eq, le-of-lt, le-of-suc-le-suc, lt-of-lt-of-le, lt-of-le-of-lt, lt-of-not-le, not-le-of-lt, mul-assoc, mul-one}
@@ -20,7 +20,7 @@ use lib.Ieee.Digits.{size-reaches, size-le}
 use borrow.Author.Tests.{ltb-true}
 use Rattle.model.specs.Scalar.{zeroF, oneF, isFinite, growthEps}
 use Rattle.model.specs.Root.{square, wholeRoot, isqrt, roundRoot, sqrtOf, alpha}
-use Rattle.model.proofs.Root.{square-le, square-lt-back, isqrt-law, Compared, compared, units-below, units-fits, sqrt-of-value}
+use Rattle.model.proofs.Root.{square-le, square-lt-back, isqrt-law, Compared, compared, le-or-lt, units-below, units-fits, sqrt-of-value}
 
 -- ---- the constants
 
@@ -73,14 +73,6 @@ sqrt-below-zero (fin false zero e) h = absurd (omega (arith, ltb-true (0 * up e 
 sqrt-below-zero (fin false (suc m) e) h = absurd (omega (arith, ltb-true (suc m * up e * 1) (0 * 1 * down e) h))
 
 -- ---- the nearest number, over whole numbers
-
-le-or-lt : (a b : ℕ) → (a ≤ b) ⊎ (b < a)
-le-or-lt a b = go (compare a b) (compared a b)
-  where
-    go : (o : Ordering) → Compared o a b → (a ≤ b) ⊎ (b < a)
-    go Ordering·lt h = inl (le-of-lt h)
-    go Ordering·eq h = inl (le-of-eq h)
-    go Ordering·gt h = inr h
 
 -- what `roundRoot` has: the places dropped, the leading digits kept, and what they are rounded to
 abbrev places : ℕ → ℕ

@@ -1,12 +1,12 @@
 -- Laws of `sqrtOf` and what it is made of: the whole root, its rounding, the bits of what it gives, and its value by the argument's bits.
 -- Cited by the code that works it out in whole numbers. Assumes nothing.
 use mathlib.Core.Path.{_≡_, refl, sym, ap, _∙_, subst}
-use mathlib.Core.Logic.{⊎-elim}
+use mathlib.Core.Logic.{_⊎_, inl, inr, ⊎-elim}
 use mathlib.Core.Bool.{Bool, true, false, not, cond, true≢false}
 use Prim.Native.Nat.{ℕ, zero, suc, _+_, _-_, _*_, _/_, _%_, _^_, _≤_, _<_, compare, Ordering, Ordering·lt, Ordering·eq, Ordering·gt}
-use native.Mathlib.Nat.{le-refl, le-trans, le-of-eq, le-antisymm, le-of-suc-le-suc, lt-irrefl, lt-of-lt-of-le, lt-of-le-of-lt, lt-of-not-le, not-le-of-lt}
-use native.Mathlib.Nat.{eq-or-lt-of-le, mul-le-mul, mul-le-mul-right, mul-lt-mul-of-pos-right, mul-assoc, mul-one, mul-pos, mul-right-comm, zero-add}
-use native.Mathlib.Nat.{pow-suc, pow-le-pow-left, mul-div-cancel, div-lt-iff-lt-mul, le-div-iff-mul-le, mod-eq-of-lt}
+use native.Mathlib.Nat.{le-refl, le-trans, le-of-eq, le-of-lt, le-antisymm, le-of-suc-le-suc, lt-irrefl, lt-of-lt-of-le, lt-of-le-of-lt, lt-of-not-le}
+use native.Mathlib.Nat.{not-le-of-lt, eq-or-lt-of-le, mul-le-mul, mul-le-mul-right, mul-lt-mul-of-pos-right, mul-assoc, mul-one, mul-pos, mul-right-comm}
+use native.Mathlib.Nat.{zero-add, pow-suc, pow-le-pow-left, mul-div-cancel, div-lt-iff-lt-mul, le-div-iff-mul-le, mod-eq-of-lt}
 use native.Mathlib.Omega.{arith}
 use native.Mathlib.Numerals.{add-one}
 use lib.Dec.{T, leb, ltb, eqb, lit<, lit≤, isLe, isEq, not-T, le→leb, leb→le, nleb→lt, eqb→eq, eqb-refl}
@@ -63,6 +63,14 @@ compared a b = go (compare a b) (leb→le a b) (nleb→lt a b) (eqb→eq a b) (�
     go Ordering·lt h k e n = lt-of-le-ne (h tt) n
     go Ordering·eq h k e n = e tt
     go Ordering·gt h k e n = k tt
+
+pub le-or-lt : (a b : ℕ) → (a ≤ b) ⊎ (b < a)
+le-or-lt a b = go (compare a b) (compared a b)
+  where
+    go : (o : Ordering) → Compared o a b → (a ≤ b) ⊎ (b < a)
+    go Ordering·lt h = inl (le-of-lt h)
+    go Ordering·eq h = inl (le-of-eq h)
+    go Ordering·gt h = inr h
 
 compare-lt : (a b : ℕ) → a < b → compare a b ≡ Ordering·lt
 compare-lt a b h = go (compare a b) (compared a b)

@@ -1,2 +1,5 @@
--- Laws of the scans.
+-- Laws of the scans, lowest first.
 pub mod Laws
+pub mod Squares
+pub mod Finite
+pub mod Marks

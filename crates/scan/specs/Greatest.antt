@@ -1,7 +1,9 @@
 -- The declared answer of a scan for the greatest square as the definitions have it, its two parts, and what the scan asks of its callers.
 -- Definitions only. Assumes nothing.
 use mathlib.Core.Path.{_≡_}
+use mathlib.Core.Bool.{cond}
 use Prim.Native.Nat.{ℕ, _+_, _-_, _*_, _<_, _≤_}
+use lib.Ieee.{Float, lt}
 use Rattle.model.specs.Matrix.{Mat}
 use Rattle.model.specs.Choice.{Greatest, greatest}
 use Rattle.scan.specs.declared.Greatest as declared
@@ -9,6 +11,10 @@ use Rattle.scan.specs.declared.Greatest as declared
 -- the declared struct is the definitions' record
 abbrev pub found : declared.Greatest → Greatest
 found g = record { square = g .square; at = g .at }
+
+-- the better of `best` and a square at place i
+unfoldable pub better : Greatest → Float → ℕ → Greatest
+better best square i = cond (lt (best .square) square) (record { square = square; at = i }) best
 
 -- the greatest square of rows lo up to hi of a column, and of columns lo up to hi of a row, beginning with `best`
 unfoldable pub greatestDown : Mat → ℕ → ℕ → ℕ → Greatest → Greatest

@@ -1,2 +1,4 @@
 -- What the scans find, and what they ask of their callers.
 pub mod Greatest
+pub mod Finite
+pub mod Marks

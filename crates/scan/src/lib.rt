@@ -1,16 +1,34 @@
-// Scans that only read a panel: the greatest square, the first entry that is not finite, the marks of the tail.
+// Scans that only read a panel: the greatest square, the first number that is not finite, the marks of the tail.
 // Each is equal to its definition in crates/model, not-a-number, ties and signed zeros included.
 ghost use mathlib.Core.Path.{_≡_};
-ghost use Prim.Native.Nat.{_+_, _-_};
+ghost use Prim.Native.Nat.{_+_, _-_, _≤_};
 ghost use lib.ListN.{length};
-ghost use Rattle.model.specs.Matrix.{view};
+ghost use Rattle.model.specs.Scalar.{squareOf};
+ghost use Rattle.model.specs.Matrix.{view, vec};
 ghost use Rattle.model.specs.Choice.{columnGreatest, rowGreatest};
-ghost use Rattle.scan.specs.Greatest.{found, greatestDown, greatestAlong, DownPre, AlongPre, ColumnPre, RowPre, Within};
+ghost use Rattle.model.specs.Factor.{columnsCheck};
+ghost use Rattle.scan.specs.Finite.{markedBy, finiteFrom, columnFinite, firstRow, checkOf, PanelPre};
+ghost use Rattle.scan.specs.Marks.{partMarked, marked, tailMarks, ColumnMarksPre, TailColumnPre, MarksPre};
+ghost use Rattle.scan.specs.Greatest.{found, better, greatestDown, greatestAlong};
+ghost use Rattle.scan.specs.Greatest.{DownPre, AlongPre, ColumnPre, RowPre, Within};
+use model::Elim;
+use model::LocalRow;
 
 // A greatest square and the place where it stood.
 pub struct Greatest {
     pub square: f64,
     pub at: usize,
+}
+
+// The better of `best` and a number x at a place: the greater square, the first on ties; a not-a-number never wins.
+fn better(best: Greatest, x: f64, at: usize) -> Greatest
+    ensures { λ g. ⌜ found g ≡ better (found best) (squareOf x) at ⌝ }
+{
+    let square = scalar::square(x);
+    if square > best.square {
+        return Greatest { square, at };
+    }
+    best
 }
 
 // The greatest square of rows lo up to hi of a column, beginning with `best`.
@@ -25,16 +43,11 @@ fn greatest_down(
     requires { ⌜ DownPre nrow column lo hi (length (now panel)) ⌝ }
     ensures { λ g. ⌜ found g ≡ greatestDown (view nrow (now (panel .entry))) column lo hi (found best) ⌝ }
 {
-    let mut square = best.square;
-    let mut at = best.at;
+    let mut g = best;
     for i in lo..hi {
-        let s = scalar::square(panel[i + column * nrow]);
-        if s > square {
-            square = s;
-            at = i;
-        }
+        g = better(g, panel[i + column * nrow], i);
     }
-    Greatest { square, at }
+    g
 }
 
 // The greatest square of columns lo up to hi of a row, beginning with `best`.
@@ -49,19 +62,14 @@ fn greatest_along(
     requires { ⌜ AlongPre nrow row lo hi (length (now panel)) ⌝ }
     ensures { λ g. ⌜ found g ≡ greatestAlong (view nrow (now (panel .entry))) row lo hi (found best) ⌝ }
 {
-    let mut square = best.square;
-    let mut at = best.at;
+    let mut g = best;
     for j in lo..hi {
-        let s = scalar::square(panel[row + j * nrow]);
-        if s > square {
-            square = s;
-            at = j;
-        }
+        g = better(g, panel[row + j * nrow], j);
     }
-    Greatest { square, at }
+    g
 }
 
-// The greatest square below the diagonal of column k and above ke, the first row on ties; 0 and k where none is above 0.
+// The greatest square below the diagonal of column k and above ke; 0 and k where none is above 0.
 // origin: src/numeric/ldlt/bunch_kaufman.rs, fn ll_bk_panel_step
 pub fn column_greatest(panel: &[f64], nrow: usize, ncol: usize, k: usize, ke: usize) -> Greatest
     requires { ⌜ ColumnPre nrow ncol k ke (length (now panel)) ⌝ }
@@ -86,4 +94,109 @@ pub fn row_greatest(
 {
     let along = greatest_along(panel, nrow, r, k, r, Greatest { square: 0.0, at: k });
     greatest_down(panel, nrow, r, r + 1, ke, along)
+}
+
+// A mark, 1 from the first number on that is not finite.
+fn mark(before: u8, x: f64) -> u8
+    ensures { λ m. ⌜ m ≡ markedBy before x ⌝ }
+{
+    if scalar::is_finite(x) { before } else { 1 }
+}
+
+// Whether the first n numbers are finite. It is never left early, so that the machine tests several at a time.
+fn all_finite(xs: &[f64], n: usize) -> bool
+    requires { ⌜ n ≤ length (now xs) ⌝ }
+    ensures { λ r. ⌜ r ≡ finiteFrom (vec (now (xs .entry))) 0 n ⌝ }
+{
+    let mut found = 0;
+    for i in 0..n {
+        found = mark(found, xs[i]);
+    }
+    found == 0
+}
+
+// Whether rows lo up to hi of column j are finite.
+pub fn column_finite(panel: &[f64], nrow: usize, j: usize, lo: usize, hi: usize) -> bool
+    requires { ⌜ DownPre nrow j lo hi (length (now panel)) ⌝ }
+    ensures { λ r. ⌜ r ≡ columnFinite (view nrow (now (panel .entry))) j lo hi ⌝ }
+{
+    let start = lo + j * nrow;
+    let end = hi + j * nrow;
+    all_finite(&panel[start..end], hi - lo)
+}
+
+// What a scan for numbers that are not finite finds: none, or the least column with one and its least row.
+pub enum Scan {
+    Clean,
+    At(Elim, LocalRow),
+}
+
+// The row from which column j is looked at: its diagonal, or past its end where all of it is finite.
+fn first_row(input: &[f64], nrow: usize, j: usize) -> usize
+    requires { ⌜ DownPre nrow j j nrow (length (now input)) ⌝ }
+    ensures { λ r. ⌜ r ≡ firstRow (view nrow (now (input .entry))) nrow j ⌝ }
+{
+    if column_finite(input, nrow, j, j, nrow) {
+        nrow
+    } else {
+        j
+    }
+}
+
+// The first number of the lower panel that is not finite, by column and then by row: refusal 6.
+pub fn first_not_finite(input: &[f64], ncol: usize, nrow: usize) -> Scan
+    requires { ⌜ PanelPre nrow ncol (length (now input)) ⌝ }
+    ensures { λ r. ⌜ checkOf r ≡ columnsCheck (view nrow (now (input .entry))) nrow ncol 0 ⌝ }
+{
+    let mut column = 0;
+    let mut row = 0;
+    'columns: while column < ncol {
+        row = first_row(input, nrow, column);
+        while row < nrow {
+            if !scalar::is_finite(input[row + column * nrow]) {
+                break 'columns;
+            }
+            row += 1;
+        }
+        column += 1;
+    }
+    if column < ncol {
+        return Scan::At(Elim(column), LocalRow(row));
+    }
+    Scan::Clean
+}
+
+// The first n marks after one more column of their rows.
+fn mark_column(marks: &mut [u8], column: &[f64], n: usize)
+    requires { ⌜ ColumnMarksPre n (length (now marks)) (length (now column)) ⌝ }
+    ensures { λ _. ⌜ now (marks .exit) ≡ partMarked (now (marks .entry)) (now (column .entry)) n ⌝ }
+{
+    for i in 0..n {
+        marks[i] = mark(marks[i], column[i]);
+    }
+}
+
+// The marks after column j of the tail: as they were where all of it is finite.
+fn mark_tail(marks: &mut [u8], panel: &[f64], ncol: usize, nrow: usize, j: usize)
+    requires { ⌜ TailColumnPre nrow ncol j (length (now panel)) (length (now marks)) ⌝ }
+    ensures { λ _. ⌜ now (marks .exit) ≡ marked (now (marks .entry)) (view nrow (now (panel .entry))) ncol nrow j ⌝ }
+{
+    if column_finite(panel, nrow, j, ncol, nrow) {
+        return;
+    }
+    let start = ncol + j * nrow;
+    let end = nrow + j * nrow;
+    mark_column(marks, &panel[start..end], nrow - ncol);
+}
+
+// The marks of the tail, by columns: 1 if a row holds a number not finite, else 0.
+// origin: src/numeric/ldlt/bunch_kaufman.rs, fn ll_cdiv_emit
+pub fn marks_of(panel: &[f64], marks: &mut [u8], ncol: usize, nrow: usize)
+    requires { ⌜ MarksPre nrow ncol (length (now panel)) (length (now marks)) ⌝ }
+    ensures { λ _. ⌜ now (marks .exit) ≡ tailMarks (view nrow (now (panel .entry))) ncol nrow ncol ⌝ }
+{
+    grid::kernels::zero_bytes(marks);
+    for j in 0..ncol {
+        mark_tail(marks, panel, ncol, nrow, j);
+    }
 }

@@ -2,7 +2,7 @@
 -- Assumes nothing.
 use Prim.Native.Nat.{ℕ, _+_, _<_, _≤_, max, min}
 use mathlib.Core.Path.{_≡_, refl, sym, _∙_, ap, fun-ext}
-use mathlib.Core.Bool.{true, false, cond, _&&_}
+use mathlib.Core.Bool.{true, false}
 use native.Mathlib.Omega.{arith}
 use borrow.Author.Tests.{lt-ltb, le-ltb, le-leb, lt-leb, eq-eqb, ne-eqb, ltb-true, ltb-false, leb-true, leb-false}
 use lib.Dec.{ltb, leb, eqb}
@@ -12,7 +12,7 @@ use Rattle.model.specs.Matrix.{Row, Mat, within, put, withColumn, headOf, excha
 use Rattle.model.specs.Step.{one, two, eliminated, firstMultiplier, secondMultiplier}
 use Rattle.model.specs.Head.{headOne, headTwo, keptOne, keptTwo}
 use Rattle.model.specs.declared.Block.{Block}
-use Rattle.grid.proofs.Laws.{test, cmp, no}
+use Rattle.model.proofs.Cases.{test, cmp, no}
 
 -- ---- ranges
 
@@ -57,6 +57,13 @@ is-head c a b inside up past =
     (λ v. let x = leb-true j i u in let y = ltb-true i c v in inside i j x y ∙ sym (head-at c a i j x y))
     (λ v. let y = ltb-false i c v in past i j y ∙ sym (head-past c a i j y)))
     (λ u. let x = leb-false j i u in up i j x ∙ sym (head-up c a i j x))
+
+-- two heads are one where the triangles are
+pub head-alike : (c : ℕ) (a b : Mat) → ((i j : ℕ) → j ≤ i → i < c → a i j ≡ b i j) → headOf c a ≡ headOf c b
+head-alike c a b h = is-head c b (headOf c a) (λ i j x y. head-at c a i j x y ∙ h i j x y) (head-up c a) (head-past c a)
+
+pub head-twice : (c : ℕ) (a : Mat) → headOf c (headOf c a) ≡ headOf c a
+head-twice c a = head-alike c (headOf c a) a (head-at c a)
 
 -- ---- the exchange
 

@@ -42,6 +42,10 @@ module _ (c : ℕ) (a : Mat) (k ke : ℕ) (hk : k < ke) (hc : ke ≤ c) where
 
 -- ---- the step
 
+-- the block at k and k + 1
+abbrev pub blockIn : Mat → ℕ → Block
+blockIn x k = blockOf (x k k) (x (k + 1) k) (x (k + 1) (k + 1))
+
 module _ (c ke : ℕ) (a m : Mat) (hc : ke ≤ c) where
   one-tried : (k kp : ℕ) (s : SettledOne) → k < ke → kp < ke → afterOne ke (headOf c a) m k kp s ≡ cutTried c (afterOne ke a m k kp s)
   one-tried k kp (oneRefused n) hk hp = refl
@@ -59,18 +63,15 @@ module _ (c ke : ℕ) (a m : Mat) (hc : ke ≤ c) where
       → afterOne ke (headOf c a) m k kp (settledOne mode (headOf c a kp kp)) ≡ cutTried c (afterOne ke a m k kp (settledOne mode (a kp kp)))
   single-tried mode k kp hk hp = rw (head-at c a kp kp (omega arith) (omega arith)) (one-tried k kp (settledOne mode (a kp kp)) hk hp)
 
-  -- the block at k and k + 1
-  abbrev at-diagonal : ℕ → Mat → Block
-  at-diagonal k x = blockOf (x k k) (x (k + 1) k) (x (k + 1) (k + 1))
-
   block-tried : (mode : Mode) (limit k kp : ℕ) → k + 1 < ke → kp < ke
-      → afterTwo ke (headOf c a) m k kp (settledTwo mode limit (at-diagonal k (exchanged (k + 1) kp ke (headOf c a))))
-      ≡ cutTried c (afterTwo ke a m k kp (settledTwo mode limit (at-diagonal k (exchanged (k + 1) kp ke a))))
+      → afterTwo ke (headOf c a) m k kp (settledTwo mode limit (blockIn (exchanged (k + 1) kp ke (headOf c a)) k))
+      ≡ cutTried c (afterTwo ke a m k kp (settledTwo mode limit (blockIn (exchanged (k + 1) kp ke a) k)))
   block-tried mode limit k kp hk hp =
       let x = exchanged (k + 1) kp ke a in
       rw (exchanged-masked c (k + 1) kp ke a hk hp hc) (
-      rw (head-at c x k k (omega arith) (omega arith), head-at c x (k + 1) k (omega arith) (omega arith), head-at c x (k + 1) (k + 1) (omega arith) (omega arith))
-      (two-tried k kp (settledTwo mode limit (at-diagonal k x)) hk hp))
+      let at : (i j : ℕ) → j ≤ i → i < ke → headOf c x i j ≡ x i j = λ i j h l. head-at c x i j h (omega arith) in
+      rw (at k k (omega arith) (omega arith), at (k + 1) k (omega arith) hk, at (k + 1) (k + 1) (omega arith) hk)
+      (two-tried k kp (settledTwo mode limit (blockIn x k)) hk hp))
 
   tried-by : (mode : Mode) (limit k : ℕ) (o : Choice) → k < ke → Chosen k ke o
       → tryBy ke (headOf c a) m mode limit k o ≡ cutTried c (tryBy ke a m mode limit k o)

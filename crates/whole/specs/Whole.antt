@@ -1,9 +1,8 @@
 -- The elimination over the whole panel: the model's steps, taken on a matrix that holds all nrow rows, upper positions and tail rows included.
 -- A reader need not believe it: proofs/ shows that it is the model's run. Definitions only. Assumes nothing.
-use mathlib.Core.Bool.{cond, _&&_}
-use mathlib.Core.List.{List}
+use mathlib.Core.Bool.{cond}
 use Prim.Native.Nat.{ℕ, zero, suc, _+_, _-_, min}
-use lib.Dec.{leb, ltb}
+use lib.Dec.{ltb}
 use Rattle.model.specs.Scalar.{zeroF}
 use Rattle.model.specs.Matrix.{Row, Mat, headOf, rowOf, within}
 use Rattle.model.specs.Step.{rowAfterSteps}
@@ -77,7 +76,7 @@ abbrev pub cutRun : ℕ → ℕ → WholeRun → Final
 cutRun nrow ncol (stoppedAt n p) = fell n p
 cutRun nrow ncol (ended s) = stood (cutState ncol s) (tailRows nrow ncol (λ r. r) (s .a))
 
--- of the model's run, with the tail rows of `a` sent through its panels
+-- of the model's run, with the tail rows of `a` sent through its panels; the model says nothing of its state past the head
 abbrev pub finished : ℕ → ℕ → Mat → Run → Final
 finished nrow ncol a (refused n p) = fell n p
-finished nrow ncol a (done s ps) = stood s (tailRows nrow ncol (tailRowOf ncol ps) a)
+finished nrow ncol a (done s ps) = stood (cutState ncol s) (tailRows nrow ncol (tailRowOf ncol ps) a)

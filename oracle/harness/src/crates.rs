@@ -12,8 +12,25 @@ pub enum Parallelism {
 }
 
 pub unsafe fn gemm<T>(
-    _: usize, _: usize, _: usize, _: *mut T, _: isize, _: isize, _: bool, _: *const T, _: isize, _: isize,
-    _: *const T, _: isize, _: isize, _: T, _: T, _: bool, _: bool, _: bool, _: Parallelism,
+    _: usize,
+    _: usize,
+    _: usize,
+    _: *mut T,
+    _: isize,
+    _: isize,
+    _: bool,
+    _: *const T,
+    _: isize,
+    _: isize,
+    _: *const T,
+    _: isize,
+    _: isize,
+    _: T,
+    _: T,
+    _: bool,
+    _: bool,
+    _: bool,
+    _: Parallelism,
 ) {
     left_out()
 }

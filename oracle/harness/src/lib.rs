@@ -112,8 +112,25 @@ pub mod dense {
             crate::left_out()
         }
         pub unsafe fn gemm<T>(
-            _: usize, _: usize, _: usize, _: *mut T, _: isize, _: isize, _: bool, _: *const T, _: isize, _: isize,
-            _: *const T, _: isize, _: isize, _: T, _: T, _: bool, _: bool, _: bool, _: GemmMode,
+            _: usize,
+            _: usize,
+            _: usize,
+            _: *mut T,
+            _: isize,
+            _: isize,
+            _: bool,
+            _: *const T,
+            _: isize,
+            _: isize,
+            _: *const T,
+            _: isize,
+            _: isize,
+            _: T,
+            _: T,
+            _: bool,
+            _: bool,
+            _: bool,
+            _: GemmMode,
         ) {
             crate::left_out()
         }

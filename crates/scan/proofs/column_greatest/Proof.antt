@@ -1,6 +1,6 @@
 -- `scan::column_greatest` meets its contract: its one call is the definition. Assumes nothing.
 use borrow.Author.Needs.{needs}
-use Rattle.scan.proofs.Laws.{column-down, column-is, column-at}
+use Rattle.scan.proofs.Squares.{column-down, column-is, column-at}
 use Rattle.scan.proofs.column_greatest.Statement.{statement}
 use Rattle.scan.proofs.column_greatest.Tie as tie
 

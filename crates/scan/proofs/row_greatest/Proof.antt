@@ -1,6 +1,6 @@
 -- `scan::row_greatest` meets its contract: the row first, then the column on top of it. Assumes nothing.
 use borrow.Author.Needs.{needs}
-use Rattle.scan.proofs.Laws.{row-along, row-down, row-is}
+use Rattle.scan.proofs.Squares.{row-along, row-down, row-is}
 use Rattle.scan.proofs.row_greatest.Statement.{statement}
 use Rattle.scan.proofs.row_greatest.Tie as tie
 

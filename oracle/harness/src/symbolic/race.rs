@@ -10,10 +10,6 @@ pub fn race(_: &OrderingGraph, _: &OrderingSettings) -> Result<Prefix, RslabErro
 pub fn prefix(_: &OrderingGraph, _: &OrderingSettings, _: OrderingMethod, _: u64) -> Result<Prefix, RslabError> {
     crate::left_out()
 }
-pub fn finish(
-    _: Prefix,
-    _: CscPattern<i32>,
-    _: &AmalgamationSettings,
-) -> Result<SymbolicFactorization, RslabError> {
+pub fn finish(_: Prefix, _: CscPattern<i32>, _: &AmalgamationSettings) -> Result<SymbolicFactorization, RslabError> {
     crate::left_out()
 }

@@ -265,7 +265,8 @@ impl<T: Scalar> Site<T> {
 fn emit_state<T: Scalar>(sym: &SymbolicFactorization, sched: &LlSchedule) -> LlEmitLdlt<T> {
     let n = sym.n;
     let (refcount, e_offset) = emit_refcount_offsets(sym, sched);
-    let shapes = sym.supernodes.iter().enumerate().map(|(s, node)| slot_sizes(node.ncol, sched.rows(s).len() - node.ncol));
+    let shapes =
+        sym.supernodes.iter().enumerate().map(|(s, node)| slot_sizes(node.ncol, sched.rows(s).len() - node.ncol));
     LlEmitLdlt {
         refcount,
         e_offset,

@@ -1,0 +1,2 @@
+-- Laws of the entry checks.
+pub mod Laws

@@ -1,0 +1,2 @@
+-- The entry checks over the lengths of the buffers.
+pub mod Entry

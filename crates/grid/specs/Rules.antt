@@ -1,0 +1,108 @@
+-- What the slice kernels make of place a from the numbers at place a of their operands, each operation rounded, in the order written.
+-- A kernel puts its rule at the first n places, a function over a part at places lo up to hi, a function over a column at rows lo up to hi.
+-- Definitions only. Assumes nothing.
+use Prim.Native.Nat.{ℕ, _+_, _*_, _≤_}
+use mathlib.Core.Bool.{cond}
+use lib.Ieee.{Float}
+use Rattle.model.specs.Scalar.{_⊕_, _⊖_, _⊗_, zeroF}
+use Rattle.model.specs.Matrix.{Row, Mat, within, exchangedPlace}
+use Rattle.model.specs.Step.{lessMultiple}
+
+-- a column as the rows see it
+unfoldable pub columnOf : Mat → ℕ → Row
+columnOf M j = λ a. M a j
+
+-- +0.0
+unfoldable pub zeroed : Row
+zeroed = λ a. zeroF
+
+-- x − a·m; and left alone where m is a zero of either sign
+unfoldable pub lessTimes : Row → Row → Float → Row
+lessTimes f s m = λ a. f a ⊖ s a ⊗ m
+
+unfoldable pub lessTimesIf : Row → Row → Float → Row
+lessTimesIf f s m = λ a. lessMultiple (f a) (s a) m
+
+-- (x − a·m1) − b·m2
+unfoldable pub lessTwo : Row → Row → Row → Float → Float → Row
+lessTwo f s t m1 m2 = λ a. (f a ⊖ s a ⊗ m1) ⊖ t a ⊗ m2
+
+-- x − acc
+unfoldable pub lessEach : Row → Row → Row
+lessEach f s = λ a. f a ⊖ s a
+
+-- acc + g·l
+unfoldable pub plusTimes : Row → Row → Float → Row
+plusTimes f g l = λ a. f a ⊕ g a ⊗ l
+
+-- (((acc + g0·l0) + g1·l1) + g2·l2) + g3·l3
+unfoldable pub plusFour : Row → Row → Row → Row → Row → Float → Float → Float → Float → Row
+plusFour f g0 g1 g2 g3 l0 l1 l2 l3 = λ a. (((f a ⊕ g0 a ⊗ l0) ⊕ g1 a ⊗ l1) ⊕ g2 a ⊗ l2) ⊕ g3 a ⊗ l3
+
+-- a·r
+unfoldable pub times : Row → Float → Row
+times s r = λ a. s a ⊗ r
+
+-- (p·a − q·b)·r
+unfoldable pub combined : Row → Row → Float → Float → Float → Row
+combined s t p q r = λ a. (p ⊗ s a ⊖ q ⊗ t a) ⊗ r
+
+-- a·p + b·q
+unfoldable pub blended : Row → Row → Float → Float → Row
+blended s t p q = λ a. s a ⊗ p ⊕ t a ⊗ q
+
+-- rows lo up to hi of columns p and q, one for the other
+unfoldable pub columnsExchanged : Mat → ℕ → ℕ → ℕ → ℕ → Mat
+columnsExchanged M p q lo hi = λ i j. cond (within lo hi i) (M i (exchangedPlace p q j)) (M i j)
+
+-- ---- what the kernels ask: the first n numbers are there
+
+pub record TwoPre (n x s : ℕ) : Type 0 where
+  pub out : n ≤ x
+  pub first : n ≤ s
+
+pub record ThreePre (n x s t : ℕ) : Type 0 where
+  pub out : n ≤ x
+  pub first : n ≤ s
+  pub second : n ≤ t
+
+pub record FivePre (n x s t u v : ℕ) : Type 0 where
+  pub out : n ≤ x
+  pub first : n ≤ s
+  pub second : n ≤ t
+  pub third : n ≤ u
+  pub fourth : n ≤ v
+
+-- ---- what the functions over a part ask
+
+pub record PartPre (lo hi len : ℕ) : Type 0 where
+  pub up : lo ≤ hi
+  pub places : hi ≤ len
+
+-- ---- what the functions over a column of n rows ask: column j is there, lo up to hi are rows of it and places of the vectors
+
+pub record ColumnPre (n j lo hi len slen : ℕ) : Type 0 where
+  pub col : n + j * n ≤ len
+  pub up : lo ≤ hi
+  pub rows : hi ≤ n
+  pub places : hi ≤ slen
+
+pub record ColumnTwoPre (n j lo hi len slen tlen : ℕ) : Type 0 where
+  pub col : n + j * n ≤ len
+  pub up : lo ≤ hi
+  pub rows : hi ≤ n
+  pub first : hi ≤ slen
+  pub second : hi ≤ tlen
+
+-- columns j to j + 3 are there
+pub record ColumnFourPre (n j lo hi len slen : ℕ) : Type 0 where
+  pub cols : j * n + 4 * n ≤ len
+  pub up : lo ≤ hi
+  pub rows : hi ≤ n
+  pub places : hi ≤ slen
+
+pub record ExchangePre (n p q lo hi len : ℕ) : Type 0 where
+  pub one : n + p * n ≤ len
+  pub other : n + q * n ≤ len
+  pub up : lo ≤ hi
+  pub rows : hi ≤ n

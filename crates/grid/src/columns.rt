@@ -1,0 +1,188 @@
+// Rows lo up to hi of a column of a column-major panel, lent to a kernel as a part of the panel. A vector that goes
+// with it holds number i for row i. A reader may rely on the contracts: nothing else of the panel or of the vector
+// changes.
+use super::kernels;
+ghost use mathlib.Core.Path.{_≡_};
+ghost use Prim.Native.Nat.{_+_};
+ghost use lib.ListN.{length};
+ghost use Rattle.model.specs.Matrix.{view, vec, withColumn, withPart};
+ghost use Rattle.grid.specs.Rules.{columnOf, zeroed, lessTimes, lessTimesIf, lessTwo, lessEach, plusTimes};
+ghost use Rattle.grid.specs.Rules.{plusFour, times, combined, columnsExchanged};
+ghost use Rattle.grid.specs.Rules.{PartPre, ColumnPre, ColumnTwoPre, ColumnFourPre, ExchangePre};
+
+// Numbers lo up to hi of x become +0.0.
+pub fn zero(x: &mut [f64], lo: usize, hi: usize)
+    requires { ⌜ PartPre lo hi (length (now x)) ⌝ }
+    ensures { λ _. ⌜ vec (now (x .exit)) ≡ withPart (vec (now (x .entry))) lo hi zeroed ⌝ }
+{
+    kernels::zero(&mut x[lo..hi]);
+}
+
+// Numbers lo up to hi of x become those rows of column j.
+pub fn copy(x: &mut [f64], panel: &[f64], nrow: usize, j: usize, lo: usize, hi: usize)
+    requires { ⌜ ColumnPre nrow j lo hi (length (now panel)) (length (now x)) ⌝ }
+    ensures { λ _. ⌜ vec (now (x .exit))
+        ≡ withPart (vec (now (x .entry))) lo hi (columnOf (view nrow (now (panel .entry))) j) ⌝ }
+{
+    let a = lo + j * nrow;
+    let b = hi + j * nrow;
+    kernels::copy(&mut x[lo..hi], &panel[a..b], hi - lo);
+}
+
+// Numbers lo up to hi of x gain those rows of column j times l.
+pub fn plus(x: &mut [f64], panel: &[f64], nrow: usize, j: usize, lo: usize, hi: usize, l: f64)
+    requires { ⌜ ColumnPre nrow j lo hi (length (now panel)) (length (now x)) ⌝ }
+    ensures { λ _. ⌜ vec (now (x .exit))
+        ≡ withPart (vec (now (x .entry))) lo hi
+        (plusTimes (vec (now (x .entry))) (columnOf (view nrow (now (panel .entry))) j) l) ⌝ }
+{
+    let a = lo + j * nrow;
+    let b = hi + j * nrow;
+    kernels::plus(&mut x[lo..hi], &panel[a..b], hi - lo, l);
+}
+
+// Numbers lo up to hi of x gain those rows of columns j to j + 3, each times its own number, in their order.
+pub fn plus_four(
+    x: &mut [f64],
+    panel: &[f64],
+    nrow: usize,
+    j: usize,
+    lo: usize,
+    hi: usize,
+    l0: f64,
+    l1: f64,
+    l2: f64,
+    l3: f64,
+)
+    requires { ⌜ ColumnFourPre nrow j lo hi (length (now panel)) (length (now x)) ⌝ }
+    ensures { λ _. ⌜ vec (now (x .exit))
+        ≡ withPart (vec (now (x .entry))) lo hi
+        (plusFour (vec (now (x .entry))) (columnOf (view nrow (now (panel .entry))) j)
+        (columnOf (view nrow (now (panel .entry))) (j + 1)) (columnOf (view nrow (now (panel .entry))) (j + 2))
+        (columnOf (view nrow (now (panel .entry))) (j + 3)) l0 l1 l2 l3) ⌝ }
+{
+    let a0 = lo + j * nrow;
+    let b0 = hi + j * nrow;
+    let a1 = a0 + nrow;
+    let b1 = b0 + nrow;
+    let a2 = a1 + nrow;
+    let b2 = b1 + nrow;
+    let a3 = a2 + nrow;
+    let b3 = b2 + nrow;
+    kernels::plus_four(
+        &mut x[lo..hi],
+        &panel[a0..b0],
+        &panel[a1..b1],
+        &panel[a2..b2],
+        &panel[a3..b3],
+        hi - lo,
+        l0,
+        l1,
+        l2,
+        l3,
+    );
+}
+
+// Rows lo up to hi of column j become s times r.
+pub fn scale(panel: &mut [f64], nrow: usize, j: usize, lo: usize, hi: usize, s: &[f64], r: f64)
+    requires { ⌜ ColumnPre nrow j lo hi (length (now panel)) (length (now s)) ⌝ }
+    ensures { λ _. ⌜ view nrow (now (panel .exit))
+        ≡ withColumn (view nrow (now (panel .entry))) j lo hi (times (vec (now (s .entry))) r) ⌝ }
+{
+    let a = lo + j * nrow;
+    let b = hi + j * nrow;
+    kernels::scale(&mut panel[a..b], &s[lo..hi], hi - lo, r);
+}
+
+// Rows lo up to hi of column j become (p·s − q·t)·r.
+pub fn combine(
+    panel: &mut [f64],
+    nrow: usize,
+    j: usize,
+    lo: usize,
+    hi: usize,
+    s: &[f64],
+    t: &[f64],
+    p: f64,
+    q: f64,
+    r: f64,
+)
+    requires { ⌜ ColumnTwoPre nrow j lo hi (length (now panel)) (length (now s)) (length (now t)) ⌝ }
+    ensures { λ _. ⌜ view nrow (now (panel .exit))
+        ≡ withColumn (view nrow (now (panel .entry))) j lo hi
+        (combined (vec (now (s .entry))) (vec (now (t .entry))) p q r) ⌝ }
+{
+    let a = lo + j * nrow;
+    let b = hi + j * nrow;
+    kernels::combine(&mut panel[a..b], &s[lo..hi], &t[lo..hi], hi - lo, p, q, r);
+}
+
+// Rows lo up to hi of column j lose s.
+pub fn less_each(panel: &mut [f64], nrow: usize, j: usize, lo: usize, hi: usize, s: &[f64])
+    requires { ⌜ ColumnPre nrow j lo hi (length (now panel)) (length (now s)) ⌝ }
+    ensures { λ _. ⌜ view nrow (now (panel .exit))
+        ≡ withColumn (view nrow (now (panel .entry))) j lo hi
+        (lessEach (columnOf (view nrow (now (panel .entry))) j) (vec (now (s .entry)))) ⌝ }
+{
+    let a = lo + j * nrow;
+    let b = hi + j * nrow;
+    kernels::less_each(&mut panel[a..b], &s[lo..hi], hi - lo);
+}
+
+// Rows lo up to hi of column j lose s times m.
+fn less(panel: &mut [f64], nrow: usize, j: usize, lo: usize, hi: usize, s: &[f64], m: f64)
+    requires { ⌜ ColumnPre nrow j lo hi (length (now panel)) (length (now s)) ⌝ }
+    ensures { λ _. ⌜ view nrow (now (panel .exit))
+        ≡ withColumn (view nrow (now (panel .entry))) j lo hi
+        (lessTimes (columnOf (view nrow (now (panel .entry))) j) (vec (now (s .entry))) m) ⌝ }
+{
+    let a = lo + j * nrow;
+    let b = hi + j * nrow;
+    kernels::less(&mut panel[a..b], &s[lo..hi], hi - lo, m);
+}
+
+// The same, and nothing where m is a zero of either sign.
+pub fn less_if(panel: &mut [f64], nrow: usize, j: usize, lo: usize, hi: usize, s: &[f64], m: f64)
+    requires { ⌜ ColumnPre nrow j lo hi (length (now panel)) (length (now s)) ⌝ }
+    ensures { λ _. ⌜ view nrow (now (panel .exit))
+        ≡ withColumn (view nrow (now (panel .entry))) j lo hi
+        (lessTimesIf (columnOf (view nrow (now (panel .entry))) j) (vec (now (s .entry))) m) ⌝ }
+{
+    if m != 0.0 {
+        less(panel, nrow, j, lo, hi, s, m);
+    }
+}
+
+// Rows lo up to hi of column j lose s times m1, then t times m2.
+pub fn less_two(
+    panel: &mut [f64],
+    nrow: usize,
+    j: usize,
+    lo: usize,
+    hi: usize,
+    s: &[f64],
+    t: &[f64],
+    m1: f64,
+    m2: f64,
+)
+    requires { ⌜ ColumnTwoPre nrow j lo hi (length (now panel)) (length (now s)) (length (now t)) ⌝ }
+    ensures { λ _. ⌜ view nrow (now (panel .exit))
+        ≡ withColumn (view nrow (now (panel .entry))) j lo hi
+        (lessTwo (columnOf (view nrow (now (panel .entry))) j) (vec (now (s .entry))) (vec (now (t .entry))) m1 m2) ⌝ }
+{
+    let a = lo + j * nrow;
+    let b = hi + j * nrow;
+    kernels::less_two(&mut panel[a..b], &s[lo..hi], &t[lo..hi], hi - lo, m1, m2);
+}
+
+// Rows lo up to hi of columns p and q, one for the other.
+pub fn exchange(panel: &mut [f64], nrow: usize, p: usize, q: usize, lo: usize, hi: usize)
+    requires { ⌜ ExchangePre nrow p q lo hi (length (now panel)) ⌝ }
+    ensures { λ _. ⌜ view nrow (now (panel .exit)) ≡ columnsExchanged (view nrow (now (panel .entry))) p q lo hi ⌝ }
+{
+    for i in lo..hi {
+        let x = panel[i + p * nrow];
+        panel[i + p * nrow] = panel[i + q * nrow];
+        panel[i + q * nrow] = x;
+    }
+}

@@ -1,0 +1,147 @@
+// Loops over the first n numbers of separate slices, which vectorise: no branch, no call, and at each place the
+// operations of its rule alone, in their order. A reader may rely on the contracts: what is not among the first n
+// stays.
+ghost use mathlib.Core.Path.{_≡_};
+ghost use lib.ListN.{length, replicate};
+ghost use Rattle.model.specs.Scalar.{zeroF};
+ghost use Rattle.model.specs.Matrix.{vec, withPart};
+ghost use Rattle.grid.specs.Rules.{lessTimes, lessTwo, lessEach, plusTimes, plusFour, times, combined, blended};
+ghost use Rattle.grid.specs.Rules.{TwoPre, ThreePre, FivePre};
+
+// All numbers become +0.0.
+pub fn zero(x: &mut [f64])
+    ensures { λ _. ⌜ now (x .exit) ≡ replicate (length (now (x .entry))) zeroF ⌝ }
+{
+    for i in 0..x.len() {
+        x[i] = 0.0;
+    }
+}
+
+// All bytes become 0.
+pub fn zero_bytes(x: &mut [u8])
+    ensures { λ _. ⌜ now (x .exit) ≡ replicate (length (now (x .entry))) 0 ⌝ }
+{
+    for i in 0..x.len() {
+        x[i] = 0;
+    }
+}
+
+// All places become 0.
+pub fn zero_places(x: &mut [usize])
+    ensures { λ _. ⌜ now (x .exit) ≡ replicate (length (now (x .entry))) 0 ⌝ }
+{
+    for i in 0..x.len() {
+        x[i] = 0;
+    }
+}
+
+// s.
+pub fn copy(x: &mut [f64], s: &[f64], n: usize)
+    requires { ⌜ TwoPre n (length (now x)) (length (now s)) ⌝ }
+    ensures { λ _. ⌜ vec (now (x .exit)) ≡ withPart (vec (now (x .entry))) 0 n (vec (now (s .entry))) ⌝ }
+{
+    for i in 0..n {
+        x[i] = s[i];
+    }
+}
+
+// x − s·m.
+pub fn less(x: &mut [f64], s: &[f64], n: usize, m: f64)
+    requires { ⌜ TwoPre n (length (now x)) (length (now s)) ⌝ }
+    ensures { λ _. ⌜ vec (now (x .exit))
+        ≡ withPart (vec (now (x .entry))) 0 n (lessTimes (vec (now (x .entry))) (vec (now (s .entry))) m) ⌝ }
+{
+    for i in 0..n {
+        x[i] = x[i] - s[i] * m;
+    }
+}
+
+// (x − s·m1) − t·m2.
+pub fn less_two(x: &mut [f64], s: &[f64], t: &[f64], n: usize, m1: f64, m2: f64)
+    requires { ⌜ ThreePre n (length (now x)) (length (now s)) (length (now t)) ⌝ }
+    ensures { λ _. ⌜ vec (now (x .exit))
+        ≡ withPart (vec (now (x .entry))) 0 n
+        (lessTwo (vec (now (x .entry))) (vec (now (s .entry))) (vec (now (t .entry))) m1 m2) ⌝ }
+{
+    for i in 0..n {
+        x[i] = x[i] - s[i] * m1 - t[i] * m2;
+    }
+}
+
+// x − s.
+pub fn less_each(x: &mut [f64], s: &[f64], n: usize)
+    requires { ⌜ TwoPre n (length (now x)) (length (now s)) ⌝ }
+    ensures { λ _. ⌜ vec (now (x .exit))
+        ≡ withPart (vec (now (x .entry))) 0 n (lessEach (vec (now (x .entry))) (vec (now (s .entry)))) ⌝ }
+{
+    for i in 0..n {
+        x[i] = x[i] - s[i];
+    }
+}
+
+// x + g·l.
+pub fn plus(x: &mut [f64], g: &[f64], n: usize, l: f64)
+    requires { ⌜ TwoPre n (length (now x)) (length (now g)) ⌝ }
+    ensures { λ _. ⌜ vec (now (x .exit))
+        ≡ withPart (vec (now (x .entry))) 0 n (plusTimes (vec (now (x .entry))) (vec (now (g .entry))) l) ⌝ }
+{
+    for i in 0..n {
+        x[i] = x[i] + g[i] * l;
+    }
+}
+
+// (((x + g0·l0) + g1·l1) + g2·l2) + g3·l3: four terms of a sum in one pass, in their order.
+pub fn plus_four(
+    x: &mut [f64],
+    g0: &[f64],
+    g1: &[f64],
+    g2: &[f64],
+    g3: &[f64],
+    n: usize,
+    l0: f64,
+    l1: f64,
+    l2: f64,
+    l3: f64,
+)
+    requires { ⌜ FivePre n (length (now x)) (length (now g0)) (length (now g1)) (length (now g2)) (length (now g3)) ⌝ }
+    ensures { λ _. ⌜ vec (now (x .exit))
+        ≡ withPart (vec (now (x .entry))) 0 n
+        (plusFour (vec (now (x .entry))) (vec (now (g0 .entry))) (vec (now (g1 .entry))) (vec (now (g2 .entry)))
+        (vec (now (g3 .entry))) l0 l1 l2 l3) ⌝ }
+{
+    for i in 0..n {
+        x[i] = x[i] + g0[i] * l0 + g1[i] * l1 + g2[i] * l2 + g3[i] * l3;
+    }
+}
+
+// s·r.
+pub fn scale(x: &mut [f64], s: &[f64], n: usize, r: f64)
+    requires { ⌜ TwoPre n (length (now x)) (length (now s)) ⌝ }
+    ensures { λ _. ⌜ vec (now (x .exit)) ≡ withPart (vec (now (x .entry))) 0 n (times (vec (now (s .entry))) r) ⌝ }
+{
+    for i in 0..n {
+        x[i] = s[i] * r;
+    }
+}
+
+// (p·s − q·t)·r: twice, with s and t exchanged, a block's two multipliers.
+pub fn combine(x: &mut [f64], s: &[f64], t: &[f64], n: usize, p: f64, q: f64, r: f64)
+    requires { ⌜ ThreePre n (length (now x)) (length (now s)) (length (now t)) ⌝ }
+    ensures { λ _. ⌜ vec (now (x .exit))
+        ≡ withPart (vec (now (x .entry))) 0 n (combined (vec (now (s .entry))) (vec (now (t .entry))) p q r) ⌝ }
+{
+    for i in 0..n {
+        x[i] = (p * s[i] - q * t[i]) * r;
+    }
+}
+
+// s·p + t·q: twice, a block's columns of L·D.
+pub fn blend(x: &mut [f64], s: &[f64], t: &[f64], n: usize, p: f64, q: f64)
+    requires { ⌜ ThreePre n (length (now x)) (length (now s)) (length (now t)) ⌝ }
+    ensures { λ _. ⌜ vec (now (x .exit))
+        ≡ withPart (vec (now (x .entry))) 0 n (blended (vec (now (s .entry))) (vec (now (t .entry))) p q) ⌝ }
+{
+    for i in 0..n {
+        x[i] = s[i] * p + t[i] * q;
+    }
+}

@@ -1,0 +1,23 @@
+-- `scalar::near_root` meets its contract: the root is above the middle exactly where what is left is more than it. Assumes nothing.
+use borrow.Author.Needs.{needs}
+use Rattle.scalar.proofs.Steps.{near-up, near-stays}
+use Rattle.scalar.proofs.near_root.Statement.{statement}
+use Rattle.scalar.proofs.near_root.Tie as tie
+
+whole-root-requires : tie.Need-whole-root-requires
+whole-root-requires c κs = search needs
+
+extend-requires : tie.Need-extend-requires
+extend-requires c κs = search needs
+
+add-result : tie.Need-add-result
+add-result c = search needs
+
+returns : tie.Need-returns
+returns c = near-up (c .before .before .before .extend .ensures) (search needs) (search needs)
+
+returns-2 : tie.Need-returns-2
+returns-2 c = near-stays (c .before .before .extend .ensures) (search needs) (search needs)
+
+pub near-root-spec : {M : Type 1} → statement M
+near-root-spec = tie.close (tie.spec whole-root-requires extend-requires add-result returns returns-2)

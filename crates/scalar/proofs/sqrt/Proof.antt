@@ -1,0 +1,108 @@
+-- `scalar::sqrt` meets its contract: the special cases by the argument's bits, a normal number by its digits and its exponent's field, a subnormal by
+-- its digits moved up until there are 53. Assumes nothing.
+use mathlib.Core.Path.{_≡_, sym, ap, _∙_}
+use Prim.Native.Nat.{ℕ, _-_, _%_, _^_, _<_}
+use native.Mathlib.Omega.{arith}
+use lib.Count.{leadingZeros, leading-le}
+use lib.Ieee.{binary64, ofBits, toBits}
+use lib.Ieee.Bits.{ofBits-toBits, toBits-lt}
+use denote.Floats.{passes}
+use borrow.Author.Needs.{needs}
+use Rattle.model.specs.Root.{roundRoot}
+use Rattle.model.proofs.Root.{sqrt-at-nan, sqrt-at-zero, sqrt-at-minus-zero, sqrt-at-top, sqrt-at-negative, sqrt-at-low, sqrt-at-normal}
+use Rattle.scalar.proofs.Leaves.{nan-made, is-nan, no-nan}
+use Rattle.scalar.proofs.Steps.{Moved, moved}
+use Rattle.scalar.proofs.sqrt.Statement.{statement}
+use Rattle.scalar.proofs.sqrt.Tie as tie
+
+-- the argument is what its own bits stand for
+back : (c : tie.Start) → c .args .x ≡ ofBits binary64 (toBits binary64 (c .args .x))
+back c = sym (ofBits-toBits binary64 (c .args .x) (passes _ (c .good .0 .1)))
+
+wide : (c : tie.Start) → toBits binary64 (c .args .x) < 2 ^ 64
+wide c = toBits-lt binary64 (c .args .x) (passes _ (c .good .0 .1))
+
+-- a subnormal's digits
+abbrev low : tie.Then6 → ℕ
+low c = toBits binary64 (c .before .before .before .before .before .before .args .x) % 2 ^ 52
+
+up : (c : tie.Then6) → Moved (low c) (leadingZeros 64 (low c) - 11)
+up c = moved _ (omega arith) (omega arith)
+
+returns : tie.Need-returns
+returns c = sqrt-at-nan (is-nan _ (c .if1 .taken))
+
+float-to-bits-b : tie.Need-float-to-bits-b
+float-to-bits-b c = no-nan _ (c .if1 .left)
+
+returns-2 : tie.Need-returns-2
+returns-2 c = sqrt-at-zero (back (c .before .before) ∙ ap (ofBits binary64) (c .if2 .taken))
+
+returns-3 : tie.Need-returns-3
+returns-3 c = sqrt-at-minus-zero (back (c .before .before .before) ∙ ap (ofBits binary64) (c .if3 .taken))
+
+returns-4 : tie.Need-returns-4
+returns-4 c =
+    let at = c .before .before .before .before in
+    nan-made ∙ sym (sqrt-at-negative _ _ (back at) (c .if4 .taken) (wide at))
+
+returns-5 : tie.Need-returns-5
+returns-5 c = sqrt-at-top _ _ (back (c .before .before .before .before .before)) (c .if5 .taken) (omega arith)
+
+cast-s : tie.Need-cast-s
+cast-s c = omega (arith, leading-le 64 (low c))
+
+sub-s : tie.Need-sub-s
+sub-s c = up c .some
+
+shl-scaled : tie.Need-shl-scaled
+shl-scaled c = omega (arith, up c .few)
+
+sub-scaled : tie.Need-sub-scaled
+sub-scaled c = omega (arith, up c .few)
+
+scaled-requires : tie.Need-scaled-requires
+scaled-requires c κs = record { from = up c .from; to = up c .to; exponent = omega arith }
+
+add-scaled : tie.Need-add-scaled
+add-scaled c = search needs
+
+add-scaled-2 : tie.Need-add-scaled-2
+add-scaled-2 c = search needs
+
+scaled-requires-2 : tie.Need-scaled-requires-2
+scaled-requires-2 c κs = search needs
+
+returns-6 : tie.Need-returns-6
+returns-6 c =
+    let at = c .before in
+    c .scaled .ensures
+    ∙ ap roundRoot (up at .root)
+    ∙ sym (sqrt-at-low _ _ (back (at .before .before .before .before .before .before)) (omega arith) (at .if6 .taken))
+
+returns-7 : tie.Need-returns-7
+returns-7 c =
+    let at = c .before in
+    c .scaled2 .ensures
+    ∙ sym (sqrt-at-normal _ _ (back (at .before .before .before .before .before .before)) (at .before .if5 .left) (at .if6 .left))
+
+pub sqrt-spec : {M : Type 1} → statement M
+sqrt-spec =
+    tie.close
+    (tie.spec
+    returns
+    float-to-bits-b
+    returns-2
+    returns-3
+    returns-4
+    returns-5
+    cast-s
+    sub-s
+    shl-scaled
+    sub-scaled
+    scaled-requires
+    add-scaled
+    add-scaled-2
+    scaled-requires-2
+    returns-6
+    returns-7)

@@ -1,0 +1,2 @@
+-- What the steps of the square root give, and what they ask.
+pub mod Steps

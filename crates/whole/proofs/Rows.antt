@@ -1,0 +1,167 @@
+-- A row below a panel, cut at a column that is not before the panel's end: the cut goes through the panel's steps and through the later-panel rule.
+-- A head row i is cut at i + 1, a tail row at ncol. Assumes nothing.
+use Prim.Native.Nat.{ℕ, zero, suc, _+_, _-_, _<_, _≤_}
+use mathlib.Core.Path.{_≡_, refl, sym, _∙_, ap, fun-ext}
+use native.Mathlib.Omega.{arith}
+use borrow.Author.Tests.{lt-ltb, le-ltb, ne-eqb, eqb-true, ltb-true, ltb-false}
+use lib.Dec.{ltb}
+use lib.Ieee.{Float}
+use Rattle.model.specs.Scalar.{_⊗_, zeroF}
+use Rattle.model.specs.Matrix.{Row, Mat, headOf, rowOf, exchangedPlace}
+use Rattle.model.specs.Step.{Step, one, two, rowAfterStep, Pivots, begins, pastOf, stepAt, rowAfterSteps}
+use Rattle.model.specs.Panel.{Panel, timesD, sumFrom, accOf, rowDeferred, rowAfterPanel}
+use Rattle.model.proofs.Cases.{test}
+use Rattle.whole.proofs.Masked.{ranged, within-past, head-at, head-up, place-under, one-alike, two-alike, one-past, two-past}
+use Rattle.whole.proofs.Steps.{Inside}
+
+-- ---- a row cut at column e
+
+pub row-at : (e : ℕ) (r : Row) (j : ℕ) → j < e → rowOf e r j ≡ r j
+unfolding rowOf
+row-at e r j h = rw (lt-ltb j e h)
+
+pub row-past : (e : ℕ) (r : Row) (j : ℕ) → e ≤ j → rowOf e r j ≡ zeroF
+unfolding rowOf
+row-past e r j h = rw (le-ltb j e h)
+
+-- s is r cut at e
+pub is-row : (e : ℕ) (r s : Row) → ((j : ℕ) → j < e → s j ≡ r j) → ((j : ℕ) → e ≤ j → s j ≡ zeroF) → s ≡ rowOf e r
+is-row e r s f g =
+    fun-ext λ j. test (ltb j e)
+    (λ t. let h = ltb-true j e t in f j h ∙ sym (row-at e r j h))
+    (λ t. let h = ltb-false j e t in g j h ∙ sym (row-past e r j h))
+
+-- the head's row i
+pub head-row : (c : ℕ) (a : Mat) (i : ℕ) → i < c → headOf c a i ≡ rowOf (i + 1) (a i)
+head-row c a i h = is-row (i + 1) (a i) (headOf c a i) (λ j l. head-at c a i j (omega arith) h) (λ j l. head-up c a i j (omega arith))
+
+-- ---- a step
+
+-- a place past both stays
+place-past : (p q lim i : ℕ) → p < lim → q < lim → lim ≤ i → exchangedPlace p q i ≡ i
+place-past p q lim i hp hq h = rw (ne-eqb i p (λ x. omega arith), ne-eqb i q (λ x. omega arith))
+
+-- its columns and its partner stand before ke
+abbrev Before : ℕ → Step → Type 0
+Before ke (one k kp d m) = (k < ke) × (kp < ke)
+Before ke (two k kp b m1 m2) = (k + 1 < ke) × (kp < ke)
+
+step-before : (ke : ℕ) (p : Pivots) (m : Mat) (k : ℕ) → Inside ke p → k < ke → Before ke (stepAt p m k)
+unfolding stepAt
+step-before ke p m k w h =
+    test (begins (p .blocks) k)
+    (λ t. rw t (w .pair k (eqb-true (p .blocks k) 1 t), w .partner k))
+    (λ t. rw t (h, w .partner k))
+
+step-past : (ke : ℕ) (s : Step) (r : Row) (j : ℕ) → Before ke s → ke ≤ j → rowAfterStep ke s r j ≡ r j
+unfolding rowAfterStep
+step-past ke (one k kp d m) r j w h =
+    one-past k kp ke d m (λ b. r (exchangedPlace k kp b)) j (w .0) h ∙ ap r (place-past k kp ke j (w .0) (w .1) h)
+step-past ke (two k kp b m1 m2) r j w h =
+    two-past k kp ke b m1 m2 (λ b. r (exchangedPlace (k + 1) kp b)) j (w .0) h ∙ ap r (place-past (k + 1) kp ke j (w .0) (w .1) h)
+
+-- at a column before e it sees no column from e on
+step-alike : (ke e : ℕ) (s : Step) (r q : Row) (j : ℕ) → Before ke s → ke ≤ e → j < e → ((b : ℕ) → b < e → r b ≡ q b)
+    → rowAfterStep ke s r j ≡ rowAfterStep ke s q j
+unfolding rowAfterStep
+step-alike ke e (one k kp d m) r q j w h l f =
+    let hp : kp < ke = w .1 in
+    let hk : k < ke = w .0 in
+    let x : (b : ℕ) → b < e → r (exchangedPlace k kp b) ≡ q (exchangedPlace k kp b) =
+    λ b z. f (exchangedPlace k kp b) (place-under k kp e b (omega arith) (omega arith) z) in
+    one-alike k kp kp ke d m m (λ b. r (exchangedPlace k kp b)) (λ b. q (exchangedPlace k kp b)) j (x k (omega arith)) (x j l) (λ y z. refl)
+step-alike ke e (two k kp b m1 m2) r q j w h l f =
+    let hp : kp < ke = w .1 in
+    let hk : k + 1 < ke = w .0 in
+    let x : (b : ℕ) → b < e → r (exchangedPlace (k + 1) kp b) ≡ q (exchangedPlace (k + 1) kp b) =
+    λ b z. f (exchangedPlace (k + 1) kp b) (place-under (k + 1) kp e b (omega arith) (omega arith) z) in
+    two-alike k kp kp ke b m1 m2 m1 m2 (λ b. r (exchangedPlace (k + 1) kp b)) (λ b. q (exchangedPlace (k + 1) kp b)) j
+    (x k (omega arith)) (x (k + 1) (omega arith)) (x j l) (λ y z. refl) (λ y z. refl)
+
+step-cut : (ke e : ℕ) (s : Step) (r : Row) → Before ke s → ke ≤ e → rowAfterStep ke s (rowOf e r) ≡ rowOf e (rowAfterStep ke s r)
+step-cut ke e s r w h =
+    is-row e (rowAfterStep ke s r) (rowAfterStep ke s (rowOf e r))
+    (λ j l. step-alike ke e s (rowOf e r) r j w h l (λ b z. row-at e r b z))
+    (λ j l. step-past ke s (rowOf e r) j w (omega arith) ∙ row-past e r j l)
+
+-- ---- the panel's steps in turn
+
+module _ (p : Pivots) (m : Mat) (ke : ℕ) (w : Inside ke p) where
+  -- columns from ke on stay
+  pub steps-past : (n k : ℕ) (r : Row) (j : ℕ) → ke ≤ j → rowAfterSteps p m ke n k r j ≡ r j
+  unfolding rowAfterSteps
+  steps-past zero k r j h = refl
+  steps-past (suc n) k r j h =
+      test (ltb k ke)
+      (λ t. rw t (steps-past n (pastOf (p .blocks) k) (rowAfterStep ke (stepAt p m k) r) j h
+      ∙ step-past ke (stepAt p m k) r j (step-before ke p m k w (ltb-true k ke t)) h))
+      (λ t. rw t)
+
+  pub steps-cut : (n k e : ℕ) (r : Row) → ke ≤ e → rowAfterSteps p m ke n k (rowOf e r) ≡ rowOf e (rowAfterSteps p m ke n k r)
+  unfolding rowAfterSteps
+  steps-cut zero k e r h = refl
+  steps-cut (suc n) k e r h =
+      test (ltb k ke)
+      (λ t. rw (t, step-cut ke e (stepAt p m k) r (step-before ke p m k w (ltb-true k ke t)) h)
+      (steps-cut n (pastOf (p .blocks) k) e (rowAfterStep ke (stepAt p m k) r) h))
+      (λ t. rw t)
+
+-- ---- the later-panel rule
+
+sum-alike : (f g : Row) (c n : ℕ) (acc : Float) → ((k : ℕ) → c ≤ k → k < c + n → f k ≡ g k) → sumFrom f c n acc ≡ sumFrom g c n acc
+unfolding sumFrom
+sum-alike f g c zero acc h = refl
+sum-alike f g c (suc n) acc h = rw (h c (omega arith) (omega arith)) (sum-alike f g (c + 1) n _ (λ k x y. h k (omega arith) (omega arith)))
+
+-- L·D before ke sees no column from ke on
+timesD-alike : (ke : ℕ) (p : Pivots) (r s : Row) (c : ℕ) → Inside ke p → c < ke → ((b : ℕ) → b < ke → r b ≡ s b) → timesD p r c ≡ timesD p s c
+unfolding timesD
+timesD-alike ke p r s c w h f =
+    test (begins (p .blocks) c)
+    (λ t. rw (t, f c h, f (c + 1) (w .pair c (eqb-true (p .blocks c) 1 t))))
+    (λ t. rw (t, f c h, f (c - 1) (omega arith)))
+
+-- acc is a sum over the panel's columns
+acc-alike : (p : Panel) (l q m n : Row) → Inside (p .ke) (p .pivots) → ((b : ℕ) → b < p .ke → l b ≡ q b) → ((b : ℕ) → b < p .ke → m b ≡ n b)
+    → accOf p l m ≡ accOf p q n
+acc-alike p l q m n w f g =
+    sum-alike (λ k. timesD (p .pivots) l k ⊗ m k) (λ k. timesD (p .pivots) q k ⊗ n k) (p .kb) (p .ke - p .kb) zeroF
+    (λ k x y. let h : k < p .ke = omega arith in rw (timesD-alike (p .ke) (p .pivots) l q k w h f, g k h))
+
+-- columns from `end` on stay
+pub deferred-past : (p : Panel) (end : ℕ) (l : Row) (j : ℕ) → end ≤ j → rowDeferred p end l j ≡ l j
+unfolding rowDeferred
+deferred-past p end l j h = rw (within-past (p .ke) end j h)
+
+-- at a column before `end` it sees the row before `end`, and of the rows below those before `end` in the panel's columns
+pub deferred-alike : (p : Panel) (b : Mat) (end : ℕ) (l q : Row) (j : ℕ) → Inside (p .ke) (p .pivots) → p .ke ≤ end → j < end
+    → ((c : ℕ) → c < end → l c ≡ q c) → ((c k : ℕ) → p .ke ≤ c → c < end → k < p .ke → p .below c k ≡ b c k)
+    → rowDeferred p end l j ≡ rowDeferred (record { kb = p .kb; ke = p .ke; pivots = p .pivots; mult = p .mult; below = b }) end q j
+unfolding rowDeferred
+deferred-alike p b end l q j w h e f g =
+    rw (f j e) (ranged (p .ke) end j
+    (λ x y t. rw (t, acc-alike p l q (p .below j) (b j) w (λ c z. f c (omega arith)) (λ k z. g j k x y z)))
+    (λ t. rw t))
+
+pub deferred-cut : (p : Panel) (end : ℕ) (l : Row) → Inside (p .ke) (p .pivots) → p .ke ≤ end
+    → rowDeferred p end (rowOf end l) ≡ rowOf end (rowDeferred p end l)
+deferred-cut p end l w h =
+    is-row end (rowDeferred p end l) (rowDeferred p end (rowOf end l))
+    (λ j e. deferred-alike p (p .below) end (rowOf end l) l j w h e (λ c z. row-at end l c z) (λ c k x y z. refl))
+    (λ j e. deferred-past p end (rowOf end l) j e ∙ row-past end l j e)
+
+-- ---- the panel whole
+
+pub panel-cut : (p : Panel) (end : ℕ) (r : Row) → Inside (p .ke) (p .pivots) → p .ke ≤ end
+    → rowAfterPanel p end (rowOf end r) ≡ rowOf end (rowAfterPanel p end r)
+unfolding rowAfterPanel
+panel-cut p end r w h =
+    ap (λ (l : Row). rowDeferred p end l) (steps-cut (p .pivots) (p .mult) (p .ke) w (p .ke - p .kb) (p .kb) end r h)
+    ∙ deferred-cut p end (rowAfterSteps (p .pivots) (p .mult) (p .ke) (p .ke - p .kb) (p .kb) r) w h
+
+-- columns past the panel and from `end` on stay
+pub panel-past : (p : Panel) (end : ℕ) (r : Row) (j : ℕ) → Inside (p .ke) (p .pivots) → p .ke ≤ j → end ≤ j → rowAfterPanel p end r j ≡ r j
+unfolding rowAfterPanel
+panel-past p end r j w h l =
+    deferred-past p end (rowAfterSteps (p .pivots) (p .mult) (p .ke) (p .ke - p .kb) (p .kb) r) j l
+    ∙ steps-past (p .pivots) (p .mult) (p .ke) w (p .ke - p .kb) (p .kb) r j h

@@ -1,0 +1,160 @@
+-- A panel's steps in turn: the cut to the head goes through them; they keep the positions above the diagonal and the rows below the panel; and the partners
+-- and blocks that they note stand inside it. Assumes nothing.
+use Prim.Native.Nat.{ℕ, zero, suc, _+_, _<_, _≤_}
+use mathlib.Core.Path.{_≡_, refl, _∙_, ap, subst}
+use mathlib.Core.Logic.{_⊎_, ⊎-elim}
+use mathlib.Core.Bool.{Bool, true, false}
+use native.Mathlib.Omega.{arith}
+use borrow.Author.Tests.{eqb-true, ltb-true}
+use lib.Dec.{ltb, eqb}
+use Rattle.model.specs.Matrix.{Mat, put, exchanged}
+use Rattle.model.specs.Choice.{Choice, zeroColumn, single, block, chooseOf}
+use Rattle.model.specs.Step.{Pivots}
+use Rattle.model.specs.Head.{SettledOne, oneRefused, oneIs, settledOne, SettledTwo, twoRefused, twoIs, settledTwo, afterOne, afterTwo, tryBy, tryOf}
+use Rattle.model.specs.Head.{State, Tried, refusedAt, took, lastOf, byteOf, noted, Progress, stopped, going, after, panelOf}
+use Rattle.model.specs.Factor.{start}
+use Rattle.model.specs.declared.Mode.{Mode}
+use Rattle.model.specs.declared.Mode.the-variants.{Fail, Lift}
+use Rattle.model.specs.declared.Pivot.{Pivot}
+use Rattle.model.proofs.Bounds.{GoodPivot, Good, try-good}
+use Rattle.model.proofs.Cases.{test}
+use Rattle.whole.specs.Whole.{cutState, cutTried, cutProgress}
+use Rattle.whole.proofs.Masked.{exchanged-up, exchanged-past, headOne-up, headOne-past, headTwo-up, headTwo-past}
+use Rattle.whole.proofs.Tried.{blockIn, try-masked}
+
+-- the state after a pivot at k
+abbrev pub stepped : State → ℕ → Pivot → Mat → Mat → State
+stepped s k v a m = record { a = a; mult = m; pivots = noted (s .pivots) k (lastOf k (v .two)) v; rounds = s .rounds + v .rounds }
+
+-- ---- the cut goes through them
+
+module _ (c : ℕ) (s : State) (k : ℕ) (f : ℕ → State → Progress) (h : (j : ℕ) (u : State) → f j (cutState c u) ≡ cutProgress c (f j u)) where
+  after-masked : (t : Tried) → after (cutTried c t) (cutState c s) k f ≡ cutProgress c (after t s k f)
+  unfolding cutState
+  after-masked (refusedAt n p) = refl
+  after-masked (took v a m) = h (lastOf k (v .two) + 1) (stepped s k v a m)
+
+  step-masked : (ke : ℕ) (mode : Mode) (limit : ℕ) → ke ≤ c → k < ke
+      → after (tryOf ke (cutState c s .a) (cutState c s .mult) mode limit k) (cutState c s) k f
+      ≡ cutProgress c (after (tryOf ke (s .a) (s .mult) mode limit k) s k f)
+  unfolding cutState
+  step-masked ke mode limit hc hk =
+      ap (λ (t : Tried). after t (cutState c s) k f) (try-masked c ke (s .a) (s .mult) hc mode limit k hk)
+      ∙ after-masked (tryOf ke (s .a) (s .mult) mode limit k)
+
+pub panel-masked : (c ke : ℕ) (mode : Mode) (limit n k : ℕ) (s : State) → ke ≤ c
+    → panelOf ke mode limit n k (cutState c s) ≡ cutProgress c (panelOf ke mode limit n k s)
+unfolding panelOf
+panel-masked c ke mode limit zero k s hc = refl
+panel-masked c ke mode limit (suc n) k s hc =
+    test (ltb k ke)
+    (λ t. rw t (step-masked c s k (panelOf ke mode limit n) (λ j u. panel-masked c ke mode limit n j u hc) ke mode limit hc (ltb-true k ke t)))
+    (λ t. rw t)
+
+-- ---- what every step keeps, the panel keeps
+
+-- of the state that a panel's steps reach
+abbrev pub Went : (State → Type 0) → Progress → Type 0
+Went P (stopped n p) = Unit {0}
+Went P (going k s) = P s
+
+module _ (ke : ℕ) (mode : Mode) (limit : ℕ) (P : State → Type 0)
+    (step : (s : State) (k : ℕ) (v : Pivot) (a m : Mat) → k < ke → tryOf ke (s .a) (s .mult) mode limit k ≡ took v a m → P s → P (stepped s k v a m)) where
+  after-went : (s : State) (k : ℕ) (f : ℕ → State → Progress) → ((j : ℕ) (u : State) → P u → Went P (f j u)) → k < ke → P s
+      → (t : Tried) → tryOf ke (s .a) (s .mult) mode limit k ≡ t → Went P (after t s k f)
+  after-went s k f h hk p (refusedAt n q) e = tt
+  after-went s k f h hk p (took v a m) e = h (lastOf k (v .two) + 1) (stepped s k v a m) (step s k v a m hk e p)
+
+  pub panel-went : (n k : ℕ) (s : State) → P s → Went P (panelOf ke mode limit n k s)
+  unfolding panelOf
+  panel-went zero k s p = p
+  panel-went (suc n) k s p =
+      test (ltb k ke)
+      (λ t. rw t (after-went s k (panelOf ke mode limit n) (panel-went n) (ltb-true k ke t) p (tryOf ke (s .a) (s .mult) mode limit k) refl))
+      (λ t. rw t p)
+
+-- ---- the positions that no step of a panel touches
+
+-- above the diagonal, or in a row from ke on
+abbrev pub Untouched : ℕ → ℕ → ℕ → Type 0
+Untouched ke i j = (i < j) ⊎ (ke ≤ i)
+
+-- of a step on a
+abbrev pub Keeps : ℕ → Mat → Tried → Type 0
+Keeps ke a (refusedAt n p) = Unit {0}
+Keeps ke a (took v b m) = (i j : ℕ) → Untouched ke i j → b i j ≡ a i j
+
+module _ (ke : ℕ) (a m : Mat) where
+  one-keeps : (k kp : ℕ) (s : SettledOne) → k < ke → Keeps ke a (afterOne ke a m k kp s)
+  one-keeps k kp (oneRefused n) hk = tt
+  one-keeps k kp (oneIs d lifted amount) hk = λ i j.
+      ⊎-elim (λ h. headOne-up ke k d (exchanged k kp ke a) i j h ∙ exchanged-up k kp ke a i j h)
+      (λ h. headOne-past ke k d (exchanged k kp ke a) i j (omega arith) h ∙ exchanged-past k kp ke a i j h)
+
+  two-keeps : (k kp : ℕ) (s : SettledTwo) → Keeps ke a (afterTwo ke a m k kp s)
+  two-keeps k kp (twoRefused n) = tt
+  two-keeps k kp (twoIs b lifted amount rounds) = λ i j.
+      ⊎-elim (λ h. headTwo-up ke k b (exchanged (k + 1) kp ke a) i j h ∙ exchanged-up (k + 1) kp ke a i j h)
+      (λ h. headTwo-past ke k b (exchanged (k + 1) kp ke a) i j h ∙ exchanged-past (k + 1) kp ke a i j h)
+
+  by-keeps : (mode : Mode) (limit k : ℕ) (o : Choice) → k < ke → Keeps ke a (tryBy ke a m mode limit k o)
+  by-keeps Fail limit k zeroColumn hk = tt
+  by-keeps (Lift floor) limit k zeroColumn hk = one-keeps k k (settledOne (Lift floor) (a k k)) hk
+  by-keeps Fail limit k (single kp) hk = one-keeps k kp (settledOne Fail (a kp kp)) hk
+  by-keeps (Lift floor) limit k (single kp) hk = one-keeps k kp (settledOne (Lift floor) (a kp kp)) hk
+  by-keeps Fail limit k (block kp) hk = two-keeps k kp (settledTwo Fail limit (blockIn (exchanged (k + 1) kp ke a) k))
+  by-keeps (Lift floor) limit k (block kp) hk = two-keeps k kp (settledTwo (Lift floor) limit (blockIn (exchanged (k + 1) kp ke a) k))
+
+  pub try-keeps : (mode : Mode) (limit k : ℕ) → k < ke → Keeps ke a (tryOf ke a m mode limit k)
+  unfolding tryOf
+  try-keeps mode limit k hk = by-keeps mode limit k (chooseOf a k ke) hk
+
+-- t has kept what s had there
+abbrev pub Kept : ℕ → State → State → Type 0
+Kept ke s t = (i j : ℕ) → Untouched ke i j → t .a i j ≡ s .a i j
+
+pub panel-keeps : (ke : ℕ) (mode : Mode) (limit n k : ℕ) (s : State) → Went (Kept ke s) (panelOf ke mode limit n k s)
+panel-keeps ke mode limit n k s =
+    panel-went ke mode limit (Kept ke s)
+    (λ t k v a m hk e p i j u. subst (λ (o : Tried). Keeps ke (t .a) o) e (try-keeps ke (t .a) (t .mult) mode limit k hk) i j u ∙ p i j u) n k s (λ i j u. refl)
+
+-- ---- what is noted
+
+-- every partner and every block stands before ke
+pub record Inside (ke : ℕ) (p : Pivots) : Type 0 where
+  pub partner : (j : ℕ) → p .partners j < ke
+  pub pair : (j : ℕ) → p .blocks j ≡ 1 → j + 1 < ke
+
+pub inside-more : (ke kf : ℕ) (p : Pivots) → ke ≤ kf → Inside ke p → Inside kf p
+inside-more ke kf p h w = record { partner = λ j. omega (arith, w .partner j); pair = λ j e. omega (arith, w .pair j e) }
+
+-- with nothing noted
+pub start-inside : (ncol : ℕ) (a : Mat) → Inside 1 (start ncol a .pivots)
+unfolding start
+start-inside ncol a = record { partner = λ j. omega arith; pair = λ j e. let z : _≡_ {A = ℕ} 0 1 = e in omega arith }
+
+wide : (b : Bool) → byteOf b ≡ 1 → b ≡ true
+wide true e = refl
+wide false e = let z : _≡_ {A = ℕ} 0 1 = e in let n : ⊥ = omega arith in absurd n
+
+last-wide : (k : ℕ) (b : Bool) → b ≡ true → lastOf k b ≡ k + 1
+unfolding lastOf
+last-wide k b e = rw e
+
+noted-inside : (ke limit k : ℕ) (p : Pivots) (v : Pivot) → GoodPivot ke limit k v → Inside ke p → Inside ke (noted p k (lastOf k (v .two)) v)
+unfolding noted put
+noted-inside ke limit k p v g w =
+    record {
+      partner = λ j. test (eqb j k) (λ t. rw t (g .row)) (λ t. rw t (w .partner j));
+      pair = λ j. test (eqb j k)
+          (λ t. rw t (λ e. omega (arith, eqb-true j k t, last-wide k (v .two) (wide (v .two) e), g .last)))
+          (λ t. rw t (test (eqb j (lastOf k (v .two)))
+          (λ u. rw u (λ e. let z : _≡_ {A = ℕ} 0 1 = e in omega arith))
+          (λ u. rw u (w .pair j))));
+    }
+
+pub panel-inside : (ke : ℕ) (mode : Mode) (limit n k : ℕ) (s : State) → Inside ke (s .pivots) → Went (λ t. Inside ke (t .pivots)) (panelOf ke mode limit n k s)
+panel-inside ke mode limit n k s w =
+    panel-went ke mode limit (λ t. Inside ke (t .pivots))
+    (λ t k v a m hk e p. let g : GoodPivot ke limit k v = subst (λ (o : Tried). Good ke limit k o) e (try-good ke (t .a) (t .mult) mode limit k hk) in
+    noted-inside ke limit k (t .pivots) v g p) n k s w
