@@ -12,7 +12,7 @@ impl Rng {
         Rng(seed)
     }
 
-    fn next(&mut self) -> u64 {
+    pub fn next(&mut self) -> u64 {
         self.0 = self.0.wrapping_add(0x9E37_79B9_7F4A_7C15);
         let z = (self.0 ^ (self.0 >> 30)).wrapping_mul(0xBF58_476D_1CE4_E5B9);
         let z = (z ^ (z >> 27)).wrapping_mul(0x94D0_49BB_1331_11EB);
@@ -20,16 +20,16 @@ impl Rng {
     }
 
     /// A number from lo to hi, both included.
-    fn within(&mut self, lo: usize, hi: usize) -> usize {
+    pub fn within(&mut self, lo: usize, hi: usize) -> usize {
         lo + (self.next() % (hi - lo + 1) as u64) as usize
     }
 
     /// True once in n.
-    fn once_in(&mut self, n: usize) -> bool {
+    pub fn once_in(&mut self, n: usize) -> bool {
         self.within(1, n) == 1
     }
 
-    fn one_of<T: Copy>(&mut self, of: &[T]) -> T {
+    pub fn one_of<T: Copy>(&mut self, of: &[T]) -> T {
         of[self.within(0, of.len() - 1)]
     }
 }
@@ -72,6 +72,12 @@ fn number(rng: &mut Rng, kind: Kind) -> f64 {
         Kind::Huge => spread(rng, 1530, 2046),
         Kind::Zeros => rng.one_of(&[0.0, -0.0, 0.0, -0.0, 1.0]),
     }
+}
+
+/// A finite number of any kind.
+pub fn any_number(rng: &mut Rng) -> f64 {
+    let kind = rng.one_of(&KINDS);
+    number(rng, kind)
 }
 
 fn not_finite(rng: &mut Rng) -> f64 {
@@ -174,6 +180,21 @@ fn factor(rng: &mut Rng, bounds: Bounds) -> Factor {
         spoil(rng, &mut f);
     }
     f
+}
+
+/// A large node, the `i`-th of its run: up to 128 columns and 1,024 rows, panel
+/// widths in turn, numbers that are accepted as a rule; blocks in every third.
+pub fn large(rng: &mut Rng, i: usize) -> Factor {
+    let nb = [1, 7, 32, 64][i % 4];
+    let ncol = if i < 8 { 128 } else { rng.within(1, 128) };
+    let nrow = if i < 4 { 1024 } else { rng.within(ncol, 1024) };
+    let kind = rng.one_of(&[Kind::Rough, Kind::Rough, Kind::Wide, Kind::Quarters]);
+    let mut panel: Vec<f64> = (0..ncol * nrow).map(|_| number(rng, kind)).collect();
+    if rng.once_in(3) {
+        (0..ncol).for_each(|k| panel[k + k * nrow] = 0.0);
+    }
+    let mode = if rng.once_in(2) { Mode::Fail } else { Mode::Lift(rng.one_of(&[1e-8, 0.125, 2.0])) };
+    Factor { settings: Settings { ncol, nrow, nb, mode, limit: rng.one_of(&[1, 3, 64]) }, panel, lengths: None }
 }
 
 /// At most 16 entries: the reference's sort keeps the order of equal places in
@@ -297,14 +318,7 @@ fn inertia(rng: &mut Rng, bounds: Bounds) -> Inertia {
 
 fn leaf(rng: &mut Rng) -> Leaf {
     let name = rng.one_of(&["sqrt", "magnitude", "square", "maximum", "reciprocal", "lift"]);
-    let mut any = || {
-        let kind = rng.one_of(&KINDS);
-        if rng.once_in(12) {
-            not_finite(rng)
-        } else {
-            number(rng, kind)
-        }
-    };
+    let mut any = || if rng.once_in(12) { not_finite(rng) } else { any_number(rng) };
     let (a, b) = (any(), any());
     // A lift's floor has no sign. Of zeros of unlike sign the Rust's maximum
     // may be either.

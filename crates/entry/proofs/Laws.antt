@@ -12,14 +12,13 @@ use mir.Syntax.{w64}
 use mir.Val.{Fits}
 use Rattle.model.specs.Scalar.{zeroF, isFinite}
 use Rattle.model.specs.Matrix.{view}
-use Rattle.model.specs.Answer.{Said, refused, Check, sound, stop, orElse, turnedAway}
-use Rattle.model.specs.Factor.{Buffers, shapeSound, lengthsSound, modeCheck, columnsCheck, settingsCheck, entryCheck, Outcome, afterCheck, factorOf}
+use Rattle.model.specs.Answer.{sound, stop, turnedAway}
+use Rattle.model.specs.Factor.{Buffers, shapeSound, lengthsSound, modeCheck, columnsCheck, settingsCheck, entryCheck, factorOf}
 use Rattle.model.specs.declared.Mode.{Mode}
 use Rattle.model.specs.declared.Mode.the-variants.{Fail, Lift}
 use Rattle.model.specs.declared.Settings.{Settings}
 use Rattle.model.specs.declared.Report.{Report}
 use Rattle.model.specs.declared.Refusal.{Refusal}
-use Rattle.model.specs.declared.Refusal.the-variants as refusal
 use Rattle.model.proofs.Cases.{and-left, and-right}
 use Rattle.model.proofs.Entry.{first-sound, second-sound, not-refused}
 use Rattle.scan.specs.Finite.{checkOf, PanelPre}
@@ -27,7 +26,8 @@ use Rattle.scan.specs.declared.Scan.{Scan}
 use Rattle.entry.specs.declared.Lengths.{Lengths}
 use Rattle.entry.specs.declared.Entry.{Entry}
 use Rattle.entry.specs.declared.Entry.the-variants.{Sound, Refused}
-use Rattle.entry.specs.Entry.{stopOf, entrySays, lengthsOf, lengthsHold, settingsCheckOver, entryCheckOver, LengthsPre}
+use Rattle.entry.specs.Entry.{entrySays, lengthsOf, lengthsHold, settingsCheckOver, entryCheckOver, LengthsPre}
+use Rattle.entry.proofs.Refusals.{turned, check-passes, check-stops, first-refuses, second-decides}
 
 -- ---- the stated lengths fit a machine word
 
@@ -119,60 +119,17 @@ settings-panel c n e len h s l =
       panel = sym l ∙ eqb-true (n .input) (c .nrow * c .ncol) (search and-left);
     }
 
--- ---- a refusal's number and place, whatever the call accepts with
-
--- a check that stops the call, as the call says it; of a sound one it is never asked
-saidOf : {A : Type 0} → Check → Said A
-saidOf sound = refused 0 0 0
-saidOf (stop n p q) = refused n p q
-
--- every refusal is said so
-turned : {A : Type 0} (r : Refusal) → turnedAway {A = A} r ≡ saidOf (stopOf (turnedAway r))
-unfolding saidOf
-turned refusal.Shape = refl
-turned refusal.Width = refl
-turned refusal.Length = refl
-turned refusal.Floor = refl
-turned refusal.Limit = refl
-turned (refusal.Input column row) = refl
-turned (refusal.ZeroPivot at) = refl
-turned (refusal.Rounds at) = refl
-turned (refusal.NotFinite at) = refl
-turned refusal.AssemblyLength = refl
-turned (refusal.AssemblyPlace at) = refl
-turned (refusal.AssemblyNumber at) = refl
-turned refusal.UpdateLength = refl
-turned refusal.TargetRows = refl
-turned refusal.DescendantRows = refl
-turned (refusal.BlockByte at) = refl
-turned (refusal.AbsentRow at) = refl
-turned (refusal.DescendantNumber at) = refl
-turned refusal.InertiaLength = refl
-
--- so it stops the call: what is checked after it plays no part
-first-stops : (k rest : Check) → k ≡ stopOf (saidOf k) → k ≡ orElse k rest
-unfolding saidOf
-first-stops sound rest e = let z : _≡_ {A = ℕ} 0 1 = cc in absurd (omega arith)
-first-stops (stop n p q) rest e = refl
-
-after-stop : (k : Check) (o : Outcome) (b : Buffers) → k ≡ stopOf (saidOf k) → afterCheck k o b ≡ record { answer = saidOf k; buffers = b }
-unfolding saidOf
-after-stop sound o b e = let z : _≡_ {A = ℕ} 0 1 = cc in absurd (omega arith)
-after-stop (stop n p q) o b e = refl
-
 -- ---- 1 to 5, then 6: e is what the first five say
 
 module _ (c : Settings) (n : Lengths) (input : List Float) (e : Entry) (h : entrySays e ≡ settingsCheckOver c n) where
   pub check-refused : (r : Refusal) → e ≡ Refused r → entrySays e ≡ entryCheckOver c n input
   unfolding entryCheckOver
-  check-refused r x =
-      let own : stopOf (turnedAway r) ≡ settingsCheckOver c n = sym (ap entrySays x) ∙ h in
-      rw (x, ← own) (first-stops (stopOf (turnedAway r)) _ (ap stopOf (turned r)))
+  check-refused r x = first-refuses e r (settingsCheckOver c n) _ x h
 
   pub check-sound : (r : Entry) (f : Scan) → e ≡ Sound → checkOf f ≡ columnsCheck (view (c .nrow) input) (c .nrow) (c .ncol) 0 → entrySays r ≡ checkOf f
       → entrySays r ≡ entryCheckOver c n input
   unfolding entryCheckOver
-  check-sound r f x g k = let own : sound ≡ settingsCheckOver c n = sym (ap entrySays x) ∙ h in rw (← own) (k ∙ g)
+  check-sound r f x g k = second-decides e r (settingsCheckOver c n) _ x h (k ∙ g)
 
 -- ---- the factor call: e is what `check` answers over the lengths of its buffers
 
@@ -184,10 +141,9 @@ module _ (c : Settings) (input : List Float) (b : Buffers) where
 
   module _ (e : Entry) (h : entrySays e ≡ entryCheckOver c (lengthsOf input b) input) where
     pub entry-sound : e ≡ Sound → entryCheck c input b ≡ sound
-    entry-sound x = sym entry-is ∙ sym h ∙ ap entrySays x
+    entry-sound x = check-passes e (entryCheck c input b) x (h ∙ entry-is)
 
     -- a refused call answers the refusal and leaves every buffer as it was
     pub entry-refused : (r : Refusal) → e ≡ Refused r → factorOf c input b ≡ record { answer = turnedAway r; buffers = b }
     unfolding factorOf
-    entry-refused r x =
-        rw (sym entry-is ∙ sym h ∙ ap entrySays x) (after-stop (stopOf (turnedAway r)) _ b (ap stopOf (turned r)) ∙ rw (turned {A = Report} r))
+    entry-refused r x = rw (check-stops e r (entryCheck c input b) x (h ∙ entry-is), turned r .says Report)

@@ -1,2 +1,3 @@
--- Laws of the entry checks.
+-- Laws of refusals and of the entry checks.
+pub mod Refusals
 pub mod Laws

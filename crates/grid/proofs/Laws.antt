@@ -1,15 +1,15 @@
 -- Laws of a panel's offsets and of `view` and `putAt`. Assumes nothing.
-use Prim.Native.Nat.{ℕ, zero, suc, _+_, _-_, _*_, _<_, _≤_, _/_, _%_, _^_}
+use Prim.Native.Nat.{ℕ, zero, _+_, _-_, _*_, _<_, _≤_, _/_, _%_, _^_}
 use mathlib.Core.Path.{_≡_, refl, sym, _∙_, ap, subst, fun-ext}
 use mathlib.Core.Bool.{Bool, true, false, _&&_, cond}
-use mathlib.Core.List.{List, _++_, append-nil}
+use mathlib.Core.List.{List, _++_}
 use native.Mathlib.Nat.{mul-le-mul-right, suc-mul, mul-comm, add-mul-div-right, add-mul-mod-self-right, mod-eq-of-lt, div-eq-of-lt, le-antisymm, div-add-mod'}
 use native.Mathlib.Nat.{mod-lt}
 use native.Mathlib.Omega.{arith}
-use borrow.Author.Tests.{lt-ltb, le-ltb, le-leb, lt-leb, eq-eqb, ne-eqb, eqb-true, eqb-false, ltb-true, ltb-false}
+use borrow.Author.Tests.{lt-ltb, le-ltb, le-leb, lt-leb, eq-eqb, ne-eqb, eqb-true, eqb-false, ltb-true, ltb-false, leb-true}
 use lib.Dec.{ltb, leb, eqb}
-use lib.ListN.{length, getD, set, take, drop, length-drop, drop-of-length-le, List·getD-append}
-use lib.Seq.{getD-set-same, getD-set-other, getD-take, getD-drop, getD-append-add, length-take-le, take-all, ext-getD}
+use lib.ListN.{length, getD, set, take, drop, List·getD-append}
+use lib.Seq.{getD-set-same, getD-set-other, getD-take, getD-drop, getD-append-add, length-take-le, ext-getD}
 use borrow.Rule.Slice.PartMut.{midOf, putMid}
 use lib.Ieee.{Float, nan}
 use mir.Syntax.{w64}
@@ -141,23 +141,14 @@ withColumn-step M P Q j lo i N v h p e q = q ∙ rw (e, p) (withColumn-more M j 
 pub withColumn-end : (M P : Mat) (j lo hi i : ℕ) (N : ℕ → Float) → i ≤ hi → hi ≤ i → P ≡ withColumn M j lo i N → P ≡ withColumn M j lo hi N
 withColumn-end M P j lo hi i N h l p = p ∙ ap (λ (e : ℕ). withColumn M j lo e N) (le-antisymm h l)
 
--- a store in another column
-pub putAt-withColumn : (M : Mat) (j lo hi : ℕ) (N : ℕ → Float) (i k : ℕ) (v : Float) → (k ≡ j → ⊥)
-    → putAt (withColumn M j lo hi N) i k v ≡ withColumn (putAt M i k v) j lo hi N
-unfolding withColumn putAt
-putAt-withColumn M j lo hi N i k v h =
+-- two rules that agree on the part
+pub withColumn-same : (M : Mat) (j lo hi : ℕ) (N O : ℕ → Float) → ((a : ℕ) → lo ≤ a → a < hi → N a ≡ O a) → withColumn M j lo hi N ≡ withColumn M j lo hi O
+unfolding withColumn
+withColumn-same M j lo hi N O h =
     fun-ext λ a. fun-ext λ b.
     test (eqb b j)
-    (λ p. rw (p, eqb-true b j p, ne-eqb j k (λ x. h (sym x)), no (eqb a i)))
-    (λ p. rw p)
-
--- two columns at once: N and O are the two rules, over the matrix as it was
-pub two-columns-more : (M : Mat) (k l lo i : ℕ) (N O : ℕ → Float) → (k ≡ l → ⊥) → lo ≤ i
-    → putAt (putAt (withColumn (withColumn M k lo i N) l lo i O) i k (N i)) i l (O i) ≡ withColumn (withColumn M k lo (i + 1) N) l lo (i + 1) O
-two-columns-more M k l lo i N O d h =
-    ap (λ (P : Mat). putAt P i l (O i)) (putAt-withColumn (withColumn M k lo i N) l lo i O i k (N i) d
-    ∙ ap (λ (P : Mat). withColumn P l lo i O) (withColumn-more M k lo i N h))
-    ∙ withColumn-more (withColumn M k lo (i + 1) N) l lo i O h
+    (λ q. test (leb lo a) (λ r. test (ltb a hi) (λ t. rw (q, r, t) (h a (leb-true lo a r) (ltb-true a hi t))) (λ t. rw (q, r, t))) (λ r. rw (q, r)))
+    (λ q. rw q)
 
 -- ---- vectors
 
@@ -194,7 +185,7 @@ withPart-step f p q lo i N v h e n u = u ∙ rw (n, e) (withPart-more f lo i N h
 pub withPart-end : (f p : ℕ → Float) (lo hi i : ℕ) (N : ℕ → Float) → i ≤ hi → hi ≤ i → p ≡ withPart f lo i N → p ≡ withPart f lo hi N
 withPart-end f p lo hi i N h l e = e ∙ ap (λ (k : ℕ). withPart f lo k N) (le-antisymm h l)
 
--- ---- a part that was lent from s to the end, and is back as ys
+-- ---- a part of a vector that was lent from a to e, and is back as ys: for regions of one buffer
 
 vec-back : (s : ℕ) (xs ys : List Float) → s ≤ length xs → (t : ℕ) → getD (take s xs ++ ys) t nan ≡ cond (ltb t s) (getD xs t nan) (getD ys (t - s) nan)
 vec-back s xs ys h t =
@@ -202,55 +193,6 @@ vec-back s xs ys h t =
     test (ltb t s)
     (λ p. let l : t < s = ltb-true t s p in rw p (List·getD-append (take s xs) ys nan t (omega arith) ∙ getD-take s xs t nan l))
     (λ p. let l : s ≤ t = ltb-false t s p in rw p (ap (λ (k : ℕ). getD (take s xs ++ ys) k nan) (omega arith) ∙ getD-append-add (take s xs) ys (t - s) nan))
-
-put-all : (s : ℕ) (xs ys : List Float) → putMid s (length xs - s) xs ys ≡ take s xs ++ ys
-put-all s xs ys =
-    ap (λ (z : List Float). take s xs ++ (ys ++ z)) (drop-of-length-le (drop s xs) {i = length xs - s} (omega (arith, length-drop s xs)))
-    ∙ ap (λ (z : List Float). take s xs ++ z) (append-nil ys)
-
-mid-all : (s : ℕ) (xs : List Float) → midOf s (length xs - s) xs ≡ drop s xs
-mid-all s xs = take-all (length xs - s) (drop s xs) (omega (arith, length-drop s xs))
-
--- a column's rows from ke down, lent and written by rule N′ of the part's own index: the same rows of the matrix, by rule N
-pub withColumn-lent : (n : ℕ) (xs ys : List Float) (ke k : ℕ) (N′ N : ℕ → Float) → n + k * n ≤ length xs → ke ≤ n
-    → vec ys ≡ withPart (vec (midOf (ke + k * n) (length xs - (ke + k * n)) xs)) 0 (n - ke) N′
-    → ((t : ℕ) → t < n - ke → N′ t ≡ N (ke + t))
-    → view n (putMid (ke + k * n) (length xs - (ke + k * n)) xs ys) ≡ withColumn (view n xs) k ke n N
-unfolding vec withPart view withColumn
-withColumn-lent n xs ys ke k N′ N room h e same =
-    let s = ke + k * n in
-    rw (put-all s xs ys) (fun-ext λ a. fun-ext λ b.
-    let t = a + b * n in
-    test (ltb a n)
-    (λ p. let ha : a < n = ltb-true a n p in rw (p, vec-back s xs ys (omega arith) t)
-    (cmp b k
-    (λ l. let m : suc b * n ≤ k * n = mul-le-mul-right n l in rw (lt-ltb t s (omega (arith, suc-mul b n)), ne-eqb b k (λ x. omega arith)))
-    (λ q. rw (q, eq-eqb k k refl)
-    (test (ltb a ke)
-    (λ r. let l : a < ke = ltb-true a ke r in rw (lt-ltb (a + k * n) s (omega arith), lt-leb ke a l))
-    (λ r. let l : ke ≤ a = ltb-false a ke r in
-    rw (le-ltb (a + k * n) s (omega arith), le-leb ke a l) (tail-in (a + k * n - s) (omega arith) ∙ ap N (omega arith)))))
-    (λ g. let m : suc k * n ≤ b * n = mul-le-mul-right n g in
-    let f : s ≤ t = omega (arith, suc-mul k n) in
-    rw (le-ltb t s f, ne-eqb b k (λ x. omega arith)) (tail-out (t - s) (omega (arith, suc-mul k n)) ∙ ap (λ (x : ℕ). getD xs x nan) (omega arith)))))
-    (λ p. rw (p, no (leb ke a), no (eqb b k))))
-  where
-    tail-at : (u : ℕ) → getD ys u nan ≡ cond (leb 0 u && ltb u (n - ke)) (N′ u) (getD xs (ke + k * n + u) nan)
-    tail-at u = ap (λ (g : ℕ → Float). g u) e ∙ rw (mid-all (ke + k * n) xs, getD-drop (ke + k * n) xs u nan) refl
-
-    tail-in : (u : ℕ) → u < n - ke → getD ys u nan ≡ N (ke + u)
-    tail-in u l = tail-at u ∙ rw (le-leb 0 u (omega arith), lt-ltb u (n - ke) l) (same u l)
-
-    tail-out : (u : ℕ) → n - ke ≤ u → getD ys u nan ≡ getD xs (ke + k * n + u) nan
-    tail-out u l = tail-at u ∙ rw (le-ltb u (n - ke) l, no (leb 0 u))
-
--- what the lent part holds at its index t
-pub lent-at : (n : ℕ) (xs : List Float) (ke k t : ℕ) → t < n - ke → vec (midOf (ke + k * n) (length xs - (ke + k * n)) xs) t ≡ view n xs (ke + t) k
-unfolding vec view
-lent-at n xs ke k t l =
-    rw (mid-all (ke + k * n) xs, getD-drop (ke + k * n) xs t nan, lt-ltb (ke + t) n (omega arith)) (ap (λ (x : ℕ). getD xs x nan) (omega arith))
-
--- ---- a part of a vector that was lent from a to e, and is back as ys: for regions of one buffer
 
 pub vec-put : (a e : ℕ) (xs ys : List Float) → a ≤ e → e ≤ length xs → length ys ≡ e - a
     → vec (putMid a (e - a) xs ys) ≡ withPart (vec xs) a e (λ t. vec ys (t - a))

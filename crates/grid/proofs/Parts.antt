@@ -243,5 +243,10 @@ exchange-step M xs n len p q lo hi i h l r fp fq m e =
     ∙ ap (λ (X : Mat). putAt X i q (getD xs (i + p * n) nan)) (view-set n xs i p _ (record { row = ri; off = omega arith }))
     ∙ rw (← view-at n xs i p ri, ← view-at n xs i q ri) (exchange-more M (view n xs) p q lo i h e)
 
+pub exchange-same : (M : Mat) (p q lo hi : ℕ) → p ≡ q → M ≡ columnsExchanged M p q lo hi
+unfolding columnsExchanged
+exchange-same M p q lo hi e =
+    rw e (fun-ext λ a. fun-ext λ b. test (leb lo a && ltb a hi) (λ u. rw u (test (eqb b q) (λ v. rw v (ap (M a) (eqb-true b q v))) (λ v. rw v))) (λ u. rw u))
+
 pub exchange-end : (M P : Mat) (p q lo hi i : ℕ) → i ≤ hi → hi ≤ i → P ≡ columnsExchanged M p q lo i → P ≡ columnsExchanged M p q lo hi
 exchange-end M P p q lo hi i h l e = e ∙ ap (λ (k : ℕ). columnsExchanged M p q lo k) (le-antisymm h l)

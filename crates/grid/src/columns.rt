@@ -175,11 +175,14 @@ pub fn less_two(
     kernels::less_two(&mut panel[a..b], &s[lo..hi], &t[lo..hi], hi - lo, m1, m2);
 }
 
-// Rows lo up to hi of columns p and q, one for the other.
+// Rows lo up to hi of columns p and q, one for the other; nothing where they are the same column.
 pub fn exchange(panel: &mut [f64], nrow: usize, p: usize, q: usize, lo: usize, hi: usize)
     requires { ⌜ ExchangePre nrow p q lo hi (length (now panel)) ⌝ }
     ensures { λ _. ⌜ view nrow (now (panel .exit)) ≡ columnsExchanged (view nrow (now (panel .entry))) p q lo hi ⌝ }
 {
+    if p == q {
+        return;
+    }
     for i in lo..hi {
         let x = panel[i + p * nrow];
         panel[i + p * nrow] = panel[i + q * nrow];

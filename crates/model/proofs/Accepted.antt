@@ -149,7 +149,7 @@ panel-kept ncol ke mode limit (suc n) k s h l f w =
     (try-good ke (s .a) (s .mult) mode limit k (ltb-true k ke t)) w (λ m u a b kept. panel-kept ncol ke mode limit n m u b l (omega arith) kept)))
     (λ t. let e : k ≡ ke = omega (arith, ltb-false k ke t) in rw t (e, subst (λ (m : ℕ). Kept ncol m (s .pivots)) e w))
 
-abbrev AtEnd : ℕ → Run → Type 0
+abbrev pub AtEnd : ℕ → Run → Type 0
 AtEnd ncol (head.refused n p) = Unit {0}
 AtEnd ncol (done s ps) = Kept ncol ncol (s .pivots)
 
@@ -180,7 +180,7 @@ panels-kept mode limit ncol nb (suc n) kb s b h f w =
     (λ t. let e : kb ≡ ncol = omega (arith, ltb-false kb ncol t) in rw t (subst (λ (m : ℕ). Kept ncol m (s .pivots)) e w))
 
 -- of the head's run
-head-kept : (mode : Mode) (limit ncol nb : ℕ) (a : Mat) → 1 ≤ nb → AtEnd ncol (headRunOf mode limit ncol nb a)
+pub head-kept : (mode : Mode) (limit ncol nb : ℕ) (a : Mat) → 1 ≤ nb → AtEnd ncol (headRunOf mode limit ncol nb a)
 unfolding headRunOf start
 head-kept mode limit ncol nb a b =
     panels-kept mode limit ncol (min nb (max ncol 1)) ncol 0 (start ncol (headOf ncol a)) (omega arith) (omega arith) (omega arith)
@@ -288,7 +288,7 @@ sound-at f n k w h =
     rw (t, ne-eqb (k + 1) n (λ x. omega (arith, w .room k h e)), ne-eqb (f (k + 1)) 1 (λ x. omega arith)))
     (λ t. rw t))
 
-bytes-sound : (f : ℕ → ℕ) (n m k : ℕ) → k + m ≤ n → Paired n f → bytesFrom f n m k ≡ sound
+pub bytes-sound : (f : ℕ → ℕ) (n m k : ℕ) → k + m ≤ n → Paired n f → bytesFrom f n m k ≡ sound
 unfolding bytesFrom
 bytes-sound f n zero k h w = refl
 bytes-sound f n (suc m) k h w = rw (sound-at f n k w (omega arith)) (bytes-sound f n m (k + 1) (omega arith) w)

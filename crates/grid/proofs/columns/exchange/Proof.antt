@@ -6,7 +6,7 @@ use lib.ListN.{length, length-set}
 use borrow.Author.Needs.{needs}
 use Rattle.model.specs.Matrix.{view}
 use Rattle.grid.specs.Rules.{columnsExchanged}
-use Rattle.grid.proofs.Parts.{exchange-none, exchange-step, exchange-end}
+use Rattle.grid.proofs.Parts.{exchange-none, exchange-step, exchange-end, exchange-same}
 use Rattle.grid.proofs.columns.exchange.Statement.{statement}
 use Rattle.grid.proofs.columns.exchange.Tie as tie
 
@@ -16,6 +16,9 @@ Inv-loop panel₀ nrow p q lo hi i₀ panel i =
 
 abbrev μ-loop : tie.MeasureT-loop
 μ-loop panel₀ nrow p q lo hi i₀ panel i = hi - i
+
+returns : tie.Need-returns Inv-loop μ-loop
+returns c = search (needs, exchange-same)
 
 loop-holds : tie.Need-loop-holds Inv-loop μ-loop
 loop-holds c = search (needs, exchange-none)
@@ -80,8 +83,8 @@ loop-again c = search (needs, exchange-step)
 same-length : tie.Need-same-length Inv-loop μ-loop
 same-length c = search needs
 
-returns : tie.Need-returns Inv-loop μ-loop
-returns c = search (needs, exchange-end)
+returns-2 : tie.Need-returns-2 Inv-loop μ-loop
+returns-2 c = search (needs, exchange-end)
 
 pub exchange-spec : {M : Type 1} → statement M
 exchange-spec =
@@ -89,6 +92,7 @@ exchange-spec =
     (tie.spec
     Inv-loop
     μ-loop
+    returns
     loop-holds
     mul-x
     add-x
@@ -110,4 +114,4 @@ exchange-spec =
     loop-less
     loop-again
     same-length
-    returns)
+    returns-2)

@@ -1,0 +1,2 @@
+-- Laws of the assembly call.
+pub mod Laws

@@ -1,0 +1,154 @@
+-- Laws of a panel's steps in turn: one taken off, the refusal, the end; what a turn of the loop asks and keeps; what is promised at the end.
+-- Assumes nothing.
+use Prim.Native.Nat.{ℕ, zero, suc, _+_, _-_, _*_, _<_, _≤_}
+use mathlib.Core.Path.{_≡_, refl, sym, _∙_, ap, subst}
+use mathlib.Core.Bool.{Bool, true, false}
+use native.Mathlib.Omega.{arith}
+use borrow.Author.Tests.{lt-ltb, le-ltb}
+use lib.Dec.{ltb}
+use mir.Syntax.{w64}
+use mir.Val.{Fits}
+use Rattle.model.specs.Matrix.{Mat}
+use Rattle.model.specs.Step.{Pivots}
+use Rattle.model.specs.Head.{State, Tried, refusedAt, took, tryOf, lastOf, noted, Progress, going, after, panelOf}
+use Rattle.model.specs.declared.Mode.{Mode}
+use Rattle.model.specs.declared.Pivot.{Pivot}
+use Rattle.model.specs.declared.Refusal.{Refusal}
+use Rattle.grid.proofs.Laws.{test}
+use Rattle.whole.proofs.Steps.{Went, Inside, panel-inside}
+use Rattle.bunch_kaufman.specs.Answers.{tried, progress, endedBy}
+use Rattle.bunch_kaufman.specs.Terms.{PivotIn, TakenIn, NotedTo, RanTo, PanelPre, StepPre, NotesPre, NotePre}
+use Rattle.bunch_kaufman.specs.declared.Taken.{Taken}
+use Rattle.bunch_kaufman.specs.declared.Taken.the-variants.{Refused, Took}
+use Rattle.bunch_kaufman.specs.declared.Ran.{Ran}
+use Rattle.bunch_kaufman.specs.declared.Ran.the-variants.{Done}
+
+-- ---- a pivot's last column
+
+last-ge : (k : ℕ) (b : Bool) → k ≤ lastOf k b
+unfolding lastOf
+last-ge k true = omega arith
+last-ge k false = omega arith
+
+-- ---- steps in turn
+
+module _ (ke : ℕ) (mode : Mode) (limit : ℕ) where
+  after-alike : (t : Tried) (s : State) (k : ℕ) (f g : ℕ → State → Progress)
+      → ((b : Bool) (u : State) → f (lastOf k b + 1) u ≡ g (lastOf k b + 1) u) → after t s k f ≡ after t s k g
+  after-alike (refusedAt n p) s k f g h = refl
+  after-alike (took v a m) s k f g h = h (v .two) _
+
+  -- more steps than columns are left change nothing
+  panel-fuel : (n m k : ℕ) (s : State) → ke - k ≤ n → ke - k ≤ m → panelOf ke mode limit n k s ≡ panelOf ke mode limit m k s
+  unfolding panelOf
+  panel-fuel zero zero k s h l = refl
+  panel-fuel zero (suc m) k s h l = rw (le-ltb k ke (omega arith))
+  panel-fuel (suc n) zero k s h l = rw (le-ltb k ke (omega arith))
+  panel-fuel (suc n) (suc m) k s h l =
+      test (ltb k ke)
+      (λ p. rw p (after-alike (tryOf ke (s .a) (s .mult) mode limit k) s k (panelOf ke mode limit n) (panelOf ke mode limit m)
+      (λ b u. panel-fuel n m (lastOf k b + 1) u (omega (arith, last-ge k b)) (omega (arith, last-ge k b)))))
+      (λ p. rw p)
+
+  -- one step taken off
+  panel-open : (k : ℕ) (s : State) → k < ke
+      → panelOf ke mode limit (ke - k) k s ≡ after (tryOf ke (s .a) (s .mult) mode limit k) s k (panelOf ke mode limit (ke - (k + 1)))
+  unfolding panelOf
+  panel-open k s h =
+      let q : ke - k ≡ suc (ke - (k + 1)) = omega arith in
+      ap (λ (n : ℕ). panelOf ke mode limit n k s) q ∙ rw (lt-ltb k ke h) refl
+
+  -- a pivot is taken: T answers for the step, e is the pivot's last column, P its notes
+  pub panel-step : (s : State) (k e : ℕ) (R : Progress) (T : Taken) (v : Pivot) (a m : Mat) (P : Pivots)
+      → panelOf ke mode limit (ke - k) k s ≡ R → k < ke → tried T a m ≡ tryOf ke (s .a) (s .mult) mode limit k → T ≡ Took v → e ≡ lastOf k (v .two)
+      → P ≡ noted (s .pivots) k e v
+      → panelOf ke mode limit (ke - (e + 1)) (e + 1) (record { a = a; mult = m; pivots = P; rounds = s .rounds + v .rounds }) ≡ R
+  unfolding tried
+  panel-step s k e R T v a m P r h t z l n =
+      rw (n, l)
+      (panel-fuel (ke - (lastOf k (v .two) + 1)) (ke - (k + 1)) (lastOf k (v .two) + 1) _ (omega arith) (omega (arith, last-ge k (v .two)))
+      ∙ sym (ap (λ (o : Tried). after o s k (panelOf ke mode limit (ke - (k + 1)))) (sym t ∙ ap (λ (u : Taken). tried u a m) z))
+      ∙ sym (panel-open k s h) ∙ r)
+
+  -- the step refuses, and its refusal is the panel's
+  pub panel-stop : (s : State) (k : ℕ) (R : Progress) (T : Taken) (r : Refusal) (a m : Mat) (A : Ran) (f : ℕ → State)
+      → panelOf ke mode limit (ke - k) k s ≡ R → k < ke → tried T a m ≡ tryOf ke (s .a) (s .mult) mode limit k → T ≡ Refused r → A ≡ endedBy T
+      → progress A ke f ≡ R
+  unfolding tried progress
+  panel-stop s k R T r a m A f e h t z w =
+      ap (λ (x : Ran). progress x ke f) (w ∙ ap endedBy z)
+      ∙ sym (ap (λ (o : Tried). after o s k (panelOf ke mode limit (ke - (k + 1)))) (sym t ∙ ap (λ (u : Taken). tried u a m) z))
+      ∙ sym (panel-open k s h) ∙ e
+
+  -- the columns are done
+  pub panel-end : (f : ℕ → State) (k n : ℕ) (R : Progress) → panelOf ke mode limit (ke - k) k (f n) ≡ R → ke ≤ k → k ≤ ke → progress (Done n) ke f ≡ R
+  unfolding panelOf progress
+  panel-end f k n R r h l =
+      let q : ke - k ≡ 0 = omega arith in
+      let z : ke ≡ k = omega arith in
+      ap (λ (j : ℕ). going j (f n)) z ∙ rw q at r
+
+-- ---- what a turn of the loop asks and keeps
+
+pub step-pre : (nrow ncol nb kb ke k len₀ lenM₀ len lenM : ℕ) → PanelPre nrow ncol nb kb ke len₀ lenM₀ → len ≡ len₀ → lenM ≡ lenM₀ → kb ≤ k → k < ke
+    → StepPre nrow ncol nb kb ke k k len lenM
+step-pre nrow ncol nb kb ke k len₀ lenM₀ len lenM h p q l m = record { sizes = rw (p, q) h; from = l; last = m }
+
+took-in : (ke k : ℕ) (T : Taken) (v : Pivot) → TakenIn ke k T → T ≡ Took v → PivotIn ke k v
+took-in ke k T v g e = subst (λ (u : Taken). TakenIn ke k u) e g
+
+pub note-pre : {ke k e ld ls la lb ll lo lp ld₀ ls₀ la₀ lb₀ ll₀ lo₀ lp₀ : ℕ} {T : Taken} {v : Pivot}
+    → TakenIn ke k T → T ≡ Took v → e ≡ lastOf k (v .two) → NotesPre ke ld₀ ls₀ la₀ lb₀ ll₀ lo₀ lp₀
+    → ld ≡ ld₀ → ls ≡ ls₀ → la ≡ la₀ → lb ≡ lb₀ → ll ≡ ll₀ → lo ≡ lo₀ → lp ≡ lp₀
+    → NotePre k e (v .kp) ld ls la lb ll lo lp
+note-pre {ke} {k} {T = T} {v = v} g z l h e1 e2 e3 e4 e5 e6 e7 =
+    let w = took-in ke k T v g z in
+    let m = last-ge k (v .two) in
+    let a = w .last in
+    let b = w .row in
+    record {
+      from = omega arith;
+      d = omega (arith, h .d);
+      sub = omega (arith, h .sub);
+      amounts = omega (arith, h .amounts);
+      blocks = omega (arith, h .blocks);
+      lifts = omega (arith, h .lifts);
+      order = omega (arith, h .order);
+      partners = omega (arith, h .partners);
+      row = omega (arith, h .order);
+    }
+
+pub rounds-fit : (ke k r : ℕ) (T : Taken) (v : Pivot) → TakenIn ke k T → T ≡ Took v → r ≤ 64 * k → k < ke → ke ≤ 128 → Fits w64 (r + v .rounds)
+rounds-fit ke k r T v g z h l m = record { fits = omega (arith, took-in ke k T v g z .few) }
+
+pub next-fits : (ke k e : ℕ) (T : Taken) (v : Pivot) → TakenIn ke k T → T ≡ Took v → e ≡ lastOf k (v .two) → ke ≤ 128 → Fits w64 (e + 1)
+next-fits ke k e T v g z l m = record { fits = omega (arith, took-in ke k T v g z .last) }
+
+pub next-from : (kb k e : ℕ) (b : Bool) → e ≡ lastOf k b → kb ≤ k → kb ≤ e + 1
+next-from kb k e b l h = omega (arith, last-ge k b)
+
+pub next-in : (ke k e : ℕ) (T : Taken) (v : Pivot) → TakenIn ke k T → T ≡ Took v → e ≡ lastOf k (v .two) → e + 1 ≤ ke
+next-in ke k e T v g z l = omega (arith, took-in ke k T v g z .last)
+
+pub next-less : (ke k e : ℕ) (b : Bool) → e ≡ lastOf k b → k < ke → ke - (e + 1) < ke - k
+next-less ke k e b l h = omega (arith, last-ge k b)
+
+pub next-few : (ke k e r : ℕ) (T : Taken) (v : Pivot) → TakenIn ke k T → T ≡ Took v → e ≡ lastOf k (v .two) → r ≤ 64 * k → r + v .rounds ≤ 64 * (e + 1)
+next-few ke k e r T v g z l h = omega (arith, took-in ke k T v g z .few, last-ge k (v .two))
+
+-- ---- what is promised at the end
+
+-- a refusal leaves no more to say than that it names a column
+pub notes-stop : (ke k : ℕ) (T : Taken) (r : Refusal) (A : Ran) (f g : ℕ → ℕ) → TakenIn ke k T → T ≡ Refused r → A ≡ endedBy T → RanTo ke A f g
+notes-stop ke k T r A f g h z w = rw (w, z) (subst (λ (u : Taken). TakenIn ke k u) z h)
+
+-- the notes of the state u after a panel's steps from s
+pub notes-end : (ke : ℕ) (mode : Mode) (limit kb k before : ℕ) (s u : State) → NotedTo kb ke before (s .pivots .blocks) (s .pivots .partners)
+    → panelOf ke mode limit (ke - k) k u ≡ panelOf ke mode limit (ke - kb) kb s → ke ≤ k → k ≤ ke → u .rounds ≤ 64 * k
+    → NotedTo ke ke (u .rounds) (u .pivots .blocks) (u .pivots .partners)
+unfolding panelOf
+notes-end ke mode limit kb k before s u h e l m r =
+    let q : ke - k ≡ 0 = omega arith in
+    let w = subst (Went (λ t. Inside ke (t .pivots))) (sym (rw q at e))
+    (panel-inside ke mode limit (ke - kb) kb s (record { partner = h .partner; pair = h .pair })) in
+    record { few = omega arith; pair = w .pair; partner = w .partner }

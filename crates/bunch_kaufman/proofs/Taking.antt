@@ -1,0 +1,179 @@
+-- Laws of one step: a 1x1, a block and a zero column in the model's words, the choice's cases, and what the answer keeps to. Assumes nothing.
+use Prim.Native.Nat.{ℕ, _+_, _<_, _≤_}
+use mathlib.Core.Path.{_≡_, refl, sym, _∙_, ap, subst}
+use mathlib.Core.Bool.{true, false}
+use native.Mathlib.Omega.{arith}
+use lib.Ieee.{Float}
+use Rattle.model.specs.Scalar.{zeroF}
+use Rattle.model.specs.Matrix.{Mat, exchanged}
+use Rattle.model.specs.Choice as choice
+use Rattle.model.specs.Step.{blockOf}
+use Rattle.model.specs.Head.{settledOne, settledTwo, headOne, headTwo, keptOne, keptTwo, Tried, afterOne, afterTwo, tryBy, tryOf}
+use Rattle.model.specs.declared.Mode.{Mode}
+use Rattle.model.specs.declared.Mode.the-variants.{Fail, Lift}
+use Rattle.model.specs.declared.Block.{Block as Numbers}
+use Rattle.model.specs.declared.Elim.{Elim}
+use Rattle.model.specs.declared.Refusal.the-variants.{ZeroPivot, Rounds}
+use Rattle.model.proofs.Bounds.{Good, try-good}
+use Rattle.grid.specs.Grid.{In}
+use Rattle.grid.proofs.Laws.{in-panel}
+use Rattle.rule.specs.Answers.{chosenIs, ChosenWithin, settledOneIs, settledTwoIs}
+use Rattle.rule.specs.declared.Choice.{Choice}
+use Rattle.rule.specs.declared.Choice.the-variants.{ZeroColumn, Single, Block}
+use Rattle.rule.specs.declared.OneSettled as one
+use Rattle.rule.specs.declared.TwoSettled as two
+use Rattle.bunch_kaufman.specs.Slices.{blockIn}
+use Rattle.bunch_kaufman.specs.Answers.{tried, singleOf, pairOf, zeroOf, ByColumn}
+use Rattle.bunch_kaufman.specs.Terms.{TakenIn, LimitPre, PanelPre, StepPre, PivotPre, BlockPre}
+use Rattle.bunch_kaufman.specs.declared.Taken.{Taken}
+use Rattle.bunch_kaufman.specs.declared.Taken.the-variants.{Refused, Took}
+
+-- ---- places
+
+pub row-in : (nrow ncol nb kb ke i len lenM : ℕ) → PanelPre nrow ncol nb kb ke len lenM → i < ke → In nrow i i len
+row-in nrow ncol nb kb ke i len lenM h l = in-panel nrow ncol i i len (h .panel) (omega arith) (omega arith)
+
+-- of a block
+pub corner-in : (nrow ncol k i j len : ℕ) → BlockPre nrow ncol k len → i ≤ k + 1 → j ≤ k + 1 → In nrow i j len
+corner-in nrow ncol k i j len h a b = in-panel nrow ncol i j len (h .panel) (omega arith) (omega arith)
+
+pub block-is : (P : Mat) (k : ℕ) (x y z : Float) (b : Numbers) → x ≡ P k k → y ≡ P (k + 1) k → z ≡ P (k + 1) (k + 1) → b ≡ blockOf x y z → b ≡ blockIn P k
+block-is P k x y z b e f g h = h ∙ rw (e, f, g)
+
+-- ---- a 1x1: x is the number at row kp, S its settlement, B the matrix exchanged, B′ and M′ what is left
+
+single-by : (ke k kp : ℕ) (A M : Mat) (mode : Mode) (x : Float) (S o : one.OneSettled) → x ≡ A kp kp → settledOneIs S ≡ settledOne mode x → S ≡ o
+    → afterOne ke A M k kp (settledOneIs o) ≡ singleOf ke A M mode k kp
+unfolding singleOf
+single-by ke k kp A M mode x S o e s z = ap (afterOne ke A M k kp) (ap settledOneIs (sym z) ∙ s ∙ ap (settledOne mode) e)
+
+pub single-stop : (ke : ℕ) (k : Elim) (kp : ℕ) (A M B N : Mat) (mode : Mode) (x : Float) (S : one.OneSettled)
+    → x ≡ A kp kp → settledOneIs S ≡ settledOne mode x → S ≡ one.the-variants.ZeroPivot → tried (Refused (ZeroPivot k)) B N ≡ singleOf ke A M mode (k .0) kp
+unfolding tried
+single-stop ke k kp A M B N mode x S e s z = single-by ke (k .0) kp A M mode x S one.the-variants.ZeroPivot e s z
+
+pub single-took : (ke k kp : ℕ) (A M B B′ M′ : Mat) (mode : Mode) (x d amount : Float) (lifted : ℕ) (S : one.OneSettled)
+    → x ≡ A kp kp → settledOneIs S ≡ settledOne mode x → S ≡ one.the-variants.Number d lifted amount → B ≡ exchanged k kp ke A
+    → B′ ≡ headOne ke k d B → M′ ≡ keptOne ke k d B M
+    → tried (Took (record { kp = kp; two = false; d11 = d; d21 = zeroF; d22 = zeroF; lifted = lifted; amount = amount; rounds = 0 })) B′ M′
+    ≡ singleOf ke A M mode k kp
+unfolding tried
+single-took ke k kp A M B B′ M′ mode x d amount lifted S e s z b b′ m′ =
+    rw (m′, b′, b) (single-by ke k kp A M mode x S (one.the-variants.Number d lifted amount) e s z)
+
+-- ---- a block: B is the matrix exchanged, b its block, S the settlement, B′ and M′ what is left
+
+pair-by : (ke k kp limit : ℕ) (A M B : Mat) (mode : Mode) (b : Numbers) (S o : two.TwoSettled) → B ≡ exchanged (k + 1) kp ke A → b ≡ blockIn B k
+    → settledTwoIs S ≡ settledTwo mode limit b → S ≡ o → afterTwo ke A M k kp (settledTwoIs o) ≡ pairOf ke A M mode limit k kp
+unfolding pairOf
+pair-by ke k kp limit A M B mode b S o x e s z =
+    ap (afterTwo ke A M k kp) (ap settledTwoIs (sym z) ∙ s ∙ ap (settledTwo mode limit) (e ∙ ap (λ (P : Mat). blockIn P k) x))
+
+pub pair-stop : (ke : ℕ) (k : Elim) (kp limit : ℕ) (A M B N : Mat) (mode : Mode) (b : Numbers) (S : two.TwoSettled)
+    → B ≡ exchanged (k .0 + 1) kp ke A → b ≡ blockIn B (k .0) → settledTwoIs S ≡ settledTwo mode limit b → S ≡ two.the-variants.ZeroPivot
+    → tried (Refused (ZeroPivot k)) B N ≡ pairOf ke A M mode limit (k .0) kp
+unfolding tried
+pair-stop ke k kp limit A M B N mode b S x e s z = pair-by ke (k .0) kp limit A M B mode b S two.the-variants.ZeroPivot x e s z
+
+pub pair-rounds : (ke : ℕ) (k : Elim) (kp limit : ℕ) (A M B N : Mat) (mode : Mode) (b : Numbers) (S : two.TwoSettled)
+    → B ≡ exchanged (k .0 + 1) kp ke A → b ≡ blockIn B (k .0) → settledTwoIs S ≡ settledTwo mode limit b → S ≡ two.the-variants.Rounds
+    → tried (Refused (Rounds k)) B N ≡ pairOf ke A M mode limit (k .0) kp
+unfolding tried
+pair-rounds ke k kp limit A M B N mode b S x e s z = pair-by ke (k .0) kp limit A M B mode b S two.the-variants.Rounds x e s z
+
+pub pair-took : (ke k kp limit : ℕ) (A M B B′ M′ : Mat) (mode : Mode) (b v : Numbers) (amount : Float) (lifted rounds : ℕ) (S : two.TwoSettled)
+    → B ≡ exchanged (k + 1) kp ke A → b ≡ blockIn B k → settledTwoIs S ≡ settledTwo mode limit b → S ≡ two.the-variants.Numbers v lifted amount rounds
+    → B′ ≡ headTwo ke k v B → M′ ≡ keptTwo ke k v B M
+    → tried (Took (record { kp = kp; two = true; d11 = v .d11; d21 = v .d21; d22 = v .d22; lifted = lifted; amount = amount; rounds = rounds })) B′ M′
+    ≡ pairOf ke A M mode limit k kp
+unfolding tried
+pair-took ke k kp limit A M B B′ M′ mode b v amount lifted rounds S x e s z b′ m′ =
+    rw (m′, b′, x) (pair-by ke k kp limit A M B mode b S (two.the-variants.Numbers v lifted amount rounds) x e s z)
+
+-- ---- a zero column
+
+pub zero-stop : (ke : ℕ) (k : Elim) (A M B N : Mat) (mode : Mode) → mode ≡ Fail → tried (Refused (ZeroPivot k)) B N ≡ zeroOf ke A M mode (k .0)
+unfolding zeroOf tried
+zero-stop ke k A M B N mode e = rw e
+
+pub zero-single : (ke k : ℕ) (A M : Mat) (mode : Mode) (floor : Float) (R : Tried) → mode ≡ Lift floor → R ≡ singleOf ke A M mode k k → R ≡ zeroOf ke A M mode k
+unfolding zeroOf singleOf
+zero-single ke k A M mode floor R e r = r ∙ rw e
+
+-- ---- the choice, by its answer C
+
+by-choice : (ke : ℕ) (A M : Mat) (mode : Mode) (limit k : ℕ) (C o : Choice) → chosenIs C ≡ choice.chooseOf A k ke → C ≡ o
+    → tryBy ke A M mode limit k (chosenIs o) ≡ tryOf ke A M mode limit k
+unfolding tryOf
+by-choice ke A M mode limit k C o c z = ap (tryBy ke A M mode limit k) (ap chosenIs (sym z) ∙ c)
+
+zero-by : (ke : ℕ) (A M : Mat) (mode : Mode) (limit k : ℕ) → zeroOf ke A M mode k ≡ tryBy ke A M mode limit k choice.zeroColumn
+unfolding zeroOf
+zero-by ke A M Fail limit k = refl
+zero-by ke A M (Lift floor) limit k = refl
+
+one-by : (ke : ℕ) (A M : Mat) (mode : Mode) (limit k kp : ℕ) → singleOf ke A M mode k kp ≡ tryBy ke A M mode limit k (choice.single kp)
+unfolding singleOf
+one-by ke A M Fail limit k kp = refl
+one-by ke A M (Lift floor) limit k kp = refl
+
+two-by : (ke : ℕ) (A M : Mat) (mode : Mode) (limit k kp : ℕ) → pairOf ke A M mode limit k kp ≡ tryBy ke A M mode limit k (choice.block kp)
+unfolding pairOf
+two-by ke A M Fail limit k kp = refl
+two-by ke A M (Lift floor) limit k kp = refl
+
+-- ---- what the answer keeps to
+
+-- Fail lifts nothing
+fail-limit : (ke : ℕ) (A M : Mat) (limit k : ℕ) → tryOf ke A M Fail limit k ≡ tryOf ke A M Fail 0 k
+unfolding tryOf settledTwo
+fail-limit ke A M limit k = by (choice.chooseOf A k ke)
+  where
+    by : (o : choice.Choice) → tryBy ke A M Fail limit k o ≡ tryBy ke A M Fail 0 k o
+    by choice.zeroColumn = refl
+    by (choice.single kp) = refl
+    by (choice.block kp) = refl
+
+tried-in : (ke k limit : ℕ) (T : Taken) (A′ M′ : Mat) (R : Tried) → limit ≤ 64 → Good ke limit k R → tried T A′ M′ ≡ R → ByColumn T → TakenIn ke k T
+unfolding tried
+tried-in ke k limit (Refused r) A′ M′ R l g e h = h
+tried-in ke k limit (Took v) A′ M′ R l g e h =
+    let w = subst (Good ke limit k) (sym e) g in
+    record { last = w .last; row = w .row; few = omega (arith, w .few) }
+
+kept : (ke : ℕ) (A M : Mat) (mode : Mode) (limit k : ℕ) (T : Taken) (A′ M′ : Mat)
+    → k < ke → LimitPre mode limit → ByColumn T → tried T A′ M′ ≡ tryOf ke A M mode limit k → (tried T A′ M′ ≡ tryOf ke A M mode limit k) × TakenIn ke k T
+kept ke A M Fail limit k T A′ M′ h l b e =
+    (e, tried-in ke k 0 T A′ M′ (tryOf ke A M Fail 0 k) (omega arith) (try-good ke A M Fail 0 k h) (e ∙ fail-limit ke A M limit k) b)
+kept ke A M (Lift floor) limit k T A′ M′ h l b e =
+    (e, tried-in ke k limit T A′ M′ (tryOf ke A M (Lift floor) limit k) l (try-good ke A M (Lift floor) limit k h) e b)
+
+-- ---- a step: C is the choice, T the answer, A′ and M′ what is left
+
+pub single-pre : (nrow ncol nb kb ke k kp len lenM : ℕ) (C : Choice) → StepPre nrow ncol nb kb ke k k len lenM → C ≡ Single kp → ChosenWithin k ke C
+    → PivotPre nrow ncol nb kb ke k k kp len lenM
+single-pre nrow ncol nb kb ke k kp len lenM C h z g = let w = subst (ChosenWithin k ke) z g in record { at = h; from = w .low; row = w .high }
+
+pub pair-pre : (nrow ncol nb kb ke k kp len lenM : ℕ) (C : Choice) → StepPre nrow ncol nb kb ke k k len lenM → C ≡ Block kp → ChosenWithin k ke C
+    → PivotPre nrow ncol nb kb ke k (k + 1) kp len lenM
+pair-pre nrow ncol nb kb ke k kp len lenM C h z g =
+    let w = subst (ChosenWithin k ke) z g in
+    record { at = record { sizes = h .sizes; from = h .from; last = omega (arith, w .low, w .high) }; from = w .low; row = w .high }
+
+pub step-zero : (ke : ℕ) (A M A′ M′ : Mat) (mode : Mode) (limit k : ℕ) (C : Choice) (T : Taken) → k < ke → LimitPre mode limit
+    → chosenIs C ≡ choice.chooseOf A k ke → C ≡ ZeroColumn → tried T A′ M′ ≡ zeroOf ke A M mode k → ByColumn T
+    → (tried T A′ M′ ≡ tryOf ke A M mode limit k) × TakenIn ke k T
+step-zero ke A M A′ M′ mode limit k C T h l c z r b =
+    kept ke A M mode limit k T A′ M′ h l b (r ∙ zero-by ke A M mode limit k ∙ by-choice ke A M mode limit k C ZeroColumn c z)
+
+pub step-single : (ke : ℕ) (A M A′ M′ : Mat) (mode : Mode) (limit k kp : ℕ) (C : Choice) (T : Taken) → k < ke → LimitPre mode limit
+    → chosenIs C ≡ choice.chooseOf A k ke → C ≡ Single kp → tried T A′ M′ ≡ singleOf ke A M mode k kp → ByColumn T
+    → (tried T A′ M′ ≡ tryOf ke A M mode limit k) × TakenIn ke k T
+step-single ke A M A′ M′ mode limit k kp C T h l c z r b =
+    kept ke A M mode limit k T A′ M′ h l b (r ∙ one-by ke A M mode limit k kp ∙ by-choice ke A M mode limit k C (Single kp) c z)
+
+pub step-pair : (ke : ℕ) (A M A′ M′ : Mat) (mode : Mode) (limit k kp : ℕ) (C : Choice) (T : Taken) → k < ke → LimitPre mode limit
+    → chosenIs C ≡ choice.chooseOf A k ke → C ≡ Block kp → tried T A′ M′ ≡ pairOf ke A M mode limit k kp → ByColumn T
+    → (tried T A′ M′ ≡ tryOf ke A M mode limit k) × TakenIn ke k T
+step-pair ke A M A′ M′ mode limit k kp C T h l c z r b =
+    kept ke A M mode limit k T A′ M′ h l b (r ∙ two-by ke A M mode limit k kp ∙ by-choice ke A M mode limit k C (Block kp) c z)

@@ -1,0 +1,93 @@
+-- What the functions ask of their callers, and what they promise beside their equations. Definitions only. Assumes nothing.
+use mathlib.Core.Path.{_≡_}
+use Prim.Native.Nat.{ℕ, _+_, _*_, _<_, _≤_}
+use Rattle.model.specs.Head.{lastOf}
+use Rattle.model.specs.declared.Mode.{Mode}
+use Rattle.model.specs.declared.Mode.the-variants.{Fail, Lift}
+use Rattle.model.specs.declared.Pivot.{Pivot}
+use Rattle.bunch_kaufman.specs.Answers.{ColumnOnly}
+use Rattle.bunch_kaufman.specs.declared.Taken.{Taken}
+use Rattle.bunch_kaufman.specs.declared.Taken.the-variants.{Refused, Took}
+use Rattle.bunch_kaufman.specs.declared.Ran.{Ran}
+use Rattle.bunch_kaufman.specs.declared.Ran.the-variants.{Stopped, Done}
+
+-- ---- what is promised
+
+-- a pivot's last column and its row stand within the panel; its rounds are few
+pub record PivotIn (ke k : ℕ) (v : Pivot) : Type 0 where
+  pub last : lastOf k (v .two) < ke
+  pub row : v .kp < ke
+  pub few : v .rounds ≤ 64
+
+-- of a step's answer
+abbrev pub TakenIn : ℕ → ℕ → Taken → Type 0
+TakenIn ke k (Refused r) = ColumnOnly r
+TakenIn ke k (Took v) = PivotIn ke k v
+
+-- of the notes, with the columns before k done in a panel that ends at ke: every block and every partner stands before ke
+pub record NotedTo (k ke rounds : ℕ) (blocks partners : ℕ → ℕ) : Type 0 where
+  pub few : rounds ≤ 64 * k
+  pub pair : (c : ℕ) → blocks c ≡ 1 → c + 1 < ke
+  pub partner : (c : ℕ) → partners c < ke
+
+-- of the answer and the notes after a panel's steps
+abbrev pub RanTo : ℕ → Ran → (ℕ → ℕ) → (ℕ → ℕ) → Type 0
+RanTo ke (Stopped r) blocks partners = ColumnOnly r
+RanTo ke (Done rounds) blocks partners = NotedTo ke ke rounds blocks partners
+
+-- ---- what callers owe
+
+-- Lift's round limit is 64 at most; Fail's is never looked at
+abbrev pub LimitPre : Mode → ℕ → Type 0
+LimitPre Fail limit = Unit {0}
+LimitPre (Lift floor) limit = limit ≤ 64
+
+-- columns kb to ke of a panel of ncol columns and nrow rows, with their multipliers in a square of nb
+pub record PanelPre (nrow ncol nb kb ke len lenM : ℕ) : Type 0 where
+  pub panel : len ≡ nrow * ncol
+  pub mult : lenM ≡ nb * nb
+  pub rows : ncol ≤ nrow
+  pub cols : ke ≤ ncol
+  pub size : ncol ≤ 128
+  pub here : kb ≤ ke
+  pub width : ke ≤ kb + nb
+
+-- a pivot's columns k to e
+pub record StepPre (nrow ncol nb kb ke k e len lenM : ℕ) : Type 0 where
+  pub sizes : PanelPre nrow ncol nb kb ke len lenM
+  pub from : kb ≤ k
+  pub last : e < ke
+
+-- and the row kp that is exchanged with e
+pub record PivotPre (nrow ncol nb kb ke k e kp len lenM : ℕ) : Type 0 where
+  pub at : StepPre nrow ncol nb kb ke k e len lenM
+  pub from : e ≤ kp
+  pub row : kp < ke
+
+-- a block's columns k and k + 1
+pub record BlockPre (nrow ncol k len : ℕ) : Type 0 where
+  pub panel : len ≡ nrow * ncol
+  pub rows : ncol ≤ nrow
+  pub last : k + 1 < ncol
+
+-- the columns before ke are there in each buffer of the notes
+pub record NotesPre (ke ld ls la lb ll lo lp : ℕ) : Type 0 where
+  pub d : ke ≤ ld
+  pub sub : ke ≤ ls
+  pub amounts : ke ≤ la
+  pub blocks : ke ≤ lb
+  pub lifts : ke ≤ ll
+  pub order : ke ≤ lo
+  pub partners : ke ≤ lp
+
+-- and so are a pivot's columns k to e, and its row kp
+pub record NotePre (k e kp ld ls la lb ll lo lp : ℕ) : Type 0 where
+  pub from : k ≤ e
+  pub d : e < ld
+  pub sub : e < ls
+  pub amounts : e < la
+  pub blocks : e < lb
+  pub lifts : e < ll
+  pub order : e < lo
+  pub partners : e < lp
+  pub row : kp < lo

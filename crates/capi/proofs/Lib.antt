@@ -1,0 +1,2 @@
+-- Laws of the C interface's numbers.
+pub mod Laws

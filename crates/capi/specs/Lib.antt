@@ -1,0 +1,2 @@
+-- What the C interface answers, by the definitions of model.
+pub mod Numbers

@@ -1,0 +1,110 @@
+// L·D of a panel's columns, formed first: column t of g for the panel's column kb + t, rows from ke on.
+ghost use mathlib.Core.Path.{_≡_};
+ghost use Prim.Native.Nat.{_+_, _-_, _≤_};
+ghost use lib.ListN.{length};
+ghost use Rattle.model.specs.Matrix.{view, vec, bytes, withColumn};
+ghost use Rattle.grid.specs.Rules.{columnOf, times, blended};
+ghost use Rattle.deferred.specs.Products.{endsBlock, columnProduct, withProducts};
+ghost use Rattle.deferred.specs.Products.{ScalePre, BlendPre, ProductPre, ProductsPre};
+
+// Rows from lo on of g's column t become those of the panel's column k times r.
+fn scale_column(g: &mut [f64], panel: &[f64], nrow: usize, t: usize, k: usize, lo: usize, r: f64)
+    requires { ⌜ ScalePre nrow t k lo (length (now g)) (length (now panel)) ⌝ }
+    ensures { λ _. ⌜ view nrow (now (g .exit))
+        ≡ withColumn (view nrow (now (g .entry))) t lo nrow (times (columnOf (view nrow (now (panel .entry))) k) r) ⌝ }
+{
+    let a = lo + t * nrow;
+    let b = nrow + t * nrow;
+    let c = lo + k * nrow;
+    let e = nrow + k * nrow;
+    grid::kernels::scale(&mut g[a..b], &panel[c..e], nrow - lo, r);
+}
+
+// Rows from lo on of g's column t become those of the panel's columns k and k + 1 times p and q, added.
+fn blend_columns(
+    g: &mut [f64],
+    panel: &[f64],
+    nrow: usize,
+    t: usize,
+    k: usize,
+    lo: usize,
+    p: f64,
+    q: f64,
+)
+    requires { ⌜ BlendPre nrow t k lo (length (now g)) (length (now panel)) ⌝ }
+    ensures { λ _. ⌜ view nrow (now (g .exit))
+        ≡ withColumn (view nrow (now (g .entry))) t lo nrow
+        (blended (columnOf (view nrow (now (panel .entry))) k) (columnOf (view nrow (now (panel .entry))) (k + 1))
+        p q) ⌝ }
+{
+    let a = lo + t * nrow;
+    let b = nrow + t * nrow;
+    let c = lo + k * nrow;
+    let e = nrow + k * nrow;
+    let u = c + nrow;
+    let v = e + nrow;
+    grid::kernels::blend(&mut g[a..b], &panel[c..e], &panel[u..v], nrow - lo, p, q);
+}
+
+// Whether the column before k begins a block.
+fn ends_block(blocks: &[u8], k: usize) -> bool
+    requires { ⌜ k ≤ length (now blocks) ⌝ }
+    ensures { λ r. ⌜ r ≡ endsBlock (bytes (now (blocks .entry))) k ⌝ }
+{
+    if k == 0 {
+        return false;
+    }
+    blocks[k - 1] == 1
+}
+
+// Rows from lo on of g's column t become L·D of the panel's column k.
+fn product_column(
+    g: &mut [f64],
+    panel: &[f64],
+    d: &[f64],
+    sub: &[f64],
+    blocks: &[u8],
+    nrow: usize,
+    t: usize,
+    k: usize,
+    lo: usize,
+)
+    requires { ⌜ ProductPre nrow t k lo (length (now g)) (length (now panel)) (length (now d))
+        (length (now sub)) (now blocks) ⌝ }
+    ensures { λ _. ⌜ view nrow (now (g .exit))
+        ≡ withColumn (view nrow (now (g .entry))) t lo nrow
+        (columnProduct (vec (now (d .entry))) (vec (now (sub .entry))) (bytes (now (blocks .entry)))
+        (view nrow (now (panel .entry))) k) ⌝ }
+{
+    if blocks[k] == 1 {
+        blend_columns(g, panel, nrow, t, k, lo, d[k], sub[k]);
+        return;
+    }
+    if ends_block(blocks, k) {
+        blend_columns(g, panel, nrow, t, k - 1, lo, sub[k - 1], d[k]);
+        return;
+    }
+    scale_column(g, panel, nrow, t, k, lo, d[k]);
+}
+
+// The first columns of g become L·D of the panel's columns kb to ke, rows from ke on.
+pub fn products(
+    g: &mut [f64],
+    panel: &[f64],
+    d: &[f64],
+    sub: &[f64],
+    blocks: &[u8],
+    nrow: usize,
+    kb: usize,
+    ke: usize,
+)
+    requires { ⌜ ProductsPre nrow kb ke (length (now g)) (length (now panel)) (length (now d))
+        (length (now sub)) (now blocks) ⌝ }
+    ensures { λ _. ⌜ view nrow (now (g .exit))
+        ≡ withProducts (view nrow (now (g .entry))) (vec (now (d .entry))) (vec (now (sub .entry)))
+        (bytes (now (blocks .entry))) (view nrow (now (panel .entry))) kb ke nrow (ke - kb) ⌝ }
+{
+    for k in kb..ke {
+        product_column(g, panel, d, sub, blocks, nrow, k - kb, k, ke);
+    }
+}

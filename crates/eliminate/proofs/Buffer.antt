@@ -1,0 +1,94 @@
+-- The multipliers' buffer by the panel's own rows and columns: what stands there, and a column of it that is written. Assumes nothing.
+use Prim.Native.Nat.{ℕ, _+_, _-_, _*_, _<_, _≤_}
+use mathlib.Core.Path.{_≡_, sym, _∙_, ap, fun-ext}
+use mathlib.Core.Bool.{false, true≢false}
+use mathlib.Core.List.{List}
+use native.Mathlib.Omega.{arith}
+use borrow.Author.Tests.{lt-ltb, le-ltb, le-leb, lt-leb, eq-eqb, ne-eqb, eqb-true, eqb-false, ltb-true, ltb-false}
+use borrow.Rule.Slice.PartMut.{midOf, putMid}
+use lib.Dec.{ltb, leb, eqb}
+use lib.ListN.{length}
+use lib.Ieee.{Float}
+use Rattle.model.specs.Scalar.{_⊖_, _⊗_}
+use Rattle.model.specs.Matrix.{Row, Mat, view, vec, within, withColumn, withPart}
+use Rattle.grid.specs.Rules.{times, combined}
+use Rattle.grid.proofs.Laws.{test, no, vec-part}
+use Rattle.grid.proofs.Parts.{column-lent}
+use Rattle.whole.proofs.Masked.{within-in, within-before, within-past, ranged}
+use Rattle.eliminate.specs.Eliminate.{inPanel}
+
+pub kept-at : (kb ke : ℕ) (B : Mat) (j c : ℕ) → kb ≤ j → j < ke → kb ≤ c → c < ke → B (j - kb) (c - kb) ≡ inPanel kb ke B j c
+unfolding inPanel
+kept-at kb ke B j c h l g m = rw (le-leb kb j h, lt-ltb j ke l, le-leb kb c g, lt-ltb c ke m)
+
+-- rows or columns of the panel are told apart by their distance from kb
+off-eqb : (kb a c : ℕ) → kb ≤ a → kb ≤ c → eqb (a - kb) (c - kb) ≡ eqb a c
+off-eqb kb a c h l =
+    test (eqb a c)
+    (λ p. rw p (eq-eqb (a - kb) (c - kb) (ap (λ (x : ℕ). x - kb) (eqb-true a c p))))
+    (λ p. rw p (ne-eqb (a - kb) (c - kb) (λ e. eqb-false a c p (omega arith))))
+
+off-within : (kb lo hi a : ℕ) → kb ≤ a → kb ≤ lo → within (lo - kb) (hi - kb) (a - kb) ≡ within lo hi a
+off-within kb lo hi a h l =
+    test (ltb a lo)
+    (λ p. let u : a < lo = ltb-true a lo p in rw (lt-leb lo a u, lt-leb (lo - kb) (a - kb) (omega arith)))
+    (λ p. let u : lo ≤ a = ltb-false a lo p in
+    test (ltb a hi)
+    (λ q. let v : a < hi = ltb-true a hi q in rw (q, le-leb lo a u, le-leb (lo - kb) (a - kb) (omega arith), lt-ltb (a - kb) (hi - kb) (omega arith)))
+    (λ q. let v : hi ≤ a = ltb-false a hi q in rw (q, le-ltb (a - kb) (hi - kb) (omega arith), no (leb lo a), no (leb (lo - kb) (a - kb)))))
+
+-- a column of the buffer, written by a rule of the buffer's own rows: the panel's column, by the rule N
+kept-column : (kb ke : ℕ) (B : Mat) (c lo : ℕ) (N′ N : Row) → kb ≤ c → c < ke → kb ≤ lo → ((a : ℕ) → kb ≤ a → a < ke → N′ (a - kb) ≡ N a)
+    → inPanel kb ke (withColumn B (c - kb) (lo - kb) (ke - kb) N′) ≡ withColumn (inPanel kb ke B) c lo ke N
+unfolding inPanel withColumn
+kept-column kb ke B c lo N′ N f l u same =
+    fun-ext λ a. fun-ext λ b.
+    ranged kb ke a
+    (λ ha la ea. ranged kb ke b
+    (λ hb lb eb. rw (ea, eb, off-eqb kb b c hb f, off-within kb lo ke a ha u, same a ha la))
+    (λ eb. rw (ea, eb, apart b eb)))
+    (λ ea. rw (ea, outside a ea, no (eqb b c)))
+  where
+    apart : (b : ℕ) → within kb ke b ≡ false → eqb b c ≡ false
+    apart b e = ne-eqb b c (λ x. true≢false (sym (within-in kb ke c f l) ∙ ap (λ (z : ℕ). within kb ke z) (sym x) ∙ e))
+
+    outside : (a : ℕ) → within kb ke a ≡ false → within lo ke a ≡ false
+    outside a e =
+        test (ltb a ke)
+        (λ p. let h : a < ke = ltb-true a ke p in
+        test (ltb a kb)
+        (λ q. within-before lo ke a (omega (arith, ltb-true a kb q)))
+        (λ q. absurd (true≢false (sym (within-in kb ke a (ltb-false a kb q) h) ∙ e))))
+        (λ p. within-past lo ke a (ltb-false a ke p))
+
+-- ---- the functions that lend a column of the buffer
+
+pub keep-one-lent : (nb : ℕ) (xs ys zs : List Float) (kb ke c lo : ℕ) (r : Float) → nb + (c - kb) * nb ≤ length xs → ke ≤ kb + nb → kb ≤ c → c < ke → kb ≤ lo
+    → lo ≤ ke
+    → length ys ≡ length (midOf (lo - kb + (c - kb) * nb) (ke - kb + (c - kb) * nb - (lo - kb + (c - kb) * nb)) xs)
+    → vec ys ≡ withPart (vec (midOf (lo - kb + (c - kb) * nb) (ke - kb + (c - kb) * nb - (lo - kb + (c - kb) * nb)) xs)) 0 (ke - kb - (lo - kb))
+    (times (vec (midOf lo (ke - lo) zs)) r)
+    → inPanel kb ke (view nb (putMid (lo - kb + (c - kb) * nb) (ke - kb + (c - kb) * nb - (lo - kb + (c - kb) * nb)) xs ys))
+    ≡ withColumn (inPanel kb ke (view nb xs)) c lo ke (times (vec zs) r)
+unfolding times
+keep-one-lent nb xs ys zs kb ke c lo r room w f l u g ly e =
+    ap (λ (B : Mat). inPanel kb ke B) (column-lent nb xs ys (c - kb) (lo - kb) (ke - kb) _ _ (λ a. vec zs (a + kb) ⊗ r) room (omega arith) (omega arith) ly e
+    (λ t h. ap (λ (x : Float). x ⊗ r) (vec-part lo ke zs t (omega arith) ∙ ap (vec zs) (omega arith))))
+    ∙ kept-column kb ke (view nb xs) c lo _ _ f l u (λ a h m. ap (λ (x : ℕ). vec zs x ⊗ r) (omega arith))
+
+pub keep-two-lent : (nb : ℕ) (xs ys zs ws : List Float) (kb ke c lo : ℕ) (p q r : Float) → nb + (c - kb) * nb ≤ length xs → ke ≤ kb + nb → kb ≤ c → c < ke
+    → kb ≤ lo → lo ≤ ke
+    → length ys ≡ length (midOf (lo - kb + (c - kb) * nb) (ke - kb + (c - kb) * nb - (lo - kb + (c - kb) * nb)) xs)
+    → vec ys ≡ withPart (vec (midOf (lo - kb + (c - kb) * nb) (ke - kb + (c - kb) * nb - (lo - kb + (c - kb) * nb)) xs)) 0 (ke - kb - (lo - kb))
+    (combined (vec (midOf lo (ke - lo) zs)) (vec (midOf lo (ke - lo) ws)) p q r)
+    → inPanel kb ke (view nb (putMid (lo - kb + (c - kb) * nb) (ke - kb + (c - kb) * nb - (lo - kb + (c - kb) * nb)) xs ys))
+    ≡ withColumn (inPanel kb ke (view nb xs)) c lo ke (combined (vec zs) (vec ws) p q r)
+unfolding combined
+keep-two-lent nb xs ys zs ws kb ke c lo p q r room w f l u g ly e =
+    ap (λ (B : Mat). inPanel kb ke B)
+    (column-lent nb xs ys (c - kb) (lo - kb) (ke - kb) _ _ (λ a. (p ⊗ vec zs (a + kb) ⊖ q ⊗ vec ws (a + kb)) ⊗ r) room (omega arith) (omega arith) ly e
+    (λ t h. cc (vec-part lo ke zs t (omega arith) ∙ ap (vec zs) (shift t h), vec-part lo ke ws t (omega arith) ∙ ap (vec ws) (shift t h))))
+    ∙ kept-column kb ke (view nb xs) c lo _ _ f l u (λ a h m. ap (λ (x : ℕ). (p ⊗ vec zs x ⊖ q ⊗ vec ws x) ⊗ r) (omega arith))
+  where
+    shift : (t : ℕ) → t < ke - kb - (lo - kb) → lo + t ≡ lo - kb + t + kb
+    shift t h = omega arith

@@ -1,0 +1,42 @@
+-- `eliminate::head_two` meets its contract: columns make the model's rows. Assumes nothing.
+use borrow.Author.Needs.{needs}
+use Rattle.eliminate.proofs.Rows.{two-head}
+use Rattle.eliminate.proofs.head_two.Statement.{statement}
+use Rattle.eliminate.proofs.head_two.Tie as tie
+
+prepare-two-requires : tie.Need-prepare-two-requires
+prepare-two-requires c κs = search needs
+
+add-apply-two : tie.Need-add-apply-two
+add-apply-two c = search needs
+
+apply-two-requires : tie.Need-apply-two-requires
+apply-two-requires c κs = search needs
+
+same-length : tie.Need-same-length
+same-length c = search needs
+
+same-length-2 : tie.Need-same-length-2
+same-length-2 c = search needs
+
+same-length-3 : tie.Need-same-length-3
+same-length-3 c = search needs
+
+same-length-4 : tie.Need-same-length-4
+same-length-4 c = search needs
+
+returns : tie.Need-returns
+returns c = (search (needs, two-head), search needs)
+
+pub head-two-spec : {M : Type 1} → statement M
+head-two-spec =
+    tie.close
+    (tie.spec
+    prepare-two-requires
+    add-apply-two
+    apply-two-requires
+    same-length
+    same-length-2
+    same-length-3
+    same-length-4
+    returns)

@@ -1,0 +1,70 @@
+-- `exchange::exchange_rows` meets its contract. The invariant: the columns before j are exchanged. The measure is what is left. Assumes nothing.
+use Prim.Native.Nat.{_-_, _*_, _≤_}
+use mathlib.Core.Path.{_≡_}
+use native.Mathlib.Nat.{mul-le-mul-right}
+use native.Mathlib.Omega.{arith}
+use lib.ListN.{length}
+use borrow.Author.Needs.{needs}
+use Rattle.model.specs.Matrix.{view}
+use Rattle.exchange.specs.Exchange.{rowsExchanged}
+use Rattle.exchange.proofs.Parts.{rows-none, rows-step, rows-end}
+use Rattle.exchange.proofs.exchange_rows.Statement.{statement}
+use Rattle.exchange.proofs.exchange_rows.Tie as tie
+
+abbrev Inv-loop : tie.InvT-loop
+Inv-loop panel₀ nrow p q j₀ panel j =
+    (j ≤ p) × (j * nrow ≤ p * nrow) × (length panel ≡ length panel₀) × (view nrow panel ≡ rowsExchanged (view nrow panel₀) p q 0 j)
+
+abbrev μ-loop : tie.MeasureT-loop
+μ-loop panel₀ nrow p q j₀ panel j = p - j
+
+loop-holds : tie.Need-loop-holds Inv-loop μ-loop
+loop-holds c = (omega arith, mul-le-mul-right _ (omega arith), omega arith, search rows-none)
+
+mul-swap : tie.Need-mul-swap Inv-loop μ-loop
+mul-swap c = search needs
+
+add-swap : tie.Need-add-swap Inv-loop μ-loop
+add-swap c = search needs
+
+mul-swap-2 : tie.Need-mul-swap-2 Inv-loop μ-loop
+mul-swap-2 c = search needs
+
+add-swap-2 : tie.Need-add-swap-2 Inv-loop μ-loop
+add-swap-2 c = search needs
+
+swap-requires : tie.Need-swap-requires Inv-loop μ-loop
+swap-requires c κs = search needs
+
+add-j : tie.Need-add-j Inv-loop μ-loop
+add-j c = search needs
+
+loop-less : tie.Need-loop-less Inv-loop μ-loop
+loop-less c = search needs
+
+loop-again : tie.Need-loop-again Inv-loop μ-loop
+loop-again c = (omega arith, mul-le-mul-right _ (omega arith), search needs, search rows-step)
+
+same-length : tie.Need-same-length Inv-loop μ-loop
+same-length c = search needs
+
+returns : tie.Need-returns Inv-loop μ-loop
+returns c = search (needs, rows-end)
+
+pub exchange-rows-spec : {M : Type 1} → statement M
+exchange-rows-spec =
+    tie.close
+    (tie.spec
+    Inv-loop
+    μ-loop
+    loop-holds
+    mul-swap
+    add-swap
+    mul-swap-2
+    add-swap-2
+    swap-requires
+    add-j
+    loop-less
+    loop-again
+    same-length
+    returns)

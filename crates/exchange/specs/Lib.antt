@@ -1,0 +1,2 @@
+-- The parts of the symmetric exchange, and what it asks of its callers.
+pub mod Exchange

@@ -1,0 +1,127 @@
+-- From the run over the whole panel to what the factor call leaves: refused with zeros, or the factor. Assumes nothing.
+use mathlib.Core.Path.{_≡_, refl, sym, _∙_, ap}
+use mathlib.Core.List.{List, [], _∷_}
+use Prim.Native.Nat.{ℕ, zero, suc, _+_, _-_, _*_, _≤_, _<_, min, max}
+use native.Mathlib.Omega.{arith}
+use lib.ListN.{length, getD, replicate}
+use lib.Ieee.{Float, nan}
+use Rattle.model.specs.Scalar.{zeroF}
+use Rattle.model.specs.Matrix.{Row, Mat, view, vec, bytes, places, tabulate, columnMajor}
+use Rattle.model.specs.Step.{Pivots}
+use Rattle.model.specs.Head.{State}
+use Rattle.model.specs.Inertia.{talliedOf}
+use Rattle.model.specs.Factor.{Buffers, Outcome, start, entryCheck, resultCheck, HeadAnswer, fails, stands, headAnswerOf, factorRowOf, markOf, factorEntry, zeros, reportOf, afterHead, factorOf}
+use Rattle.model.specs.Answer.{refused, accepted, sound, stop}
+use Rattle.model.specs.declared.Settings.{Settings}
+use Rattle.model.specs.declared.Tally.{Tally}
+use Rattle.model.proofs.Tabulated.{length-tabulateFrom, getD-tabulate, is-tabulate, is-columnMajor}
+use Rattle.model.proofs.Entry.{Passed, passed, past-entry}
+use Rattle.whole.specs.Whole.{WholeRun, stoppedAt, ended, wholePanelsOf}
+use Rattle.whole.proofs.Result.{Reached, run-stopped, run-ended, reached-answer, reached-entry, reached-mark, reached-pivots, reached-rounds}
+use Rattle.scan.specs.Marks.{tailMarks}
+use Rattle.factor.specs.Turn.{between}
+use Rattle.factor.specs.Judge.{acceptOf}
+
+-- ---- lists from what they show
+
+vec-tabulate : (n : ℕ) (xs : List Float) (f : Row) → length xs ≡ n → vec xs ≡ f → xs ≡ tabulate n f
+unfolding vec
+vec-tabulate n xs f l e = is-tabulate n f nan xs l (λ k h. ap (λ (g : Row). g k) e)
+
+bytes-tabulate : (n : ℕ) (xs : List ℕ) (f : ℕ → ℕ) → length xs ≡ n → bytes xs ≡ f → xs ≡ tabulate n f
+unfolding bytes
+bytes-tabulate n xs f l e = is-tabulate n f 0 xs l (λ k h. ap (λ (g : ℕ → ℕ). g k) e)
+
+-- within the list its default plays no part
+getD-any : (xs : List ℕ) (k a b : ℕ) → k < length xs → getD xs k a ≡ getD xs k b
+getD-any [] k a b h = absurd (omega arith)
+getD-any (x ∷ xs) zero a b h = refl
+getD-any (x ∷ xs) (suc k) a b h = getD-any xs k a b (omega arith)
+
+places-tabulate : (n : ℕ) (xs : List ℕ) (f : ℕ → ℕ) → length xs ≡ n → places xs ≡ f → xs ≡ tabulate n f
+unfolding places
+places-tabulate n xs f l e = is-tabulate n f 0 xs l (λ k h. getD-any xs k 0 k (omega arith) ∙ ap (λ (g : ℕ → ℕ). g k) e)
+
+-- two tables of the same places
+tabulate-same : (n : ℕ) (f g : ℕ → ℕ) → ((k : ℕ) → k < n → f k ≡ g k) → tabulate n f ≡ tabulate n g
+tabulate-same n f g h = is-tabulate n g 0 (tabulate n f) (length-tabulateFrom 0 n f) (λ k l. getD-tabulate n k f 0 l ∙ h k l)
+
+-- an outcome by its parts
+outcome-same : (r r′ : ℕ) (t t′ : Tally) (p p′ d d′ s s′ a a′ w w′ : List Float) (b b′ l l′ o o′ m m′ : List ℕ)
+    → r ≡ r′ → t ≡ t′ → p ≡ p′ → d ≡ d′ → s ≡ s′ → b ≡ b′ → l ≡ l′ → a ≡ a′ → o ≡ o′ → m ≡ m′ → w ≡ w′
+    → _≡_ {A = Outcome} (record { answer = accepted (record { rounds = r; inertia = t }); buffers = record { panel = p; d = d; sub = s; blocks = b; lifts = l; amounts = a; order = o; marks = m; work = w } })
+    (record { answer = accepted (record { rounds = r′; inertia = t′ }); buffers = record { panel = p′; d = d′; sub = s′; blocks = b′; lifts = l′; amounts = a′; order = o′; marks = m′; work = w′ } })
+outcome-same r r′ t t′ p p′ d d′ s s′ a a′ w w′ b b′ l l′ o o′ m m′ er et ep ed es eb el ea eo em ew = rw (er, et, ep, ed, es, eb, el, ea, eo, em, ew)
+
+-- ---- the call past the entry checks
+
+module _ (c : Settings) (input : List Float) (b : Buffers) (e : entryCheck c input b ≡ sound) where
+  abbrev given : Mat
+  given = view (c .nrow) input
+
+  -- the run that the loop over panels makes
+  abbrev pub wholeOf : WholeRun
+  wholeOf = wholePanelsOf (c .mode) (c .limit) (c .nrow) (c .ncol) (min (c .nb) (max (c .ncol) 1)) (c .ncol) 0 (start (c .ncol) given)
+
+  checked : Passed c input b
+  checked = passed c input b e
+
+  by-head : (h : HeadAnswer) → headAnswerOf (c .mode) (c .limit) (c .ncol) (c .nb) given ≡ h → factorOf c input b ≡ afterHead h c given b
+  by-head h w = past-entry c input b e ∙ ap (λ (x : HeadAnswer). afterHead x c given b) w
+
+  -- refused by a step
+  pub stopped-outcome : (n p : ℕ) → stoppedAt n p ≡ wholeOf → record { answer = refused n p 0; buffers = zeros b } ≡ factorOf c input b
+  stopped-outcome n p s =
+      sym (by-head (fails n p) (run-stopped (c .mode) (c .limit) (c .nrow) (c .ncol) (c .nb) given (checked .head) (checked .some) n p (sym s)))
+
+  module _ (t : State) (s : ended t ≡ wholeOf) where
+    reached : Reached (c .mode) (c .limit) (c .nrow) (c .ncol) (c .nb) given t
+    reached = run-ended (c .mode) (c .limit) (c .nrow) (c .ncol) (c .nb) given (checked .head) (checked .some) t (sym s)
+
+    -- refused after the last column
+    pub unsound-outcome : (n p q : ℕ) → resultCheck (c .ncol) t (c .ncol) 0 ≡ stop n p q → record { answer = refused n p 0; buffers = zeros b } ≡ factorOf c input b
+    unsound-outcome n p q h =
+        sym (by-head (fails n p) (reached-answer (c .mode) (c .limit) (c .nrow) (c .ncol) (c .nb) given t reached ∙ rw h))
+
+    stands-answer : resultCheck (c .ncol) t (c .ncol) 0 ≡ sound → headAnswerOf (c .mode) (c .limit) (c .ncol) (c .nb) given ≡ stands (reached .state) (reached .panels)
+    stands-answer h = reached-answer (c .mode) (c .limit) (c .nrow) (c .ncol) (c .nb) given t reached ∙ rw h
+
+  -- accepted
+  pub accepted-outcome : (panel d sub amounts work : List Float) (blocks lifts order marks partners : List ℕ) (rounds : ℕ) (tally : Tally)
+      → ended (between (c .nrow) panel d sub amounts blocks lifts order partners rounds) ≡ wholeOf
+      → resultCheck (c .ncol) (between (c .nrow) panel d sub amounts blocks lifts order partners rounds) (c .ncol) 0 ≡ sound
+      → length panel ≡ c .nrow * c .ncol → length d ≡ c .ncol → length sub ≡ c .ncol → length amounts ≡ c .ncol → length blocks ≡ c .ncol → length lifts ≡ c .ncol → length order ≡ c .nrow
+      → marks ≡ tabulate (c .nrow - c .ncol) (λ i. markOf (c .ncol) (view (c .nrow) panel (c .ncol + i)))
+      → work ≡ replicate (length (b .work)) zeroF → tally ≡ talliedOf (c .ncol) (vec d) (vec sub) (bytes blocks)
+      → record {
+        answer = accepted (record { rounds = rounds; inertia = tally });
+        buffers = record { panel = panel; d = d; sub = sub; blocks = blocks; lifts = lifts; amounts = amounts; order = order; marks = marks; work = work };
+      } ≡ factorOf c input b
+  accepted-outcome panel d sub amounts work blocks lifts order marks partners rounds tally s h lp ld ls la lb ll lo em ew et =
+      let t = between (c .nrow) panel d sub amounts blocks lifts order partners rounds in
+      let w = reached t s in
+      let p : t .pivots ≡ w .state .pivots = reached-pivots (c .mode) (c .limit) (c .nrow) (c .ncol) (c .nb) given t w in
+      outcome-same rounds (w .state .rounds) tally (reportOf (c .ncol) (w .state) .inertia) panel (columnMajor (c .nrow) (c .ncol) (factorEntry (c .ncol) (w .state) (w .panels) given))
+      d (tabulate (c .ncol) (w .state .pivots .d)) sub (tabulate (c .ncol) (w .state .pivots .sub)) amounts (tabulate (c .ncol) (w .state .pivots .amounts))
+      work (replicate (length (b .work)) zeroF) blocks (tabulate (c .ncol) (w .state .pivots .blocks)) lifts (tabulate (c .ncol) (w .state .pivots .lifts))
+      order (tabulate (c .nrow) (w .state .pivots .order))
+      marks (tabulate (c .nrow - c .ncol) (λ i. markOf (c .ncol) (factorRowOf (c .ncol) (w .panels) (given (c .ncol + i)))))
+      (reached-rounds (c .mode) (c .limit) (c .nrow) (c .ncol) (c .nb) given t w)
+      (et ∙ ap (λ (q : Pivots). talliedOf (c .ncol) (q .d) (q .sub) (q .blocks)) p)
+      (is-columnMajor (c .nrow) (c .ncol) (factorEntry (c .ncol) (w .state) (w .panels) given) panel lp (reached-entry (c .mode) (c .limit) (c .nrow) (c .ncol) (c .nb) given t w))
+      (vec-tabulate (c .ncol) d (w .state .pivots .d) ld (ap (λ (q : Pivots). q .d) p))
+      (vec-tabulate (c .ncol) sub (w .state .pivots .sub) ls (ap (λ (q : Pivots). q .sub) p))
+      (bytes-tabulate (c .ncol) blocks (w .state .pivots .blocks) lb (ap (λ (q : Pivots). q .blocks) p))
+      (bytes-tabulate (c .ncol) lifts (w .state .pivots .lifts) ll (ap (λ (q : Pivots). q .lifts) p))
+      (vec-tabulate (c .ncol) amounts (w .state .pivots .amounts) la (ap (λ (q : Pivots). q .amounts) p))
+      (places-tabulate (c .nrow) order (w .state .pivots .order) lo (ap (λ (q : Pivots). q .order) p))
+      (em ∙ tabulate-same (c .nrow - c .ncol) _ _ (λ i l. reached-mark (c .mode) (c .limit) (c .nrow) (c .ncol) (c .nb) given t w (c .ncol + i) (omega arith) (omega arith)))
+      ew
+      ∙ sym (by-head (stands (w .state) (w .panels)) (stands-answer t s h))
+
+-- ---- the accepted outcome by its parts
+pub accept-is : (nrow ncol rounds : ℕ) (b : Buffers) (marks : List ℕ) (work : List Float) (t : Tally) → marks ≡ tailMarks (view nrow (b .panel)) ncol nrow ncol → work ≡ replicate (length (b .work)) zeroF
+    → t ≡ talliedOf (length (b .d)) (vec (b .d)) (vec (b .sub)) (bytes (b .blocks))
+    → record { answer = accepted (record { rounds = rounds; inertia = t }); buffers = record { panel = b .panel; d = b .d; sub = b .sub; blocks = b .blocks; lifts = b .lifts; amounts = b .amounts; order = b .order; marks = marks; work = work } }
+    ≡ acceptOf nrow ncol rounds b
+accept-is nrow ncol rounds b marks work t em ew et = rw (em, ew, et)

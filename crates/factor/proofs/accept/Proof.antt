@@ -1,0 +1,43 @@
+use borrow.Author.Needs.{needs}
+use Rattle.finish.specs.Buffers.{buffersOf}
+use Rattle.factor.proofs.Outcome.{accept-is}
+use Rattle.factor.proofs.accept.Statement.{statement}
+use Rattle.factor.proofs.accept.Tie as tie
+use Rattle.factor.proofs.accept.Reads as reads
+use Rattle.factor.proofs.accept.Lts as lts
+use Rattle.grid.proofs.kernels.zero.Reads as zero-reads
+use Rattle.inertia.proofs.tally.Reads as tally-reads
+use Rattle.scan.proofs.marks_of.Reads as marks-of-reads
+
+-- src/lib.rt:169:5
+marks-of-requires : tie.Need-marks-of-requires
+marks-of-requires c κs = search needs
+
+-- src/lib.rt:170:5
+zero-requires : tie.Need-zero-requires
+zero-requires c κs = search needs
+
+-- src/lib.rt:171:9
+tally-requires : tie.Need-tally-requires
+tally-requires c κs = search needs
+
+-- src/lib.rt:152:1
+same-length : tie.Need-same-length
+same-length c = search needs
+
+-- src/lib.rt:152:1
+same-length-2 : tie.Need-same-length-2
+same-length-2 c = search needs
+
+-- src/lib.rt:152:1
+returns : tie.Need-returns
+returns c =
+    let a = c .before .before .before .before .before .before .before .before .before .before .before .before .before .before .before .before .before .before .args in
+    accept-is (a .c .nrow) (a .c .ncol) (a .rounds)
+    (buffersOf (a .panel .now) (a .d .now) (a .sub .now) (a .blocks .now) (a .lifts .now) (a .amounts .now) (a .order .now) (a .marks .now) (a .work .now)) _ _ _
+    (c .before .before .before .before .before .before .before .marks-of .ensures) (c .before .before .before .zero .ensures) (c .tally .ensures)
+
+pub accept-spec : {M : Type 1} → statement M
+accept-spec =
+    tie.close
+    (tie.spec marks-of-requires zero-requires tally-requires same-length same-length-2 returns)

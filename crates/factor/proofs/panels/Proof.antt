@@ -1,0 +1,224 @@
+use Prim.Native.Nat.{ℕ, _+_, _*_, _<_, _≤_, _-_}
+use mathlib.Core.Path.{_≡_, refl, sym, _∙_, ap}
+use native.Mathlib.Omega.{arith}
+use lib.ListN.{length}
+use borrow.Author.Needs.{needs}
+use Rattle.model.specs.Matrix.{bytes}
+use Rattle.whole.specs.Whole.{wholePanelsOf}
+use Rattle.factor.specs.Turn.{between}
+use Rattle.bunch_kaufman.specs.Terms.{NotedTo}
+use Rattle.factor.proofs.Turns.{run-begin, run-more, run-stop, run-done, turn-pre, holds-same, noted-more, done-leaves, end-leaves, stopped-leaves, begun, further, inside}
+use Rattle.factor.proofs.panels.Statement.{statement}
+use Rattle.factor.proofs.panels.Tie as tie
+use Rattle.factor.proofs.panels.Reads as reads
+use Rattle.factor.proofs.panels.Lts as lts
+use Rattle.factor.proofs.panel_end.Reads as panel-end-reads
+use Rattle.factor.proofs.turn.Reads as turn-reads
+
+abbrev Inv-loop : tie.InvT-loop
+Inv-loop panel₀ d₀ sub₀ amounts₀ blocks₀ lifts₀ order₀ partners₀ work₀ nrow ncol nb mode limit kb₀ rounds₀ panel d sub amounts blocks lifts order partners work kb rounds =
+    (kb ≤ ncol) × (length panel ≡ length panel₀) × (length d ≡ length d₀) × (length sub ≡ length sub₀) × (length amounts ≡ length amounts₀) × (length blocks ≡ length blocks₀) × (length lifts ≡ length lifts₀) × (length order ≡ length order₀) × (length partners ≡ length partners₀) × (length work ≡ length work₀)
+    × (wholePanelsOf mode limit nrow ncol nb (ncol - kb) kb (between nrow panel d sub amounts blocks lifts order partners rounds) ≡ wholePanelsOf mode limit nrow ncol nb ncol 0 (between nrow panel₀ d₀ sub₀ amounts₀ blocks₀ lifts₀ order₀ partners₀ 0))
+    × NotedTo kb (kb + 1) rounds (bytes blocks) (bytes partners)
+
+abbrev μ-loop : tie.MeasureT-loop
+μ-loop panel₀ d₀ sub₀ amounts₀ blocks₀ lifts₀ order₀ partners₀ work₀ nrow ncol nb mode limit kb₀ rounds₀ panel d sub amounts blocks lifts order partners work kb rounds =
+    ncol - kb
+
+-- src/lib.rt:89:5
+loop-holds : tie.Need-loop-holds Inv-loop μ-loop
+loop-holds c =
+    let start = c .before .before .before .before .before .before .before .before .before in
+    let pre = start .pre in (
+      search needs,
+      refl,
+      refl,
+      refl,
+      refl,
+      refl,
+      refl,
+      refl,
+      refl,
+      refl,
+      run-begin _ _ _ _ _ _,
+      pre .1 .1,
+    )
+
+-- src/lib.rt:90:13
+panel-end-requires : tie.Need-panel-end-requires Inv-loop μ-loop
+panel-end-requires c κs = search needs
+
+-- src/lib.rt:91:13
+turn-requires : tie.Need-turn-requires Inv-loop μ-loop
+turn-requires c κs =
+    let looped = c .before .before .before .before .before .before .before .before .before .before .before in
+    let inv = looped .loop .inv in
+    let pre = looped .before .before .before .before .before .before .before .before .before .before .pre in (
+      turn-pre _ _ _ _ _ _ _ _ _ _ _ (pre .0) (inv .1) (inv .9) (c .before .before .before .before .before .before .before .before .before .before .loop-test .taken) (c .before .before .before .before .before .before .before .before .before .panel-end .ensures),
+      (
+        holds-same _ _ _ _ _ _ _ _ _ _ _ _ _ _ _ _ (pre .1 .0) (inv .2) (inv .3) (inv .4) (inv .5) (inv .6) (inv .7) (inv .8),
+        noted-more _ _ _ _ _ _ (inv .11) (begun _ _ _ _ (pre .0 .some) (c .before .before .before .before .before .before .before .before .before .before .loop-test .taken) (c .before .before .before .before .before .before .before .before .before .panel-end .ensures)),
+      ),
+    )
+
+-- src/lib.rt:94:23
+enum-known-ran : tie.Need-enum-known-ran Inv-loop μ-loop
+enum-known-ran c = search needs
+
+-- src/lib.rt:95:13
+enum-told : tie.Need-enum-told Inv-loop μ-loop
+enum-told c = search needs
+
+-- src/lib.rt:95:13
+same-length : tie.Need-same-length Inv-loop μ-loop
+same-length c = search needs
+
+-- src/lib.rt:95:13
+same-length-2 : tie.Need-same-length-2 Inv-loop μ-loop
+same-length-2 c = search needs
+
+-- src/lib.rt:95:13
+same-length-3 : tie.Need-same-length-3 Inv-loop μ-loop
+same-length-3 c = search needs
+
+-- src/lib.rt:95:13
+same-length-4 : tie.Need-same-length-4 Inv-loop μ-loop
+same-length-4 c = search needs
+
+-- src/lib.rt:95:13
+same-length-5 : tie.Need-same-length-5 Inv-loop μ-loop
+same-length-5 c = search needs
+
+-- src/lib.rt:95:13
+same-length-6 : tie.Need-same-length-6 Inv-loop μ-loop
+same-length-6 c = search needs
+
+-- src/lib.rt:95:13
+same-length-7 : tie.Need-same-length-7 Inv-loop μ-loop
+same-length-7 c = search needs
+
+-- src/lib.rt:95:13
+same-length-8 : tie.Need-same-length-8 Inv-loop μ-loop
+same-length-8 c = search needs
+
+-- src/lib.rt:95:13
+same-length-9 : tie.Need-same-length-9 Inv-loop μ-loop
+same-length-9 c = search needs
+
+-- src/lib.rt:95:13
+returns : tie.Need-returns Inv-loop μ-loop
+returns c =
+    let called = c .before .before .before .before .before .before .before .before .before .before .before .before .before .before .before .before .before .before .before .before in
+    let looped = called .before .before .before .before .before .before .before .before .before .before .before .before in
+    let inv = looped .loop .inv in
+    let pre = looped .before .before .before .before .before .before .before .before .before .before .pre in
+    let told = c .enum-told .given .1 in (
+      run-stop _ _ _ _ _ (pre .0 .some) _ _ _ _ _ _ _ _ (inv .10) (called .before .before .before .before .before .before .before .before .before .before .before .loop-test .taken) (called .before .before .before .before .before .before .before .before .before .before .panel-end .ensures) (called .turn .ensures .0) told,
+      stopped-leaves _ _ _ _ _ _ (called .turn .ensures .1) told,
+    )
+
+-- src/lib.rt:89:5
+loop-less : tie.Need-loop-less Inv-loop μ-loop
+loop-less c =
+    let called = c .before .before .before .before .before .before .before .before .before .before .before .before .before .before .before .before .before .before .before .before .before in
+    let looped = called .before .before .before .before .before .before .before .before .before .before .before .before in
+    further _ _ _ _ (looped .before .before .before .before .before .before .before .before .before .before .pre .0 .some) (called .before .before .before .before .before .before .before .before .before .before .before .loop-test .taken) (called .before .before .before .before .before .before .before .before .before .before .panel-end .ensures)
+
+-- src/lib.rt:89:5
+loop-again : tie.Need-loop-again Inv-loop μ-loop
+loop-again c =
+    let called = c .before .before .before .before .before .before .before .before .before .before .before .before .before .before .before .before .before .before .before .before .before in
+    let looped = called .before .before .before .before .before .before .before .before .before .before .before .before in
+    let inv = looped .loop .inv in
+    let pre = looped .before .before .before .before .before .before .before .before .before .before .pre in
+    let kept = called .turn .kept in
+    let told = c .before .ran .given .1 in (
+      inside _ _ _ _ (called .before .before .before .before .before .before .before .before .before .before .panel-end .ensures),
+      kept .0 ∙ inv .1,
+      kept .1 .0 ∙ inv .2,
+      kept .1 .1 .0 ∙ inv .3,
+      kept .1 .1 .1 .0 ∙ inv .4,
+      kept .1 .1 .1 .1 .0 ∙ inv .5,
+      kept .1 .1 .1 .1 .1 .0 ∙ inv .6,
+      kept .1 .1 .1 .1 .1 .1 .0 ∙ inv .7,
+      kept .1 .1 .1 .1 .1 .1 .1 .0 ∙ inv .8,
+      kept .1 .1 .1 .1 .1 .1 .1 .1 .0 ∙ inv .9,
+      run-more _ _ _ _ _ (pre .0 .some) _ _ _ _ _ _ _ (inv .10) (called .before .before .before .before .before .before .before .before .before .before .before .loop-test .taken) (called .before .before .before .before .before .before .before .before .before .before .panel-end .ensures) (called .turn .ensures .0) told,
+      done-leaves _ _ _ _ _ (called .turn .ensures .1) told,
+    )
+
+-- src/lib.rt:65:1
+same-length-10 : tie.Need-same-length-10 Inv-loop μ-loop
+same-length-10 c = search needs
+
+-- src/lib.rt:65:1
+same-length-11 : tie.Need-same-length-11 Inv-loop μ-loop
+same-length-11 c = search needs
+
+-- src/lib.rt:65:1
+same-length-12 : tie.Need-same-length-12 Inv-loop μ-loop
+same-length-12 c = search needs
+
+-- src/lib.rt:65:1
+same-length-13 : tie.Need-same-length-13 Inv-loop μ-loop
+same-length-13 c = search needs
+
+-- src/lib.rt:65:1
+same-length-14 : tie.Need-same-length-14 Inv-loop μ-loop
+same-length-14 c = search needs
+
+-- src/lib.rt:65:1
+same-length-15 : tie.Need-same-length-15 Inv-loop μ-loop
+same-length-15 c = search needs
+
+-- src/lib.rt:65:1
+same-length-16 : tie.Need-same-length-16 Inv-loop μ-loop
+same-length-16 c = search needs
+
+-- src/lib.rt:65:1
+same-length-17 : tie.Need-same-length-17 Inv-loop μ-loop
+same-length-17 c = search needs
+
+-- src/lib.rt:65:1
+same-length-18 : tie.Need-same-length-18 Inv-loop μ-loop
+same-length-18 c = search needs
+
+-- src/lib.rt:65:1
+returns-2 : tie.Need-returns-2 Inv-loop μ-loop
+returns-2 c =
+    let inv = c .before .loop .inv in
+    (run-done _ _ _ _ _ (c .before .before .before .before .before .before .before .before .before .before .before .pre .0 .some) _ _ _ (inv .10) (c .loop-test .left), end-leaves _ _ _ _ _ (inv .11) (c .loop-test .left) (inv .0))
+
+pub panels-spec : {M : Type 1} → statement M
+panels-spec =
+    tie.close
+    (tie.spec
+    Inv-loop
+    μ-loop
+    loop-holds
+    panel-end-requires
+    turn-requires
+    enum-known-ran
+    enum-told
+    same-length
+    same-length-2
+    same-length-3
+    same-length-4
+    same-length-5
+    same-length-6
+    same-length-7
+    same-length-8
+    same-length-9
+    returns
+    loop-less
+    loop-again
+    same-length-10
+    same-length-11
+    same-length-12
+    same-length-13
+    same-length-14
+    same-length-15
+    same-length-16
+    same-length-17
+    same-length-18
+    returns-2)

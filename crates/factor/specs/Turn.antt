@@ -1,0 +1,22 @@
+-- One panel of the elimination over the whole panel: its steps, the rows below it, the later columns. Definitions only. Assumes nothing.
+use mathlib.Core.List.{List}
+use Prim.Native.Nat.{ℕ, _-_}
+use lib.Ieee.{Float}
+use Rattle.model.specs.Matrix.{view}
+use Rattle.model.specs.Head.{State, Progress, stopped, going, panelOf, blank}
+use Rattle.model.specs.declared.Mode.{Mode}
+use Rattle.whole.specs.Whole.{wholeClosed, wholePassed}
+use Rattle.bunch_kaufman.specs.Slices.{pivots}
+
+-- the state between two panels: no multiplier is kept
+abbrev pub between : ℕ → List Float → List Float → List Float → List Float → List ℕ → List ℕ → List ℕ → List ℕ → ℕ → State
+between nrow panel d sub amounts blocks lifts order partners rounds =
+    record { a = view nrow panel; mult = blank; pivots = pivots d sub amounts blocks lifts order partners; rounds = rounds }
+
+-- a panel whose steps were taken goes on to the rows below it and the later columns
+abbrev pub onward : ℕ → ℕ → ℕ → ℕ → Progress → Progress
+onward nrow ncol kb ke (stopped n p) = stopped n p
+onward nrow ncol kb ke (going k s) = going ke (wholePassed nrow ncol (wholeClosed nrow kb ke s) s)
+
+unfoldable pub turnOf : Mode → ℕ → ℕ → ℕ → ℕ → ℕ → State → Progress
+turnOf mode limit nrow ncol kb ke s = onward nrow ncol kb ke (panelOf ke mode limit (ke - kb) kb s)

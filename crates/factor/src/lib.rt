@@ -1,0 +1,540 @@
+// The factor call: the LDLᵀ factorization of one supernode, refused by number and place or accepted with the factor.
+// A reader may rely on the contract of `factor` alone: its answer and every lent buffer are `factorOf` of
+// crates/model/specs/Factor.antt, on every input. It asks nothing of its caller. The functions above it are a chain, each
+// with one or two calls that pass the buffers on: eliminate (copy, panels in turn), judge (refusal 9 or accept), run.
+ghost use mathlib.Core.Path.{_≡_};
+ghost use Prim.Native.Nat.{_+_, _-_, _*_, _≤_, _<_, min, max};
+ghost use lib.ListN.{length, take};
+ghost use Rattle.model.specs.Matrix.{view, vec, bytes};
+ghost use Rattle.model.specs.Step.{rowAfterSteps};
+ghost use Rattle.model.specs.Head.{panelOf};
+ghost use Rattle.model.specs.Factor.{entryCheck, factorOf};
+ghost use Rattle.model.specs.Answer.{sound};
+ghost use Rattle.whole.specs.Whole.{below, wholePanelsOf};
+ghost use Rattle.eliminate.specs.Eliminate.{inPanel};
+ghost use Rattle.tail.specs.Tail.{pivotsOf, StepsPre};
+ghost use Rattle.deferred.specs.Deferred.{deferred};
+ghost use Rattle.bunch_kaufman.specs.Slices.{state};
+ghost use Rattle.bunch_kaufman.specs.Answers.{progress};
+ghost use Rattle.bunch_kaufman.specs.Terms.{NotedTo, RanTo};
+ghost use Rattle.finish.specs.Buffers.{buffersOf};
+ghost use Rattle.factor.specs.Turn.{between, turnOf};
+ghost use Rattle.factor.specs.Run.{runOf, RunLeaves, RunPre, TurnPre, TurnHolds, AfterPre};
+ghost use Rattle.factor.specs.Judge.{outcomeOf, refusalOf, acceptOf, judgeOf, Eliminated, JudgePre};
+use bunch_kaufman::Ran;
+use entry::Entry;
+use entry::Lengths;
+use finish::Found;
+use model::Factored;
+use model::Mode;
+use model::Refusal;
+use model::Report;
+use model::Settings;
+use model::Tally;
+
+// Where the panel that begins at kb ends.
+fn panel_end(kb: usize, nb: usize, ncol: usize) -> usize
+    requires { ⌜ (kb ≤ 128) × (nb ≤ 64) ⌝ }
+    ensures { λ r. ⌜ r ≡ min (kb + nb) ncol ⌝ }
+{
+    let end = kb + nb;
+    if end < ncol {
+        return end;
+    }
+    ncol
+}
+
+// The panel's steps, with no multiplier kept before them. The working buffer begins with the multipliers.
+fn steps(
+    panel: &mut [f64],
+    work: &mut [f64],
+    d: &mut [f64],
+    sub: &mut [f64],
+    amounts: &mut [f64],
+    blocks: &mut [u8],
+    lifts: &mut [u8],
+    order: &mut [usize],
+    partners: &mut [usize],
+    nrow: usize,
+    ncol: usize,
+    nb: usize,
+    kb: usize,
+    ke: usize,
+    mode: Mode,
+    limit: usize,
+    before: usize,
+) -> Ran
+    requires { ⌜ TurnPre nrow ncol nb kb ke mode limit (length (now panel)) (length (now work)) ⌝ }
+    requires { ⌜ TurnHolds nrow ncol (length (now d)) (length (now sub)) (length (now amounts)) (length (now blocks)) (length (now lifts)) (length (now order)) (length (now partners)) ⌝ }
+    requires { ⌜ NotedTo kb ke before (bytes (now blocks)) (bytes (now partners)) ⌝ }
+    ensures { λ r. ⌜ progress r ke (state nrow nb kb ke (now (panel .exit)) (take (nb * nb) (now (work .exit))) (now (d .exit)) (now (sub .exit)) (now (amounts .exit)) (now (blocks .exit)) (now (lifts .exit)) (now (order .exit)) (now (partners .exit))) ≡ panelOf ke mode limit (ke - kb) kb (between nrow (now (panel .entry)) (now (d .entry)) (now (sub .entry)) (now (amounts .entry)) (now (blocks .entry)) (now (lifts .entry)) (now (order .entry)) (now (partners .entry)) before) ⌝ }
+    ensures { λ r. ⌜ RanTo ke r (bytes (now (blocks .exit))) (bytes (now (partners .exit))) ⌝ }
+{
+    let square = nb * nb;
+    grid::columns::zero(work, 0, square);
+    bunch_kaufman::ll_bk_panel_step(
+        panel,
+        &mut work[0..square],
+        d,
+        sub,
+        amounts,
+        blocks,
+        lifts,
+        order,
+        partners,
+        nrow,
+        ncol,
+        nb,
+        kb,
+        ke,
+        mode,
+        limit,
+        before,
+    )
+}
+
+// The rows below the panel, by its steps.
+fn rows_below(
+    panel: &mut [f64],
+    work: &[f64],
+    d: &[f64],
+    sub: &[f64],
+    blocks: &[u8],
+    partners: &[usize],
+    nrow: usize,
+    ncol: usize,
+    nb: usize,
+    kb: usize,
+    ke: usize,
+)
+    requires { ⌜ AfterPre nrow ncol nb kb ke (length (now panel)) (length (now work)) (length (now d)) (length (now sub)) (length (now blocks)) (length (now partners)) ⌝ }
+    requires { ⌜ StepsPre ke (bytes (now blocks)) (bytes (now partners)) ⌝ }
+    ensures { λ _. ⌜ view nrow (now (panel .exit)) ≡ below ke nrow (rowAfterSteps (pivotsOf (now (d .entry)) (now (sub .entry)) (now (blocks .entry)) (now (partners .entry))) (inPanel kb ke (view nb (take (nb * nb) (now (work .entry))))) ke (ke - kb) kb) (view nrow (now (panel .entry))) ⌝ }
+{
+    let mut s = [0.0; 1024];
+    let mut t = [0.0; 1024];
+    let square = nb * nb;
+    tail::apply_bk_panel_trailing(
+        panel,
+        &work[0..square],
+        d,
+        sub,
+        blocks,
+        partners,
+        &mut s,
+        &mut t,
+        nrow,
+        ncol,
+        nb,
+        kb,
+        ke,
+    );
+}
+
+// The later columns, by the panel's L and D. The working buffer holds L·D.
+fn later_columns(
+    panel: &mut [f64],
+    work: &mut [f64],
+    d: &[f64],
+    sub: &[f64],
+    blocks: &[u8],
+    partners: &[usize],
+    nrow: usize,
+    ncol: usize,
+    nb: usize,
+    kb: usize,
+    ke: usize,
+)
+    requires { ⌜ AfterPre nrow ncol nb kb ke (length (now panel)) (length (now work)) (length (now d)) (length (now sub)) (length (now blocks)) (length (now partners)) ⌝ }
+    requires { ⌜ StepsPre ke (bytes (now blocks)) (bytes (now partners)) ⌝ }
+    ensures { λ _. ⌜ view nrow (now (panel .exit)) ≡ deferred nrow ncol kb ke (vec (now (d .entry))) (vec (now (sub .entry))) (bytes (now (blocks .entry))) (view nrow (now (panel .entry))) ⌝ }
+{
+    if ke == ncol {
+        return;
+    }
+    let mut acc = [0.0; 1024];
+    let size = nb * nrow;
+    deferred::deferred_update(
+        panel,
+        d,
+        sub,
+        blocks,
+        &mut work[0..size],
+        &mut acc,
+        nrow,
+        ncol,
+        kb,
+        ke,
+    );
+}
+
+// One panel: its steps, the rows below it, the later columns.
+fn turn(
+    panel: &mut [f64],
+    d: &mut [f64],
+    sub: &mut [f64],
+    amounts: &mut [f64],
+    blocks: &mut [u8],
+    lifts: &mut [u8],
+    order: &mut [usize],
+    partners: &mut [usize],
+    work: &mut [f64],
+    nrow: usize,
+    ncol: usize,
+    nb: usize,
+    kb: usize,
+    ke: usize,
+    mode: Mode,
+    limit: usize,
+    before: usize,
+) -> Ran
+    requires { ⌜ TurnPre nrow ncol nb kb ke mode limit (length (now panel)) (length (now work)) ⌝ }
+    requires { ⌜ TurnHolds nrow ncol (length (now d)) (length (now sub)) (length (now amounts)) (length (now blocks)) (length (now lifts)) (length (now order)) (length (now partners)) ⌝ }
+    requires { ⌜ NotedTo kb ke before (bytes (now blocks)) (bytes (now partners)) ⌝ }
+    ensures { λ r. ⌜ progress r ke (between nrow (now (panel .exit)) (now (d .exit)) (now (sub .exit)) (now (amounts .exit)) (now (blocks .exit)) (now (lifts .exit)) (now (order .exit)) (now (partners .exit))) ≡ turnOf mode limit nrow ncol kb ke (between nrow (now (panel .entry)) (now (d .entry)) (now (sub .entry)) (now (amounts .entry)) (now (blocks .entry)) (now (lifts .entry)) (now (order .entry)) (now (partners .entry)) before) ⌝ }
+    ensures { λ r. ⌜ RanTo ke r (bytes (now (blocks .exit))) (bytes (now (partners .exit))) ⌝ }
+{
+    let ran = steps(
+        panel,
+        work,
+        d,
+        sub,
+        amounts,
+        blocks,
+        lifts,
+        order,
+        partners,
+        nrow,
+        ncol,
+        nb,
+        kb,
+        ke,
+        mode,
+        limit,
+        before,
+    );
+    let Ran::Done(rounds) = ran else {
+        return ran;
+    };
+    rows_below(
+        panel,
+        work,
+        d,
+        sub,
+        blocks,
+        partners,
+        nrow,
+        ncol,
+        nb,
+        kb,
+        ke,
+    );
+    later_columns(
+        panel,
+        work,
+        d,
+        sub,
+        blocks,
+        partners,
+        nrow,
+        ncol,
+        nb,
+        kb,
+        ke,
+    );
+    Ran::Done(rounds)
+}
+
+// The panels in turn.
+// origin: src/numeric/ldlt/bunch_kaufman.rs, fn ll_cdiv_emit
+fn panels(
+    panel: &mut [f64],
+    d: &mut [f64],
+    sub: &mut [f64],
+    amounts: &mut [f64],
+    blocks: &mut [u8],
+    lifts: &mut [u8],
+    order: &mut [usize],
+    partners: &mut [usize],
+    work: &mut [f64],
+    nrow: usize,
+    ncol: usize,
+    nb: usize,
+    mode: Mode,
+    limit: usize,
+) -> Ran
+    requires { ⌜ RunPre nrow ncol nb mode limit (length (now panel)) (length (now work)) ⌝ }
+    requires { ⌜ TurnHolds nrow ncol (length (now d)) (length (now sub)) (length (now amounts)) (length (now blocks)) (length (now lifts)) (length (now order)) (length (now partners)) ⌝ }
+    requires { ⌜ NotedTo 0 1 0 (bytes (now blocks)) (bytes (now partners)) ⌝ }
+    ensures { λ r. ⌜ runOf r (between nrow (now (panel .exit)) (now (d .exit)) (now (sub .exit)) (now (amounts .exit)) (now (blocks .exit)) (now (lifts .exit)) (now (order .exit)) (now (partners .exit))) ≡ wholePanelsOf mode limit nrow ncol nb ncol 0 (between nrow (now (panel .entry)) (now (d .entry)) (now (sub .entry)) (now (amounts .entry)) (now (blocks .entry)) (now (lifts .entry)) (now (order .entry)) (now (partners .entry)) 0) ⌝ }
+    ensures { λ r. ⌜ RunLeaves ncol r (bytes (now (blocks .exit))) (bytes (now (partners .exit))) ⌝ }
+{
+    let mut kb = 0;
+    let mut rounds = 0;
+    while kb < ncol {
+        let ke = panel_end(kb, nb, ncol);
+        let ran = turn(
+            panel,
+            d,
+            sub,
+            amounts,
+            blocks,
+            lifts,
+            order,
+            partners,
+            work,
+            nrow,
+            ncol,
+            nb,
+            kb,
+            ke,
+            mode,
+            limit,
+            rounds,
+        );
+        let Ran::Done(n) = ran else {
+            return ran;
+        };
+        rounds = n;
+        kb = ke;
+    }
+    Ran::Done(rounds)
+}
+
+// The panel width that is used: no panel is wider than the node.
+fn width(nb: usize, ncol: usize) -> usize
+    ensures { λ r. ⌜ r ≡ min nb (max ncol 1) ⌝ }
+{
+    if ncol == 0 {
+        if nb < 1 {
+            return nb;
+        }
+        return 1;
+    }
+    if nb < ncol {
+        return nb;
+    }
+    ncol
+}
+
+// The input copied, then its panels in turn.
+fn eliminate(
+    c: Settings,
+    input: &[f64],
+    panel: &mut [f64],
+    d: &mut [f64],
+    sub: &mut [f64],
+    blocks: &mut [u8],
+    lifts: &mut [u8],
+    amounts: &mut [f64],
+    order: &mut [usize],
+    marks: &[u8],
+    work: &mut [f64],
+) -> Ran
+    requires { ⌜ entryCheck c (now input) (buffersOf (now panel) (now d) (now sub) (now blocks) (now lifts) (now amounts) (now order) (now marks) (now work)) ≡ sound ⌝ }
+    ensures { λ r. ⌜ Eliminated c (now (input .entry)) r (now (panel .exit)) (now (d .exit)) (now (sub .exit)) (now (amounts .exit)) (now (blocks .exit)) (now (lifts .exit)) (now (order .exit)) ⌝ }
+{
+    finish::begin(input, panel, d, sub, blocks, lifts, amounts, order);
+    let mut partners = [0; 128];
+    let nb = width(c.nb, c.ncol);
+    let mode = c.mode;
+    panels(
+        panel,
+        d,
+        sub,
+        amounts,
+        blocks,
+        lifts,
+        order,
+        &mut partners,
+        work,
+        c.nrow,
+        c.ncol,
+        nb,
+        mode,
+        c.limit,
+    )
+}
+
+// Accepted: marks, counts, and a working buffer of +0.0.
+fn accept(
+    c: Settings,
+    rounds: usize,
+    panel: &[f64],
+    d: &[f64],
+    sub: &[f64],
+    blocks: &[u8],
+    lifts: &[u8],
+    amounts: &[f64],
+    order: &[usize],
+    marks: &mut [u8],
+    work: &mut [f64],
+) -> Factored
+    requires { ⌜ JudgePre (c .nrow) (c .ncol) (length (now panel)) (length (now d)) (length (now sub)) (length (now marks)) (now blocks) ⌝ }
+    ensures { λ r. ⌜ outcomeOf r (buffersOf (now (panel .entry)) (now (d .entry)) (now (sub .entry)) (now (blocks .entry)) (now (lifts .entry)) (now (amounts .entry)) (now (order .entry)) (now (marks .exit)) (now (work .exit)))
+        ≡ acceptOf (c .nrow) (c .ncol) rounds (buffersOf (now (panel .entry)) (now (d .entry)) (now (sub .entry)) (now (blocks .entry)) (now (lifts .entry)) (now (amounts .entry)) (now (order .entry)) (now (marks .entry)) (now (work .entry))) ⌝ }
+{
+    scan::marks_of(panel, marks, c.ncol, c.nrow);
+    grid::kernels::zero(work);
+    let inertia = inertia::tally(d, sub, blocks);
+    Factored::Accepted(Report { rounds, inertia })
+}
+
+// The result judged: zeros and refusal 9, or accepted.
+fn judge(
+    c: Settings,
+    rounds: usize,
+    panel: &mut [f64],
+    d: &mut [f64],
+    sub: &mut [f64],
+    blocks: &mut [u8],
+    lifts: &mut [u8],
+    amounts: &mut [f64],
+    order: &mut [usize],
+    marks: &mut [u8],
+    work: &mut [f64],
+) -> Factored
+    requires { ⌜ JudgePre (c .nrow) (c .ncol) (length (now panel)) (length (now d)) (length (now sub)) (length (now marks)) (now blocks) ⌝ }
+    ensures { λ r. ⌜ outcomeOf r (buffersOf (now (panel .exit)) (now (d .exit)) (now (sub .exit)) (now (blocks .exit)) (now (lifts .exit)) (now (amounts .exit)) (now (order .exit)) (now (marks .exit)) (now (work .exit)))
+        ≡ judgeOf (c .nrow) (c .ncol) rounds (buffersOf (now (panel .entry)) (now (d .entry)) (now (sub .entry)) (now (blocks .entry)) (now (lifts .entry)) (now (amounts .entry)) (now (order .entry)) (now (marks .entry)) (now (work .entry))) ⌝ }
+{
+    let found = finish::first_unsound(panel, d, sub, blocks, c.nrow, c.ncol);
+    if let Found::At(k) = found {
+        finish::zero_all(panel, d, sub, blocks, lifts, amounts, order, marks, work);
+        return Factored::Refused(Refusal::NotFinite(k));
+    }
+    accept(
+        c,
+        rounds,
+        panel,
+        d,
+        sub,
+        blocks,
+        lifts,
+        amounts,
+        order,
+        marks,
+        work,
+    )
+}
+
+// The answer to a run that stopped. (A run that did not is answered by judge.)
+fn refusal(ran: Ran) -> Factored
+    ensures { λ r. ⌜ r ≡ refusalOf ran ⌝ }
+{
+    match ran {
+        Ran::Stopped(r) => Factored::Refused(r),
+        Ran::Done(rounds) => Factored::Accepted(Report {
+            rounds,
+            inertia: Tally {
+                positive: 0,
+                negative: 0,
+                zero: 0,
+            },
+        }),
+    }
+}
+
+// Past the entry checks: a refusal of the run zeroes the outputs and returns.
+fn run(
+    c: Settings,
+    input: &[f64],
+    panel: &mut [f64],
+    d: &mut [f64],
+    sub: &mut [f64],
+    blocks: &mut [u8],
+    lifts: &mut [u8],
+    amounts: &mut [f64],
+    order: &mut [usize],
+    marks: &mut [u8],
+    work: &mut [f64],
+) -> Factored
+    requires { ⌜ entryCheck c (now input) (buffersOf (now panel) (now d) (now sub) (now blocks) (now lifts) (now amounts) (now order) (now marks) (now work)) ≡ sound ⌝ }
+    ensures { λ r. ⌜ outcomeOf r (buffersOf (now (panel .exit)) (now (d .exit)) (now (sub .exit)) (now (blocks .exit)) (now (lifts .exit)) (now (amounts .exit)) (now (order .exit)) (now (marks .exit)) (now (work .exit)))
+        ≡ factorOf c (now (input .entry)) (buffersOf (now (panel .entry)) (now (d .entry)) (now (sub .entry)) (now (blocks .entry)) (now (lifts .entry)) (now (amounts .entry)) (now (order .entry)) (now (marks .entry)) (now (work .entry))) ⌝ }
+{
+    let ran = eliminate(
+        c,
+        input,
+        panel,
+        d,
+        sub,
+        blocks,
+        lifts,
+        amounts,
+        order,
+        marks,
+        work,
+    );
+    let Ran::Done(rounds) = ran else {
+        finish::zero_all(panel, d, sub, blocks, lifts, amounts, order, marks, work);
+        return refusal(ran);
+    };
+    judge(
+        c,
+        rounds,
+        panel,
+        d,
+        sub,
+        blocks,
+        lifts,
+        amounts,
+        order,
+        marks,
+        work,
+    )
+}
+
+// The factor call.
+// in: c, the settings; input, nrow·ncol numbers, column by column; upper positions are copied and never read
+// out: panel, nrow·ncol: L with D's own diagonal; d, sub, amounts: ncol numbers; blocks, lifts: ncol bytes; order: nrow rows;
+//      marks: nrow − ncol bytes
+// work: 3·nrow·(nb + 1) + nb² numbers, any on entry, +0.0 on acceptance
+// refused with 1 to 6: nothing is written; with 7, 8 or 9: every output and the working buffer hold zeros
+// origin: src/numeric/ldlt/bunch_kaufman.rs, fn ll_cdiv_emit
+pub fn factor(
+    c: Settings,
+    input: &[f64],
+    panel: &mut [f64],
+    d: &mut [f64],
+    sub: &mut [f64],
+    blocks: &mut [u8],
+    lifts: &mut [u8],
+    amounts: &mut [f64],
+    order: &mut [usize],
+    marks: &mut [u8],
+    work: &mut [f64],
+) -> Factored
+    ensures { λ r. ⌜ outcomeOf r (buffersOf (now (panel .exit)) (now (d .exit)) (now (sub .exit)) (now (blocks .exit)) (now (lifts .exit)) (now (amounts .exit)) (now (order .exit)) (now (marks .exit)) (now (work .exit)))
+        ≡ factorOf c (now (input .entry)) (buffersOf (now (panel .entry)) (now (d .entry)) (now (sub .entry)) (now (blocks .entry)) (now (lifts .entry)) (now (amounts .entry)) (now (order .entry)) (now (marks .entry)) (now (work .entry))) ⌝ }
+{
+    let n = Lengths {
+        input: input.len(),
+        panel: panel.len(),
+        d: d.len(),
+        sub: sub.len(),
+        blocks: blocks.len(),
+        lifts: lifts.len(),
+        amounts: amounts.len(),
+        order: order.len(),
+        marks: marks.len(),
+        work: work.len(),
+    };
+    let entry = entry::check(c, n, input);
+    if let Entry::Refused(r) = entry {
+        return Factored::Refused(r);
+    }
+    run(
+        c,
+        input,
+        panel,
+        d,
+        sub,
+        blocks,
+        lifts,
+        amounts,
+        order,
+        marks,
+        work,
+    )
+}

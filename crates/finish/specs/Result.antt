@@ -1,0 +1,51 @@
+-- The look at the result after the last column, refusal 9: the state that it reads, its declared answer as a check has it, and what it asks of its
+-- callers. From document 01, 'What is turned away, in checking order'. Definitions only. Assumes nothing.
+use mathlib.Core.Path.{_≡_}
+use mathlib.Core.Bool.{Bool, _&&_}
+use mathlib.Core.List.{List}
+use Prim.Native.Nat.{ℕ, _+_, _-_, _*_, _<_, _≤_}
+use lib.Dec.{ltb}
+use lib.ListN.{length}
+use lib.Ieee.{Float}
+use Rattle.model.specs.Scalar.{zeroF, reciprocalOf, isFinite}
+use Rattle.model.specs.Matrix.{Row, Mat, bytes}
+use Rattle.model.specs.Step.{Pivots, blockOf, begins}
+use Rattle.model.specs.Head.{State, blank}
+use Rattle.model.specs.Answer.{Check, sound, turnedAway}
+use Rattle.model.specs.declared.Refusal.the-variants.{NotFinite}
+use Rattle.entry.specs.Entry.{stopOf}
+use Rattle.finish.specs.declared.Found.{Found}
+use Rattle.finish.specs.declared.Found.the-variants.{Clean, At}
+
+abbrev pub foundSays : Found → Check
+foundSays Clean = sound
+foundSays (At k) = stopOf (turnedAway (NotFinite k))
+
+-- the pivots and the state that are looked at; what is not named here plays no part
+unfoldable pub pivotsOf : Row → Row → (ℕ → ℕ) → Pivots
+pivotsOf d sub blocks =
+    record { d = d; sub = sub; amounts = λ i. zeroF; blocks = blocks; lifts = λ i. 0; order = λ i. i; partners = λ i. 0 }
+
+unfoldable pub emitted : Mat → Row → Row → (ℕ → ℕ) → State
+emitted a d sub blocks = record { a = a; mult = blank; pivots = pivotsOf d sub blocks; rounds = 0 }
+
+-- a block's determinant and its reciprocal
+unfoldable pub blockSound : Float → Float → Float → Bool
+blockSound d11 d21 d22 = let det = blockOf d11 d21 d22 .det in isFinite det && isFinite (reciprocalOf det)
+
+-- a block's second column
+unfoldable pub endsBlock : (ℕ → ℕ) → ℕ → Bool
+endsBlock blocks k = ltb 0 k && begins blocks (k - 1)
+
+-- n pivots, of which no block is cut off at the end
+pub record PivotsPre (n subs : ℕ) (bs : List ℕ) : Type 0 where
+  pub sub : subs ≡ n
+  pub blocks : length bs ≡ n
+  pub room : (k : ℕ) → k < n → bytes bs k ≡ 1 → k + 1 < n
+
+-- a panel of nrow rows and ncol columns with its pivots
+pub record ResultPre (nrow ncol len ds subs : ℕ) (bs : List ℕ) : Type 0 where
+  pub rows : ncol ≤ nrow
+  pub panel : len ≡ nrow * ncol
+  pub d : ds ≡ ncol
+  pub pivots : PivotsPre ncol subs bs

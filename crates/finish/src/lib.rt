@@ -1,0 +1,182 @@
+// What the factor call does besides eliminating: the buffers before the first panel, refusal 9 after the last column,
+// and zeros after a refusal 7, 8 or 9. A reader may rely on the contracts: equations with the definitions, of whole
+// buffers.
+ghost use mathlib.Core.Path.{_≡_};
+ghost use Prim.Native.Nat.{_<_};
+ghost use lib.ListN.{length};
+ghost use Rattle.model.specs.Matrix.{view, vec, bytes, withPart, headOf};
+ghost use Rattle.model.specs.Factor.{pivotSound, columnSound, resultCheck, zeros};
+ghost use Rattle.finish.specs.Buffers.{buffersOf, inOrder, Begun, PartPre};
+ghost use Rattle.finish.specs.Result.{foundSays, pivotsOf, emitted, blockSound, endsBlock, PivotsPre, ResultPre};
+use grid::kernels;
+use model::Elim;
+
+// How many numbers are copied at a time: a longer copy is slow where two buffers lie badly in the cache.
+const COPY_PART: usize = 256;
+
+// Numbers a up to e of x become those of s.
+fn copy_part(x: &mut [f64], s: &[f64], a: usize, e: usize)
+    requires { ⌜ PartPre a e (length (now x)) (length (now s)) ⌝ }
+    ensures { λ _. ⌜ vec (now (x .exit)) ≡ withPart (vec (now (x .entry))) a e (vec (now (s .entry))) ⌝ }
+{
+    kernels::copy(&mut x[a..e], &s[a..e], e - a);
+}
+
+// x becomes s, a part at a time.
+fn copy_all(x: &mut [f64], s: &[f64])
+    requires { ⌜ length (now x) ≡ length (now s) ⌝ }
+    ensures { λ _. ⌜ now (x .exit) ≡ now (s .entry) ⌝ }
+{
+    let n = s.len();
+    let mut a = 0;
+    while COPY_PART < n - a {
+        copy_part(x, s, a, a + COPY_PART);
+        a += COPY_PART;
+    }
+    copy_part(x, s, a, n);
+}
+
+// Place i holds i.
+fn in_order(order: &mut [usize])
+    ensures { λ _. ⌜ now (order .exit) ≡ inOrder (length (now (order .entry))) ⌝ }
+{
+    for i in 0..order.len() {
+        order[i] = i;
+    }
+}
+
+// The buffers before the first panel.
+// in: input; out: the other seven
+// origin: src/numeric/ldlt/bunch_kaufman.rs, fn ll_cdiv_emit
+pub fn begin(
+    input: &[f64],
+    panel: &mut [f64],
+    d: &mut [f64],
+    sub: &mut [f64],
+    blocks: &mut [u8],
+    lifts: &mut [u8],
+    amounts: &mut [f64],
+    order: &mut [usize],
+)
+    requires { ⌜ length (now panel) ≡ length (now input) ⌝ }
+    ensures { λ _. ⌜ Begun (now (input .entry)) (now (panel .exit)) (now (d .exit)) (now (sub .exit))
+        (now (blocks .exit)) (now (lifts .exit)) (now (amounts .exit)) (now (order .exit)) ⌝ }
+{
+    copy_all(panel, input);
+    kernels::zero(d);
+    kernels::zero(sub);
+    kernels::zero_bytes(blocks);
+    kernels::zero_bytes(lifts);
+    kernels::zero(amounts);
+    in_order(order);
+}
+
+// What the look at the result finds: no column, or the least, that holds a number not finite.
+pub enum Found {
+    Clean,
+    At(Elim),
+}
+
+// Whether a block's determinant and its reciprocal are finite.
+fn block_sound(d11: f64, d21: f64, d22: f64) -> bool
+    ensures { λ r. ⌜ r ≡ blockSound d11 d21 d22 ⌝ }
+{
+    let det = d11 * d22 - d21 * d21;
+    scalar::is_finite(det) & scalar::is_finite(scalar::reciprocal(det))
+}
+
+// Whether k is a block's second column.
+fn ends_block(blocks: &[u8], k: usize) -> bool
+    requires { ⌜ k < length (now blocks) ⌝ }
+    ensures { λ r. ⌜ r ≡ endsBlock (bytes (now (blocks .entry))) k ⌝ }
+{
+    if k == 0 {
+        return false;
+    }
+    blocks[k - 1] == 1
+}
+
+// Whether the pivot's own number at k is finite: a 1x1's reciprocal, or what a block's first column answers for.
+fn pivot_sound(d: &[f64], sub: &[f64], blocks: &[u8], k: usize) -> bool
+    requires { ⌜ PivotsPre (length (now d)) (length (now sub)) (now blocks) ⌝ }
+    requires { ⌜ k < length (now d) ⌝ }
+    ensures { λ r. ⌜ r
+        ≡ pivotSound (pivotsOf (vec (now (d .entry))) (vec (now (sub .entry))) (bytes (now (blocks .entry)))) k ⌝ }
+{
+    if blocks[k] == 1 {
+        return block_sound(d[k], sub[k], d[k + 1]);
+    }
+    ends_block(blocks, k) | scalar::is_finite(scalar::reciprocal(d[k]))
+}
+
+// Whether column k of the result is finite: d, subdiagonal, pivot, and the head from the diagonal down.
+fn column_sound(
+    panel: &[f64],
+    d: &[f64],
+    sub: &[f64],
+    blocks: &[u8],
+    nrow: usize,
+    ncol: usize,
+    k: usize,
+) -> bool
+    requires { ⌜ ResultPre nrow ncol (length (now panel)) (length (now d)) (length (now sub)) (now blocks) ⌝ }
+    requires { ⌜ k < ncol ⌝ }
+    ensures { λ r. ⌜ r ≡ columnSound ncol (emitted (view nrow (now (panel .entry)))
+        (vec (now (d .entry))) (vec (now (sub .entry))) (bytes (now (blocks .entry)))) k ⌝ }
+{
+    scalar::is_finite(d[k])
+        & (scalar::is_finite(sub[k])
+            & (pivot_sound(d, sub, blocks, k) & scan::column_finite(panel, nrow, k, k, ncol)))
+}
+
+// Refusal 9, an added guard: the least column of the result that holds a number not finite.
+// in: the panel, d, subdiagonal and block bytes after the last column
+pub fn first_unsound(
+    panel: &[f64],
+    d: &[f64],
+    sub: &[f64],
+    blocks: &[u8],
+    nrow: usize,
+    ncol: usize,
+) -> Found
+    requires { ⌜ ResultPre nrow ncol (length (now panel)) (length (now d)) (length (now sub)) (now blocks) ⌝ }
+    ensures { λ r. ⌜ foundSays r ≡ resultCheck ncol (emitted (headOf ncol (view nrow (now (panel .entry))))
+        (vec (now (d .entry))) (vec (now (sub .entry))) (bytes (now (blocks .entry)))) ncol 0 ⌝ }
+{
+    for k in 0..ncol {
+        if !column_sound(panel, d, sub, blocks, nrow, ncol, k) {
+            return Found::At(Elim(k));
+        }
+    }
+    Found::Clean
+}
+
+// What a refusal 7, 8 or 9 leaves: every output and the working buffer hold zeros.
+// out: all nine
+pub fn zero_all(
+    panel: &mut [f64],
+    d: &mut [f64],
+    sub: &mut [f64],
+    blocks: &mut [u8],
+    lifts: &mut [u8],
+    amounts: &mut [f64],
+    order: &mut [usize],
+    marks: &mut [u8],
+    work: &mut [f64],
+)
+    ensures { λ _. ⌜
+        buffersOf (now (panel .exit)) (now (d .exit)) (now (sub .exit)) (now (blocks .exit)) (now (lifts .exit))
+        (now (amounts .exit)) (now (order .exit)) (now (marks .exit)) (now (work .exit))
+        ≡ zeros (buffersOf (now (panel .entry)) (now (d .entry)) (now (sub .entry)) (now (blocks .entry))
+        (now (lifts .entry)) (now (amounts .entry)) (now (order .entry)) (now (marks .entry)) (now (work .entry))) ⌝ }
+{
+    kernels::zero(panel);
+    kernels::zero(d);
+    kernels::zero(sub);
+    kernels::zero_bytes(blocks);
+    kernels::zero_bytes(lifts);
+    kernels::zero(amounts);
+    kernels::zero_places(order);
+    kernels::zero_bytes(marks);
+    kernels::zero(work);
+}

@@ -1,0 +1,55 @@
+-- `inertia::first_bad_byte` meets its contract. The invariant: the scan from k on finds what the whole scan finds. The measure is what is left.
+-- Assumes nothing.
+use mathlib.Core.Path.{_≡_}
+use Prim.Native.Nat.{_-_, _≤_}
+use lib.ListN.{length}
+use borrow.Author.Needs.{needs}
+use Rattle.model.specs.Matrix.{bytes}
+use Rattle.model.specs.Assembly.{firstNot}
+use Rattle.model.specs.Inertia.{byteSound, checkBytes}
+use Rattle.inertia.proofs.First.{first-step, first-bad, first-end}
+use Rattle.inertia.proofs.Bytes.{bytes-scan}
+use Rattle.inertia.proofs.first_bad_byte.Statement.{statement}
+use Rattle.inertia.proofs.first_bad_byte.Tie as tie
+
+abbrev Inv-loop : tie.InvT-loop
+Inv-loop blocks k₀ k =
+    (k ≤ length blocks) × (firstNot (byteSound (bytes blocks) (length blocks)) 16 (length blocks - k) k ≡ checkBytes blocks)
+
+abbrev μ-loop : tie.MeasureT-loop
+μ-loop blocks k₀ k = length blocks - k
+
+loop-holds : tie.Need-loop-holds Inv-loop μ-loop
+loop-holds c = search (needs, bytes-scan)
+
+byte-sound-requires : tie.Need-byte-sound-requires Inv-loop μ-loop
+byte-sound-requires c κs = search needs
+
+returns : tie.Need-returns Inv-loop μ-loop
+returns c = search first-bad
+
+add-k : tie.Need-add-k Inv-loop μ-loop
+add-k c = search needs
+
+loop-less : tie.Need-loop-less Inv-loop μ-loop
+loop-less c = search needs
+
+loop-again : tie.Need-loop-again Inv-loop μ-loop
+loop-again c = (search needs, search first-step)
+
+returns-2 : tie.Need-returns-2 Inv-loop μ-loop
+returns-2 c = search first-end
+
+pub first-bad-byte-spec : {M : Type 1} → statement M
+first-bad-byte-spec =
+    tie.close
+    (tie.spec
+    Inv-loop
+    μ-loop
+    loop-holds
+    byte-sound-requires
+    returns
+    add-k
+    loop-less
+    loop-again
+    returns-2)

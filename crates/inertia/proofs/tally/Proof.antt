@@ -1,0 +1,54 @@
+-- `inertia::tally` meets its contract. The invariant: the tally so far has counted k columns, and counting on from k gives the whole count.
+-- The measure is what is left of the columns. Assumes nothing.
+use Prim.Native.Nat.{_-_, _≤_}
+use mathlib.Core.Path.{_≡_}
+use borrow.Author.Needs.{needs}
+use lib.ListN.{length}
+use Rattle.model.specs.Matrix.{vec, bytes}
+use Rattle.model.specs.Inertia.{talliedFrom, talliedOf}
+use Rattle.inertia.proofs.Running.{total, pivot-pre, past-within, past-less, total-step, tally-none, tally-step, tally-end}
+use Rattle.inertia.proofs.tally.Statement.{statement}
+use Rattle.inertia.proofs.tally.Tie as tie
+
+abbrev Inv-loop : tie.InvT-loop
+Inv-loop d sub blocks t₀ k₀ t k =
+    (k ≤ length d) × (total t ≡ k)
+    × (talliedFrom (vec d) (vec sub) (bytes blocks) (length d) (length d - k) k t ≡ talliedOf (length d) (vec d) (vec sub) (bytes blocks))
+
+abbrev μ-loop : tie.MeasureT-loop
+μ-loop d sub blocks t₀ k₀ t k = length d - k
+
+loop-holds : tie.Need-loop-holds Inv-loop μ-loop
+loop-holds c = (search needs, search needs, search tally-none)
+
+diagonal-at-requires : tie.Need-diagonal-at-requires Inv-loop μ-loop
+diagonal-at-requires c κs = search (needs, pivot-pre)
+
+tallied-requires : tie.Need-tallied-requires Inv-loop μ-loop
+tallied-requires c κs = search needs
+
+past-requires : tie.Need-past-requires Inv-loop μ-loop
+past-requires c κs = search needs
+
+loop-less : tie.Need-loop-less Inv-loop μ-loop
+loop-less c = search past-less
+
+loop-again : tie.Need-loop-again Inv-loop μ-loop
+loop-again c = (search (needs, past-within), search total-step, search tally-step)
+
+returns : tie.Need-returns Inv-loop μ-loop
+returns c = search tally-end
+
+pub tally-spec : {M : Type 1} → statement M
+tally-spec =
+    tie.close
+    (tie.spec
+    Inv-loop
+    μ-loop
+    loop-holds
+    diagonal-at-requires
+    tallied-requires
+    past-requires
+    loop-less
+    loop-again
+    returns)

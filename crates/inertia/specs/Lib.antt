@@ -1,0 +1,2 @@
+-- What the counting functions speak of.
+pub mod Count

@@ -1,0 +1,14 @@
+-- `rule::PivotRule::growth_floor` meets its contract: GROWTH_EPS is the growth constant. Assumes nothing.
+use borrow.Author.Needs.{needs}
+use Rattle.rule.proofs.Laws.{growth-is}
+use Rattle.rule.proofs.PivotRule.growth_floor.Statement.{statement}
+use Rattle.rule.proofs.PivotRule.growth_floor.Tie as tie
+
+scale-requires : tie.Need-scale-requires
+scale-requires c κs = search needs
+
+returns : tie.Need-returns
+returns c = rw (c .scale .ensures, growth-is)
+
+pub growth-floor-spec : {M : Type 1} → statement M
+growth-floor-spec = tie.close (tie.spec scale-requires returns)

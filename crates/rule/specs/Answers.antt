@@ -1,0 +1,28 @@
+-- The declared answers of the pivot rule as the definitions have them: the choice, a refusal's number, the numbers. Definitions only. Assumes nothing.
+use Prim.Native.Nat.{ℕ, _+_}
+use Rattle.model.specs.Choice as model
+use Rattle.model.specs.Head.{SettledOne, oneRefused, oneIs, SettledTwo, twoRefused, twoIs}
+use Rattle.scan.specs.Greatest.{Within}
+use Rattle.rule.specs.declared.Choice as choice
+use Rattle.rule.specs.declared.OneSettled as one
+use Rattle.rule.specs.declared.TwoSettled as two
+
+abbrev pub chosenIs : choice.Choice → model.Choice
+chosenIs choice.the-variants.ZeroColumn = model.zeroColumn
+chosenIs (choice.the-variants.Single row) = model.single row
+chosenIs (choice.the-variants.Block row) = model.block row
+
+-- the row exchanged stands within the panel that ends at ke, so a block never crosses ke
+abbrev pub ChosenWithin : ℕ → ℕ → choice.Choice → Type 0
+ChosenWithin k ke choice.the-variants.ZeroColumn = Unit {0}
+ChosenWithin k ke (choice.the-variants.Single row) = Within k ke row
+ChosenWithin k ke (choice.the-variants.Block row) = Within (k + 1) ke row
+
+abbrev pub settledOneIs : one.OneSettled → SettledOne
+settledOneIs one.the-variants.ZeroPivot = oneRefused 7
+settledOneIs (one.the-variants.Number d lifted amount) = oneIs d lifted amount
+
+abbrev pub settledTwoIs : two.TwoSettled → SettledTwo
+settledTwoIs two.the-variants.ZeroPivot = twoRefused 7
+settledTwoIs two.the-variants.Rounds = twoRefused 8
+settledTwoIs (two.the-variants.Numbers block lifted amount rounds) = twoIs block lifted amount rounds

@@ -1,0 +1,207 @@
+// The pivot rule: which pivot is chosen in a panel, and the numbers of the chosen one, lifted where the mode asks it.
+// The tests and the roundings are those of model's specs/Choice.antt and specs/Head.antt, in their order.
+ghost use mathlib.Core.Path.{_≡_};
+ghost use lib.ListN.{length};
+ghost use Rattle.model.specs.Scalar.{_⊗_};
+ghost use Rattle.model.specs.Root.{alpha};
+ghost use Rattle.model.specs.Matrix.{view};
+ghost use Rattle.model.specs.Choice.{chooseOf};
+ghost use Rattle.model.specs.Step.{blockOf};
+ghost use Rattle.model.specs.Head.{settledOne, settledTwo, raisedFrom, scaleOf, growthFloorOf, barOf, liftStepOf};
+ghost use Rattle.scan.specs.Greatest.{ColumnPre};
+ghost use Rattle.rule.specs.Answers.{chosenIs, ChosenWithin, settledOneIs, settledTwoIs};
+use model::Block;
+use model::Mode;
+
+// Bunch and Kaufman's rule: a name for its two constants and its tests.
+pub struct PivotRule;
+
+// What is chosen at k: nothing, since the column test finds zero; a 1x1 with the row that is exchanged with k; a block
+// with the row that is exchanged with k + 1.
+pub enum Choice {
+    ZeroColumn,
+    Single(usize),
+    Block(usize),
+}
+
+// A 1x1 pivot: zero in Fail, or its number with its lift byte and the lift's amount.
+pub enum OneSettled {
+    ZeroPivot,
+    Number { d: f64, lifted: u8, amount: f64 },
+}
+
+// A block: at or below its growth floor in Fail, or in need of more rounds than the limit, or its numbers with the lift
+// byte, the lift's amount and the rounds used.
+pub enum TwoSettled {
+    ZeroPivot,
+    Rounds,
+    Numbers {
+        block: Block,
+        lifted: u8,
+        amount: f64,
+        rounds: usize,
+    },
+}
+
+// A block with its determinant.
+pub fn block_of(d11: f64, d21: f64, d22: f64) -> Block
+    ensures { λ r. ⌜ r ≡ blockOf d11 d21 d22 ⌝ }
+{
+    let det = d11 * d22 - d21 * d21;
+    Block { d11, d21, d22, det }
+}
+
+// The greatest magnitude of a block's numbers.
+pub fn scale(b: Block) -> f64
+    ensures { λ r. ⌜ r ≡ scaleOf b ⌝ }
+{
+    let diagonal = scalar::maximum(scalar::magnitude(b.d11), scalar::magnitude(b.d22));
+    scalar::maximum(diagonal, scalar::magnitude(b.d21))
+}
+
+impl PivotRule {
+    // (1 + √17) / 8, each step rounded: the bound on growth is then the same for a 1x1 and for a block.
+    pub const ALPHA: f64 = 0.6403882032022076;
+
+    // A block's determinant at or below this part of its scale squared counts as zero.
+    pub const GROWTH_EPS: f64 = 1e-14;
+
+    // What a diagonal must reach beside a greatest magnitude m.
+    pub fn threshold(m: f64) -> f64
+        ensures { λ r. ⌜ r ≡ alpha ⊗ m ⌝ }
+    {
+        PivotRule::ALPHA * m
+    }
+
+    // The pivot at k of a panel that ends at ke. Squares are compared: an entry whose square underflows is not seen.
+    // origin: src/numeric/ldlt/bunch_kaufman.rs, fn ll_bk_panel_step
+    pub fn choose(panel: &[f64], nrow: usize, ncol: usize, k: usize, ke: usize) -> Choice
+        requires { ⌜ ColumnPre nrow ncol k ke (length (now panel)) ⌝ }
+        ensures { λ r. ⌜ chosenIs r ≡ chooseOf (view nrow (now (panel .entry))) k ke ⌝ }
+        ensures { λ r. ⌜ ChosenWithin k ke r ⌝ }
+    {
+        let own = scalar::magnitude(grid::get(panel, nrow, k, k));
+        let column = scan::column_greatest(panel, nrow, ncol, k, ke);
+        let colmax = scalar::sqrt(column.square);
+        if scalar::maximum(own, colmax) == 0.0 {
+            return Choice::ZeroColumn;
+        }
+        let bar = PivotRule::threshold(colmax);
+        if own >= bar {
+            return Choice::Single(k);
+        }
+        let imax = column.at;
+        let row = scan::row_greatest(panel, nrow, ncol, k, ke, imax);
+        let rowmax = scalar::sqrt(row.square);
+        if own >= bar * (colmax / rowmax) {
+            return Choice::Single(k);
+        }
+        if scalar::magnitude(grid::get(panel, nrow, imax, imax)) >= PivotRule::threshold(rowmax) {
+            Choice::Single(imax)
+        } else {
+            Choice::Block(imax)
+        }
+    }
+
+    // What a block's determinant must pass.
+    pub fn growth_floor(b: Block) -> f64
+        ensures { λ r. ⌜ r ≡ growthFloorOf b ⌝ }
+    {
+        let s = scale(b);
+        PivotRule::GROWTH_EPS * s * s
+    }
+
+    // What a block's determinant must reach in Lift.
+    fn bar(floor: f64, b: Block) -> f64
+        ensures { λ r. ⌜ r ≡ barOf floor b ⌝ }
+    {
+        scalar::maximum(floor * floor, PivotRule::growth_floor(b))
+    }
+
+    // What a round of a block's lift adds to both diagonals.
+    fn lift_step(floor: f64, b: Block) -> f64
+        ensures { λ r. ⌜ r ≡ liftStepOf floor b ⌝ }
+    {
+        scalar::maximum(floor, scale(b) * scalar::sqrt(PivotRule::GROWTH_EPS))
+    }
+
+    // A block whose diagonals are raised, a step a round, until its determinant is not below the bar. The Rust has no
+    // limit on the rounds.
+    fn raised(b: Block, bar: f64, step: f64, limit: usize) -> TwoSettled
+        ensures { λ r. ⌜ settledTwoIs r ≡ raisedFrom b bar step limit 1 step ⌝ }
+    {
+        let mut sum = step;
+        let mut done = 0;
+        while done < limit {
+            let block = block_of(b.d11 + sum, b.d21, b.d22 + sum);
+            if scalar::magnitude(block.det) < bar {
+                sum = sum + step;
+                done += 1;
+            } else {
+                return TwoSettled::Numbers {
+                    block,
+                    lifted: 1,
+                    amount: sum,
+                    rounds: done + 1,
+                };
+            }
+        }
+        TwoSettled::Rounds
+    }
+
+    // The number of a 1x1 pivot d, lifted only where it is strictly below the floor.
+    // origin: src/numeric/ldlt/bunch_kaufman.rs, fn ll_bk_panel_step
+    pub fn settle_one(mode: Mode, d: f64) -> OneSettled
+        ensures { λ r. ⌜ settledOneIs r ≡ settledOne mode d ⌝ }
+    {
+        match mode {
+            Mode::Fail => {
+                if d == 0.0 {
+                    return OneSettled::ZeroPivot;
+                }
+            }
+            Mode::Lift(floor) => {
+                if scalar::magnitude(d) < floor {
+                    let new = scalar::lift(floor, d);
+                    return OneSettled::Number {
+                        d: new,
+                        lifted: 1,
+                        amount: new - d,
+                    };
+                }
+            }
+        }
+        OneSettled::Number {
+            d,
+            lifted: 0,
+            amount: 0.0,
+        }
+    }
+
+    // The numbers of a block b, lifted in Lift where its determinant is below the bar.
+    // origin: src/numeric/ldlt/bunch_kaufman.rs, fn ll_bk_panel_step
+    pub fn settle_two(mode: Mode, limit: usize, b: Block) -> TwoSettled
+        ensures { λ r. ⌜ settledTwoIs r ≡ settledTwo mode limit b ⌝ }
+    {
+        let size = scalar::magnitude(b.det);
+        match mode {
+            Mode::Fail => {
+                if size <= PivotRule::growth_floor(b) {
+                    return TwoSettled::ZeroPivot;
+                }
+            }
+            Mode::Lift(floor) => {
+                let bar = PivotRule::bar(floor, b);
+                if size < bar {
+                    return PivotRule::raised(b, bar, PivotRule::lift_step(floor, b), limit);
+                }
+            }
+        }
+        TwoSettled::Numbers {
+            block: b,
+            lifted: 0,
+            amount: 0.0,
+            rounds: 0,
+        }
+    }
+}

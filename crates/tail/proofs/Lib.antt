@@ -1,0 +1,2 @@
+-- Laws of the tail's steps and of their loop.
+pub mod Laws

@@ -1,0 +1,33 @@
+-- The record of pivots as the tail reads it off the arrays, and what the tail asks. From document 01, 'apply_bk_panel_trailing'.
+-- Definitions only. Assumes nothing.
+use Prim.Native.Nat.{ℕ, _+_, _*_, _<_, _≤_}
+use mathlib.Core.Path.{_≡_}
+use mathlib.Core.List.{List}
+use lib.Ieee.{Float}
+use Rattle.model.specs.Scalar.{zeroF}
+use Rattle.model.specs.Matrix.{vec, bytes}
+use Rattle.model.specs.Step.{Pivots}
+
+-- d, subdiagonal, block bytes and partners by column; a row's steps read nothing else of the record (`steps-alike` of proofs/Laws.antt)
+unfoldable pub pivotsOf : List Float → List Float → List ℕ → List ℕ → Pivots
+pivotsOf d sub blocks partners =
+    record { d = vec d; sub = vec sub; amounts = λ i. zeroF; blocks = bytes blocks; lifts = λ i. 0; order = λ i. i; partners = bytes partners }
+
+-- the sizes: the panel, the multipliers' buffer, the four arrays by column, two scratches
+pub record TailPre (nrow ncol nb kb ke len lenM ld ls lb lp l1 l2 : ℕ) : Type 0 where
+  pub size : len ≡ nrow * ncol
+  pub square : lenM ≡ nb * nb
+  pub head : ncol ≤ nrow
+  pub cols : ke ≤ ncol
+  pub width : ke ≤ kb + nb
+  pub inD : ke ≤ ld
+  pub inSub : ke ≤ ls
+  pub inBlocks : ke ≤ lb
+  pub inPartners : ke ≤ lp
+  pub first : nrow ≤ l1
+  pub second : nrow ≤ l2
+
+-- every block that begins before ke ends before ke, and every partner stands before ke
+pub record StepsPre (ke : ℕ) (blocks partners : ℕ → ℕ) : Type 0 where
+  pub pair : (k : ℕ) → k < ke → blocks k ≡ 1 → k + 1 < ke
+  pub partner : (k : ℕ) → k < ke → partners k < ke

@@ -1,0 +1,190 @@
+//! The library's factor call beside the reference: the answer, its place and
+//! every lent cell. Pairs of calls hold it to demand 3 as well.
+
+mod call;
+mod counts;
+mod library;
+mod nodes;
+
+use call::{difference, left, must, Call, Left};
+use counts::{Counts, Words};
+use oracle::case::*;
+use oracle::lines;
+use oracle::random::{self, Rng};
+
+/// What the compared nodes met, so that a reader sees what a run has tried.
+#[derive(Default)]
+struct Met {
+    /// By the answer's number.
+    answers: [u64; 10],
+    blocks: u64,
+    lifts: u64,
+    rounds: u64,
+    marks: u64,
+    panels: u64,
+    pairs: u64,
+}
+
+impl Met {
+    fn note(&mut self, f: &Factor, l: &Left) {
+        let (o, b, s) = (&l.outcome, &l.buffers, &f.settings);
+        self.answers[o.number] += 1;
+        if o.number == 0 {
+            self.blocks += u64::from(b.blocks.contains(&1));
+            self.lifts += u64::from(b.lifts.contains(&1));
+            self.rounds += u64::from(o.rounds > 1);
+            self.marks += u64::from(b.marks.contains(&1));
+            self.panels += u64::from(s.nb < s.ncol);
+        }
+    }
+
+    fn print(&self) {
+        let Met { answers, blocks, lifts, rounds, marks, panels, pairs } = self;
+        println!("{} accepted; refused 1 to 9: {:?}; pairs: {pairs}", answers[0], &answers[1..]);
+        println!("with blocks {blocks}, lifts {lifts}, more rounds than one {rounds}, marks {marks}, panels {panels}");
+    }
+}
+
+struct Run {
+    counts: Counts,
+    call: Call,
+    met: Met,
+}
+
+/// Settings, lengths and tiny nodes, each once.
+fn each_once(run: &mut Run) {
+    let mut each = |f: Factor| _ = run.one(&f);
+    nodes::settings(&mut each);
+    nodes::lengths(&mut each);
+    nodes::tiny(&mut each);
+}
+
+/// So many small nodes and so many large ones; some with a sibling.
+fn seeded(run: &mut Run, seed: u64, small: usize, large: usize) {
+    let mut rng = Rng::new(seed);
+    for i in 0..small + large {
+        let (f, max_row) = match i.checked_sub(small) {
+            None => (nodes::random(&mut rng), nodes::BOUNDS.max_row),
+            Some(i) => (random::large(&mut rng, i), 1024),
+        };
+        if run.one(&f) && rng.once_in(8) {
+            run.pair(&f, &nodes::sibling(&mut rng, &f, max_row));
+        }
+    }
+}
+
+fn main() {
+    let (words, seed) = Words::read();
+    notices();
+    notices_rows();
+    let mut run = Run { counts: Counts::default(), call: library::factor, met: Met::default() };
+    each_once(&mut run);
+    seeded(&mut run, seed, words.count(1, 1_000_000), words.count(2, 300));
+    run.met.print();
+    run.counts.end()
+}
+
+impl Run {
+    /// One call, compared. Says whether it passes the entry checks.
+    fn one(&mut self, f: &Factor) -> bool {
+        let must = must(f);
+        let differs = difference(f, &left(self.call, f), &must);
+        let line = || format!("{}\n    {}", lines::case_text(&Case::Factor(f.clone())), differs.clone().unwrap());
+        self.counts.add(differs.is_none(), line);
+        self.met.note(f, &must);
+        !matches!(must.outcome.number, 1..=6)
+    }
+
+    /// Demand 3. Two calls that pass the entry checks and whose heads are equal have the same answer and the same
+    /// head; equal tail rows, in one call or in both, get equal factor rows and marks.
+    fn pair(&mut self, f: &Factor, g: &Factor) {
+        let (x, y) = (left(self.call, f), left(self.call, g));
+        let mut same = x.outcome == y.outcome;
+        if same && x.outcome.number == 0 {
+            same = head(f, &x) == head(g, &y) && tails_agree(&[tails(f, &x), tails(g, &y)].concat());
+        }
+        let text = |f: &Factor| lines::case_text(&Case::Factor(f.clone()));
+        self.counts.add(same, || format!("two calls with one head\n    {}\n    {}", text(f), text(g)));
+        self.met.pairs += 1;
+    }
+}
+
+// ---- what a pair is compared by
+
+fn bits(xs: &[f64]) -> Vec<u64> {
+    xs.iter().map(|x| if x.is_nan() { u64::MAX } else { x.to_bits() }).collect()
+}
+
+/// Pivots, lifts, the order's first places, the head's lower rows.
+fn head(f: &Factor, l: &Left) -> Vec<Vec<u64>> {
+    let (ncol, b) = (f.settings.ncol, &l.buffers);
+    let bytes = |xs: &[u8]| xs.iter().map(|&x| x.into()).collect();
+    let order = b.order[..ncol].iter().map(|&i| i as u64).collect();
+    let mut all = vec![bits(&b.d), bits(&b.sub), bytes(&b.blocks), bytes(&b.lifts), bits(&b.amounts), order];
+    all.extend((0..ncol).map(|i| bits(&nodes::row(f, &b.panel, i)[..=i])));
+    all
+}
+
+/// Each tail row: as given, its factor row, its mark.
+fn tails(f: &Factor, l: &Left) -> Vec<(Vec<u64>, Vec<u64>, u8)> {
+    let of = |i: usize| {
+        let mark = l.buffers.marks[i - f.settings.ncol];
+        (bits(&nodes::row(f, &f.panel, i)), bits(&nodes::row(f, &l.buffers.panel, i)), mark)
+    };
+    (f.settings.ncol..f.settings.nrow).map(of).collect()
+}
+
+fn tails_agree(all: &[(Vec<u64>, Vec<u64>, u8)]) -> bool {
+    all.iter().all(|p| all.iter().all(|q| p.0 != q.0 || (p.1 == q.1 && p.2 == q.2)))
+}
+
+// ---- the comparison itself
+
+/// A wrong cell in any one buffer, or a wrong number in the answer, is noticed.
+fn notices() {
+    let panel = vec![2.0, 1.0, 3.0, f64::NAN, 5.0, 7.0];
+    let settings = Settings { ncol: 2, nrow: 3, nb: 2, mode: Mode::Fail, limit: 1 };
+    let accepted = Factor { settings, panel, lengths: None };
+    let zero = Factor { panel: vec![0.0; 6], ..accepted.clone() };
+    let refused = Factor { settings: Settings { nb: 65, ..settings }, ..accepted.clone() };
+    let wrong: [fn(&mut Left); 17] = [
+        |l| l.outcome.number += 1,
+        |l| l.outcome.a += 1,
+        |l| l.outcome.b += 1,
+        |l| l.outcome.rounds += 1,
+        |l| l.outcome.positive += 1,
+        |l| l.outcome.negative += 1,
+        |l| l.outcome.zero += 1,
+        |l| flip(&mut l.buffers.panel[2]),
+        // the upper position
+        |l| flip(&mut l.buffers.panel[3]),
+        |l| flip(&mut l.buffers.d[1]),
+        |l| flip(&mut l.buffers.sub[1]),
+        |l| l.buffers.blocks[1] ^= 1,
+        |l| l.buffers.lifts[1] ^= 1,
+        |l| flip(&mut l.buffers.amounts[1]),
+        |l| l.buffers.order[2] ^= 1,
+        |l| l.buffers.marks[0] ^= 1,
+        |l| flip(&mut l.buffers.work[7]),
+    ];
+    for f in [accepted, zero, refused] {
+        let right = must(&f);
+        assert_eq!(difference(&f, &right, &right), None);
+        for spoil in wrong {
+            let mut got = right.clone();
+            spoil(&mut got);
+            assert!(difference(&f, &got, &right).is_some(), "a wrong answer passes: {got:?}");
+        }
+    }
+}
+
+/// A tail row with another factor row or mark than its equal is noticed.
+fn notices_rows() {
+    let row = |l: u64, mark: u8| (vec![1], vec![l], mark);
+    assert!(tails_agree(&[row(2, 0), row(2, 0)]));
+    assert!(!tails_agree(&[row(2, 0), row(3, 0)]) && !tails_agree(&[row(2, 0), row(2, 1)]));
+}
+
+fn flip(x: &mut f64) {
+    *x = f64::from_bits(x.to_bits() ^ 1);
+}
