@@ -1,0 +1,86 @@
+-- `update::apply::subtract` meets its contract. The invariant: going on from row r with the panel as it is gives what the whole loop gives. The measure is
+-- what is left of the rows. Assumes nothing.
+use mathlib.Core.Path.{_≡_, refl}
+use Prim.Native.Nat.{_-_, _≤_}
+use lib.ListN.{length}
+use borrow.Author.Needs.{needs}
+use Rattle.model.specs.Matrix.{view, vec, bytes}
+use Rattle.update.specs.Apply.{fromRow, lessFrom}
+use Rattle.update.proofs.Numbers.{subtract-place, less-step, less-end}
+use Rattle.update.proofs.apply.subtract.Statement.{statement}
+use Rattle.update.proofs.apply.subtract.Tie as tie
+
+abbrev Inv-loop : tie.InvT-loop
+Inv-loop panel₀ nrow j places acc nk lo hi r₀ panel r =
+    (lo ≤ r) × (r ≤ hi) × (length panel ≡ length panel₀)
+    × (lessFrom (bytes places) (fromRow (vec acc) nk) j (hi - r) r (view nrow panel)
+    ≡ lessFrom (bytes places) (fromRow (vec acc) nk) j (hi - lo) lo (view nrow panel₀))
+
+abbrev μ-loop : tie.MeasureT-loop
+μ-loop panel₀ nrow j places acc nk lo hi r₀ panel r = hi - r
+
+loop-holds : tie.Need-loop-holds Inv-loop μ-loop
+loop-holds c = (search needs, search needs, search needs, refl)
+
+mul-t14 : tie.Need-mul-t14 Inv-loop μ-loop
+mul-t14 c = search needs
+
+shared-slice-read-t16 : tie.Need-shared-slice-read-t16 Inv-loop μ-loop
+shared-slice-read-t16 c = search needs
+
+add-less-at : tie.Need-add-less-at Inv-loop μ-loop
+add-less-at c = search needs
+
+mul-less-at : tie.Need-mul-less-at Inv-loop μ-loop
+mul-less-at c = search needs
+
+shared-slice-read-less-at : tie.Need-shared-slice-read-less-at Inv-loop μ-loop
+shared-slice-read-less-at c = search needs
+
+less-at-requires : tie.Need-less-at-requires Inv-loop μ-loop
+unfolding bytes
+less-at-requires c κs =
+    let at = c .before .before .before in
+    let start = at .before .before .before .before .before in
+    subtract-place _ _ _ _ _ _ _ _ _ _ (start .pre) (at .before .loop .inv .0) (at .loop-test .taken) (at .before .loop .inv .2)
+
+add-r : tie.Need-add-r Inv-loop μ-loop
+add-r c = search needs
+
+loop-less : tie.Need-loop-less Inv-loop μ-loop
+loop-less c = search needs
+
+loop-again : tie.Need-loop-again Inv-loop μ-loop
+unfolding bytes vec fromRow
+loop-again c =
+    let at = c .before .before .before .before .before .before in (
+      search needs,
+      search needs,
+      search needs,
+      less-step _ _ _ _ _ _ _ _ _ _ (at .loop-test .taken) refl refl (c .before .before .less-at .ensures) (at .before .loop .inv .3),
+    )
+
+same-length : tie.Need-same-length Inv-loop μ-loop
+same-length c = search needs
+
+returns : tie.Need-returns Inv-loop μ-loop
+returns c = search less-end
+
+pub subtract-spec : {M : Type 1} → statement M
+subtract-spec =
+    tie.close
+    (tie.spec
+    Inv-loop
+    μ-loop
+    loop-holds
+    mul-t14
+    shared-slice-read-t16
+    add-less-at
+    mul-less-at
+    shared-slice-read-less-at
+    less-at-requires
+    add-r
+    loop-less
+    loop-again
+    same-length
+    returns)

@@ -1,0 +1,76 @@
+-- `update::apply::update_rows` meets its contract. The invariant: going on from row c with the panel as it is gives what the whole loop gives; v and acc keep
+-- their lengths. The measure is what is left of the rows. Assumes nothing.
+use mathlib.Core.Path.{_≡_, refl}
+use Prim.Native.Nat.{_-_, _≤_}
+use lib.ListN.{length}
+use borrow.Author.Needs.{needs}
+use Rattle.model.specs.Matrix.{view, bytes}
+use Rattle.update.specs.Call.{descendantOf}
+use Rattle.update.specs.Apply.{rowsApplied}
+use Rattle.update.proofs.Landing.{rows-later, rows-room, rows-step, rows-end}
+use Rattle.update.proofs.apply.update_rows.Statement.{statement}
+use Rattle.update.proofs.apply.update_rows.Tie as tie
+
+abbrev Inv-loop : tie.InvT-loop
+Inv-loop ncol nrow first panel₀ nk mk kpanel kd ksub kblocks krows places start v₀ acc₀ c₀ panel v acc c =
+    (start ≤ c) × (length panel ≡ length panel₀) × (length v ≡ 128) × (length acc ≡ 1024)
+    × (rowsApplied (first .0) ncol (descendantOf nk mk kpanel kd ksub kblocks krows) (bytes places) (mk - c) c (view nrow panel)
+    ≡ rowsApplied (first .0) ncol (descendantOf nk mk kpanel kd ksub kblocks krows) (bytes places) (mk - start) start (view nrow panel₀))
+
+abbrev μ-loop : tie.MeasureT-loop
+μ-loop ncol nrow first panel₀ nk mk kpanel kd ksub kblocks krows places start v₀ acc₀ c₀ panel v acc c = mk - c
+
+loop-holds : tie.Need-loop-holds Inv-loop μ-loop
+loop-holds c = (search needs, search needs, search needs, search needs, refl)
+
+slice-aggregate-update-row : tie.Need-slice-aggregate-update-row Inv-loop μ-loop
+slice-aggregate-update-row c = search needs
+
+slice-aggregate-update-row-2 : tie.Need-slice-aggregate-update-row-2 Inv-loop μ-loop
+slice-aggregate-update-row-2 c = search needs
+
+update-row-requires : tie.Need-update-row-requires Inv-loop μ-loop
+update-row-requires c κs =
+    let at = c .before .before .before .before in
+    let start = at .before .before .before .before .before .before .before .before in (
+      rows-later _ _ _ _ _ _ _ _ _ _ _ _ _ _ (start .pre) (at .loop .inv .0) (at .loop .inv .1),
+      rows-room _ _ _ _ _ _ _ _ _ _ _ _ _ _ _ (start .pre) (c .before .before .before .loop-test .taken) (at .loop .inv .2) (at .loop .inv .3),
+    )
+
+add-c : tie.Need-add-c Inv-loop μ-loop
+add-c c = search needs
+
+loop-less : tie.Need-loop-less Inv-loop μ-loop
+loop-less c = search needs
+
+loop-again : tie.Need-loop-again Inv-loop μ-loop
+loop-again c =
+    let in-loop = c .before .before .before .before .before .before .before .before in (
+      search needs,
+      search needs,
+      search needs,
+      search needs,
+      rows-step _ _ _ _ _ _ _ _ _ (in-loop .loop-test .taken) (c .before .before .before .before .update-row .ensures) (in-loop .before .loop .inv .4),
+    )
+
+same-length : tie.Need-same-length Inv-loop μ-loop
+same-length c = search needs
+
+returns : tie.Need-returns Inv-loop μ-loop
+returns c = search rows-end
+
+pub update-rows-spec : {M : Type 1} → statement M
+update-rows-spec =
+    tie.close
+    (tie.spec
+    Inv-loop
+    μ-loop
+    loop-holds
+    slice-aggregate-update-row
+    slice-aggregate-update-row-2
+    update-row-requires
+    add-c
+    loop-less
+    loop-again
+    same-length
+    returns)

@@ -1,0 +1,59 @@
+-- `update::rows::local_row` meets its contract. The invariant: the search from i on finds what the whole search finds. The measure is what is left.
+-- Assumes nothing.
+use mathlib.Core.Path.{_≡_}
+use Prim.Native.Nat.{_-_, _≤_}
+use lib.ListN.{length}
+use borrow.Author.Needs.{needs}
+use Rattle.model.specs.Matrix.{bytes}
+use Rattle.model.specs.Update.{placeFrom}
+use Rattle.update.proofs.Scans.{place-step, place-hit, place-end}
+use Rattle.update.proofs.rows.local_row.Statement.{statement}
+use Rattle.update.proofs.rows.local_row.Tie as tie
+
+abbrev Inv-loop : tie.InvT-loop
+Inv-loop rows g i₀ i =
+    (i₀ ≤ i) × (i ≤ length rows) × (placeFrom (bytes rows) (g .0) (length rows - i) i ≡ placeFrom (bytes rows) (g .0) (length rows - i₀) i₀)
+
+abbrev μ-loop : tie.MeasureT-loop
+μ-loop rows g i₀ i = length rows - i
+
+loop-holds : tie.Need-loop-holds Inv-loop μ-loop
+loop-holds c = search needs
+
+mul-if1 : tie.Need-mul-if1 Inv-loop μ-loop
+mul-if1 c = search needs
+
+shared-slice-read-if1 : tie.Need-shared-slice-read-if1 Inv-loop μ-loop
+shared-slice-read-if1 c = search needs
+
+returns : tie.Need-returns Inv-loop μ-loop
+unfolding bytes
+returns c = search place-hit
+
+add-i : tie.Need-add-i Inv-loop μ-loop
+add-i c = search needs
+
+loop-less : tie.Need-loop-less Inv-loop μ-loop
+loop-less c = search needs
+
+loop-again : tie.Need-loop-again Inv-loop μ-loop
+unfolding bytes
+loop-again c = (search needs, search needs, search place-step)
+
+returns-2 : tie.Need-returns-2 Inv-loop μ-loop
+returns-2 c = search place-end
+
+pub local-row-spec : {M : Type 1} → statement M
+local-row-spec =
+    tie.close
+    (tie.spec
+    Inv-loop
+    μ-loop
+    loop-holds
+    mul-if1
+    shared-slice-read-if1
+    returns
+    add-i
+    loop-less
+    loop-again
+    returns-2)

@@ -1,0 +1,105 @@
+-- `update::rows::locate` meets its contract. The invariant: `Locating` of Order.antt. The measure is what is left of the descendant's rows.
+-- Assumes nothing.
+use mathlib.Core.Path.{_≡_}
+use Prim.Native.Nat.{ℕ, _+_, _-_}
+use native.Mathlib.Omega.{arith}
+use lib.ListN.{length, set}
+use borrow.Author.Needs.{needs}
+use Rattle.model.specs.Matrix.{bytes}
+use Rattle.update.proofs.Order.{Locating, locating-none, locating-step, locating-bad, locating-end, locating-all}
+use Rattle.update.proofs.rows.locate.Statement.{statement}
+use Rattle.update.proofs.rows.locate.Tie as tie
+
+abbrev Inv-loop : tie.InvT-loop
+Inv-loop rows krows start places₀ from₀ i₀ places from i = Locating rows krows start (length places₀) places from i
+
+abbrev μ-loop : tie.MeasureT-loop
+μ-loop rows krows start places₀ from₀ i₀ places from i = length krows - i
+
+-- the function's entry, and the loop's head, of a turn that goes on
+abbrev entered : tie.Else1 Inv-loop μ-loop → tie.Start Inv-loop μ-loop
+entered c = c .before .before .before .before .before .before .before .before
+
+abbrev head : tie.Else1 Inv-loop μ-loop → tie.At-loop Inv-loop μ-loop
+head c = c .before .before .before .before
+
+step : (c : tie.Else1 Inv-loop μ-loop)
+    → Locating (entered c .args .rows .now) (entered c .args .krows .now) (entered c .args .start) (length (entered c .args .places .now))
+    (set (head c .loop .places) (head c .loop .i) (c .before .local-row .result .0)) (c .before .local-row .result .0 + 1) (head c .loop .i + 1)
+unfolding bytes
+step c =
+    locating-step _ _ _ _ _ (entered c .pre) _ _ _ (head c .loop .inv) (c .before .before .before .loop-test .taken) (c .before .local-row .ensures)
+    (c .if1 .left)
+
+loop-holds : tie.Need-loop-holds Inv-loop μ-loop
+loop-holds c = search (needs, locating-none)
+
+mul-t9 : tie.Need-mul-t9 Inv-loop μ-loop
+mul-t9 c = search needs
+
+shared-slice-read-t13 : tie.Need-shared-slice-read-t13 Inv-loop μ-loop
+shared-slice-read-t13 c = search needs
+
+local-row-requires : tie.Need-local-row-requires Inv-loop μ-loop
+local-row-requires c κs = search needs
+
+same-length : tie.Need-same-length Inv-loop μ-loop
+same-length c = search needs
+
+returns : tie.Need-returns Inv-loop μ-loop
+unfolding bytes
+returns c =
+    let at = c .before .before .before in
+    let start = at .before .before .before .before .before in (
+      locating-bad _ _ _ _ _ (start .pre) _ _ _ (at .before .loop .inv) (at .loop-test .taken) (c .before .local-row .ensures) (c .if1 .taken),
+      λ e. absurd (let z : _≡_ {A = ℕ} 0 1 = cc in omega arith),
+    )
+
+mul-places : tie.Need-mul-places Inv-loop μ-loop
+mul-places c = search needs
+
+slice-write-places : tie.Need-slice-write-places Inv-loop μ-loop
+slice-write-places c = search needs
+
+add-from : tie.Need-add-from Inv-loop μ-loop
+add-from c = omega (arith, step c .next)
+
+add-i : tie.Need-add-i Inv-loop μ-loop
+add-i c = search needs
+
+loop-less : tie.Need-loop-less Inv-loop μ-loop
+loop-less c = search needs
+
+loop-again : tie.Need-loop-again Inv-loop μ-loop
+loop-again c = step c
+
+same-length-2 : tie.Need-same-length-2 Inv-loop μ-loop
+same-length-2 c = search needs
+
+returns-2 : tie.Need-returns-2 Inv-loop μ-loop
+returns-2 c =
+    let start = c .before .before .before .before .before in (
+      locating-end _ _ _ _ _ (start .pre) _ _ (c .before .loop .inv) (c .loop-test .left),
+      λ e. locating-all _ _ _ _ _ (start .pre) _ _ (c .before .loop .inv) (c .loop-test .left),
+    )
+
+pub locate-spec : {M : Type 1} → statement M
+locate-spec =
+    tie.close
+    (tie.spec
+    Inv-loop
+    μ-loop
+    loop-holds
+    mul-t9
+    shared-slice-read-t13
+    local-row-requires
+    same-length
+    returns
+    mul-places
+    slice-write-places
+    add-from
+    add-i
+    loop-less
+    loop-again
+    same-length-2
+    returns-2)

@@ -1,0 +1,105 @@
+-- `update::update_columns` meets its contract: the scans of refusals 17 and 18 answer, or the rows that were located are applied. Assumes nothing.
+use mathlib.Core.Path.{refl, ap}
+use borrow.Author.Needs.{needs}
+use Rattle.model.specs.Update.{descendantSound}
+use Rattle.entry.specs.Entry.{entrySays}
+use Rattle.update.proofs.Called.{locate-pre, apply-pre, panel-is, columns-absent, columns-number, columns-done}
+use Rattle.update.proofs.update_columns.Statement.{statement}
+use Rattle.update.proofs.update_columns.Tie as tie
+
+-- the function's entry, and what was known at the first landing
+abbrev entered : tie.After-first-landing → tie.Start
+entered c = c .before .before .before .before .before .before .before .before
+
+first-landing-requires : tie.Need-first-landing-requires
+first-landing-requires c κs = search needs
+
+slice-aggregate-locate : tie.Need-slice-aggregate-locate
+slice-aggregate-locate c = search needs
+
+locate-requires : tie.Need-locate-requires
+locate-requires c κs = locate-pre _ _ _ (entered (c .before) .pre) _ _ (c .before .first-landing .ensures) refl
+
+enum-told : tie.Need-enum-told
+enum-told c = search needs
+
+enum-told-2 : tie.Need-enum-told-2
+enum-told-2 c = search needs
+
+answer-requires : tie.Need-answer-requires
+answer-requires c κs = search needs
+
+returns : tie.Need-returns
+returns c =
+    let located = c .before .before .before .before in
+    let landing = located .before .before in
+    columns-absent _ _ _ (entered landing .pre) _ (landing .first-landing .ensures) _ (located .locate .ensures .0) _ (c .answer .result)
+    (c .before .enum-told2 .given .1) (c .answer .ensures)
+
+first-bad-column-requires : tie.Need-first-bad-column-requires
+first-bad-column-requires c κs = search needs
+
+enum-told-3 : tie.Need-enum-told-3
+enum-told-3 c = search needs
+
+enum-told-4 : tie.Need-enum-told-4
+enum-told-4 c = search needs
+
+answer-requires-2 : tie.Need-answer-requires-2
+answer-requires-2 c κs = search needs
+
+returns-2 : tie.Need-returns-2
+unfolding descendantSound
+returns-2 c =
+    let numbers = c .before .before .before in
+    let located = numbers .before .before .before .before in
+    let landing = located .before .before in
+    columns-number _ _ _ (entered landing .pre) _ (landing .first-landing .ensures) _ (located .locate .ensures .0) _ (numbers .before .enum-told .given .1)
+    (numbers .first-bad-column .ensures) _ (c .answer2 .result) (c .before .enum-told4 .given .1) (c .answer2 .ensures)
+
+slice-aggregate-update-rows : tie.Need-slice-aggregate-update-rows
+slice-aggregate-update-rows c = search needs
+
+update-rows-requires : tie.Need-update-rows-requires
+update-rows-requires c κs =
+    let told = c .before .before .before .before .before in
+    let located = told .before .before .before in
+    let landing = located .before .before in
+    apply-pre _ _ _ (entered landing .pre) _ (landing .first-landing .ensures) _ (located .locate .ensures .1 (ap entrySays (told .enum-told .given .1)))
+    (search needs)
+
+same-length : tie.Need-same-length
+same-length c = search needs
+
+returns-3 : tie.Need-returns-3
+unfolding descendantSound
+returns-3 c =
+    let numbers = c .before .before .before .before .before .before .before in
+    let told = numbers .before in
+    let located = told .before .before .before in
+    let landing = located .before .before in
+    columns-done _ _ _ (entered landing .pre) _ (landing .first-landing .ensures) _ (located .locate .ensures .0) _ (told .enum-told .given .1)
+    (numbers .first-bad-column .ensures) _ (c .before .before .before .before .before .enum-told3 .given .1)
+    (panel-is _ _ _ (entered landing .pre) _ (landing .first-landing .ensures) _ (located .locate .ensures .1 (ap entrySays (told .enum-told .given .1)))
+    _ _ (search needs) refl (c .before .before .update-rows .ensures))
+
+pub update-columns-spec : {M : Type 1} → statement M
+update-columns-spec =
+    tie.close
+    (tie.spec
+    first-landing-requires
+    slice-aggregate-locate
+    locate-requires
+    enum-told
+    enum-told-2
+    answer-requires
+    returns
+    first-bad-column-requires
+    enum-told-3
+    enum-told-4
+    answer-requires-2
+    returns-2
+    slice-aggregate-update-rows
+    update-rows-requires
+    same-length
+    returns-3)

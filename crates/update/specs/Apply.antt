@@ -1,0 +1,105 @@
+-- The numbers of the update step by step, as the code takes them, and what its functions ask of their callers.
+-- `places` has, for each row of the descendant from the first landing on, its row in the target. Definitions only. Assumes nothing.
+use mathlib.Core.Path.{_≡_}
+use mathlib.Core.Bool.{cond, _&&_}
+use mathlib.Core.List.{List, []}
+use Prim.Native.Nat.{ℕ, zero, suc, _+_, _-_, _*_, _<_, _≤_}
+use lib.Dec.{eqb}
+use lib.ListN.{length}
+use lib.Ieee.{Float}
+use Rattle.model.specs.Scalar.{_⊖_, _⊗_, zeroF}
+use Rattle.model.specs.Matrix.{Row, Mat, bytes}
+use Rattle.model.specs.Panel.{timesD, sumFrom}
+use Rattle.model.specs.Inertia.{checkBytes}
+use Rattle.model.specs.Update.{Descendant, pivotsOf, updateAcc}
+use Rattle.model.specs.Answer.{sound}
+use Rattle.grid.specs.Grid.{In}
+use Rattle.update.specs.Rows.{landsOn}
+use Rattle.update.specs.Call.{descendantOf, NumbersPre}
+
+-- 'each landing row c forms v': D times a row; of the descendant only d, subdiagonal and block bytes play a part
+unfoldable pub weighed : List Float → List Float → List ℕ → Row → Row
+weighed d sub blocks = timesD (pivotsOf (descendantOf 0 0 [] d sub blocks []))
+
+-- acc of each row of a, 'summed from +0.0 in column order' over n columns
+unfoldable pub sums : Mat → Row → ℕ → Row
+sums a v n = λ i. sumFrom (λ s. a i s ⊗ v s) 0 n zeroF
+
+-- f from n on; acc of the landing row c, by the descendant's rows
+unfoldable pub fromRow : Row → ℕ → Row
+fromRow f n = λ r. f (n + r)
+
+unfoldable pub landingAcc : Descendant → ℕ → Row
+landingAcc k c = λ r. updateAcc k r c
+
+-- a less x at row i, column j
+unfoldable pub lessAt : Mat → ℕ → ℕ → Float → Mat
+lessAt a i j x = λ p q. let less = a p q ⊖ x in cond (eqb p i && eqb q j) less (a p q)
+
+-- column j less acc, at the places of m rows of the descendant from r on
+unfoldable pub lessFrom : (ℕ → ℕ) → Row → ℕ → ℕ → ℕ → Mat → Mat
+lessFrom places acc j zero r a = a
+lessFrom places acc j (suc m) r a = lessFrom places acc j m (r + 1) (lessAt a (places r) j (acc r))
+
+-- row c of the descendant, if it lands on one of the ncol columns from `first` on
+unfoldable pub rowApplied : ℕ → ℕ → Descendant → (ℕ → ℕ) → ℕ → Mat → Mat
+rowApplied first ncol k places c a =
+    let new = lessFrom places (landingAcc k c) (bytes (k .rows) c - first) (k .mk - c) c a in
+    cond (landsOn first ncol (bytes (k .rows) c)) new a
+
+-- m rows of the descendant from c on
+unfoldable pub rowsApplied : ℕ → ℕ → Descendant → (ℕ → ℕ) → ℕ → ℕ → Mat → Mat
+rowsApplied first ncol k places zero c a = a
+rowsApplied first ncol k places (suc m) c a = rowsApplied first ncol k places m (c + 1) (rowApplied first ncol k places c a)
+
+-- ---- what the functions ask of their callers
+
+-- row i of a panel of n rows has column s, and the next one where a block begins at s
+pub record WeightPre (n i : ℕ) (bs : List ℕ) (s panel d sub : ℕ) : Type 0 where
+  pub row : i < n
+  pub column : n + s * n ≤ panel
+  pub pivot : s < d
+  pub subdiagonal : s < sub
+  pub byte : s < length bs
+  pub next : bytes bs s ≡ 1 → n + (s + 1) * n ≤ panel
+
+-- row i of a panel of n rows and nk columns, with its pivots, and room for v
+pub record WeighPre (nk n i : ℕ) (bs : List ℕ) (panel d sub room : ℕ) : Type 0 where
+  pub row : i < n
+  pub area : panel ≡ n * nk
+  pub pivots : d ≡ nk
+  pub subdiagonal : sub ≡ nk
+  pub blocks : length bs ≡ nk
+  pub check : checkBytes bs ≡ sound
+  pub fits : nk ≤ room
+
+-- rows lo up to hi of a panel of n rows and nk columns, with v, and room for acc
+pub record SumPre (nk n lo hi room panel v : ℕ) : Type 0 where
+  pub up : lo ≤ hi
+  pub rows : hi ≤ n
+  pub fits : hi ≤ room
+  pub area : panel ≡ n * nk
+  pub weights : nk ≤ v
+
+-- rows lo up to hi of the descendant have their places in column j, and their acc from nk on
+pub record SubtractPre (n j : ℕ) (places : List ℕ) (nk lo hi panel acc : ℕ) : Type 0 where
+  pub up : lo ≤ hi
+  pub there : hi ≤ length places
+  pub sums : nk + hi ≤ acc
+  pub inside : (r : ℕ) → lo ≤ r → r < hi → In n (bytes places r) j panel
+
+-- target and descendant, with the places of the descendant's rows from lo on
+pub record ApplyPre (ncol nrow nk mk : ℕ) (bs places : List ℕ) (lo panel kpanel d sub rows : ℕ) : Type 0 where
+  pub few : ncol ≤ 128
+  pub area : panel ≡ nrow * ncol
+  pub numbers : NumbersPre nk mk kpanel d sub (length bs)
+  pub check : checkBytes bs ≡ sound
+  pub descendant : rows ≡ mk
+  pub room : mk ≤ length places
+  pub inside : (r : ℕ) → lo ≤ r → r < mk → bytes places r < nrow
+
+-- one of the descendant's rows, and room for v and acc
+pub record RowPre (nk mk c v acc : ℕ) : Type 0 where
+  pub here : c < mk
+  pub weights : nk ≤ v
+  pub sums : nk + mk ≤ acc

@@ -1,0 +1,196 @@
+// The numbers of the update. A landing row c forms v = D·(row c of L); acc = L·v is summed from +0.0 in column order,
+// a column of the descendant's rows from c on at a time; then each of these rows of the target's column loses its acc.
+ghost use mathlib.Core.Path.{_≡_};
+ghost use Prim.Native.Nat.{_-_};
+ghost use lib.ListN.{length};
+ghost use Rattle.model.specs.Matrix.{view, vec, bytes, withPart};
+ghost use Rattle.grid.specs.Grid.{In};
+ghost use Rattle.update.specs.Call.{descendantOf};
+ghost use Rattle.update.specs.Apply.{weighed, sums, fromRow, lessAt, lessFrom, rowApplied, rowsApplied};
+ghost use Rattle.update.specs.Apply.{WeightPre, WeighPre, SumPre, SubtractPre, ApplyPre, RowPre};
+use super::COLUMNS_MAX;
+use super::ROWS_MAX;
+use super::rows;
+use grid::columns;
+use model::GlobalRow;
+use model::LocalRow;
+
+// v at column s: l·d; a·d11 + b·d21 in a block's first column, a·d21 + b·d22 in its second.
+fn weight(
+    kpanel: &[f64],
+    all: usize,
+    i: LocalRow,
+    kd: &[f64],
+    ksub: &[f64],
+    kblocks: &[u8],
+    s: usize,
+) -> f64
+    requires { ⌜ WeightPre all (i .0) (now kblocks) s (length (now kpanel)) (length (now kd)) (length (now ksub)) ⌝ }
+    ensures { λ r. ⌜ r ≡ weighed (now (kd .entry)) (now (ksub .entry)) (now (kblocks .entry))
+        (view all (now (kpanel .entry)) (i .0)) s ⌝ }
+{
+    let l = grid::get(kpanel, all, i.0, s);
+    if kblocks[s] == 1 {
+        return l * kd[s] + grid::get(kpanel, all, i.0, s + 1) * ksub[s];
+    }
+    if s == 0 {
+        return l * kd[s];
+    }
+    if kblocks[s - 1] == 1 {
+        return grid::get(kpanel, all, i.0, s - 1) * ksub[s - 1] + l * kd[s];
+    }
+    l * kd[s]
+}
+
+// v, of row i of the descendant's panel.
+fn weigh(
+    kpanel: &[f64],
+    all: usize,
+    i: LocalRow,
+    kd: &[f64],
+    ksub: &[f64],
+    kblocks: &[u8],
+    nk: usize,
+    v: &mut [f64],
+)
+    requires { ⌜ WeighPre nk all (i .0) (now kblocks) (length (now kpanel)) (length (now kd)) (length (now ksub))
+        (length (now v)) ⌝ }
+    ensures { λ _. ⌜ vec (now (v .exit)) ≡ withPart (vec (now (v .entry))) 0 nk
+        (weighed (now (kd .entry)) (now (ksub .entry)) (now (kblocks .entry))
+        (view all (now (kpanel .entry)) (i .0))) ⌝ }
+{
+    let mut s = 0;
+    while s < nk {
+        v[s] = weight(kpanel, all, i, kd, ksub, kblocks, s);
+        s += 1;
+    }
+}
+
+// acc of the panel's rows lo up to hi.
+fn sum(acc: &mut [f64], kpanel: &[f64], all: usize, lo: usize, hi: usize, v: &[f64], nk: usize)
+    requires { ⌜ SumPre nk all lo hi (length (now acc)) (length (now kpanel)) (length (now v)) ⌝ }
+    ensures { λ _. ⌜ vec (now (acc .exit)) ≡ withPart (vec (now (acc .entry))) lo hi
+        (sums (view all (now (kpanel .entry))) (vec (now (v .entry))) nk) ⌝ }
+{
+    columns::zero(acc, lo, hi);
+    let mut s = 0;
+    while s < nk {
+        columns::plus(acc, kpanel, all, s, lo, hi, v[s]);
+        s += 1;
+    }
+}
+
+// x is subtracted at row i, column j.
+fn less_at(panel: &mut [f64], nrow: usize, i: LocalRow, j: usize, x: f64)
+    requires { ⌜ In nrow (i .0) j (length (now panel)) ⌝ }
+    ensures { λ _. ⌜ view nrow (now (panel .exit)) ≡ lessAt (view nrow (now (panel .entry))) (i .0) j x ⌝ }
+{
+    let at = i.0 + j * nrow;
+    panel[at] = panel[at] - x;
+}
+
+// Column j of the target loses acc at the places of the descendant's rows lo up to hi.
+fn subtract(
+    panel: &mut [f64],
+    nrow: usize,
+    j: usize,
+    places: &[usize],
+    acc: &[f64],
+    nk: usize,
+    lo: usize,
+    hi: usize,
+)
+    requires { ⌜ SubtractPre nrow j (now places) nk lo hi (length (now panel)) (length (now acc)) ⌝ }
+    ensures { λ _. ⌜ view nrow (now (panel .exit)) ≡ lessFrom (bytes (now (places .entry)))
+        (fromRow (vec (now (acc .entry))) nk) j (hi - lo) lo (view nrow (now (panel .entry))) ⌝ }
+{
+    let mut r = lo;
+    while r < hi {
+        less_at(panel, nrow, LocalRow(places[r]), j, acc[nk + r]);
+        r += 1;
+    }
+}
+
+// Row c of the descendant, if it lands. v and acc are scratch: any on entry.
+fn update_row(
+    ncol: usize,
+    nrow: usize,
+    first: GlobalRow,
+    panel: &mut [f64],
+    nk: usize,
+    mk: usize,
+    kpanel: &[f64],
+    kd: &[f64],
+    ksub: &[f64],
+    kblocks: &[u8],
+    krows: &[u32],
+    places: &[usize],
+    c: usize,
+    v: &mut [f64],
+    acc: &mut [f64],
+)
+    requires { ⌜ ApplyPre ncol nrow nk mk (now kblocks) (now places) c (length (now panel)) (length (now kpanel))
+        (length (now kd)) (length (now ksub)) (length (now krows)) ⌝ }
+    requires { ⌜ RowPre nk mk c (length (now v)) (length (now acc)) ⌝ }
+    ensures { λ _. ⌜ view nrow (now (panel .exit)) ≡ rowApplied (first .0) ncol
+        (descendantOf nk mk (now (kpanel .entry)) (now (kd .entry)) (now (ksub .entry)) (now (kblocks .entry))
+        (now (krows .entry))) (bytes (now (places .entry))) c (view nrow (now (panel .entry))) ⌝ }
+{
+    let g = GlobalRow(krows[c]);
+    if !rows::lands(first, ncol, g) {
+        return;
+    }
+    let all = nk + mk;
+    let row = nk + c;
+    weigh(kpanel, all, LocalRow(row), kd, ksub, kblocks, nk, v);
+    sum(acc, kpanel, all, row, all, v, nk);
+    let j = rows::column_of(first, g);
+    subtract(panel, nrow, j, places, acc, nk, c, mk);
+}
+
+// The descendant's rows from `start` on, each if it lands.
+pub fn update_rows(
+    ncol: usize,
+    nrow: usize,
+    first: GlobalRow,
+    panel: &mut [f64],
+    nk: usize,
+    mk: usize,
+    kpanel: &[f64],
+    kd: &[f64],
+    ksub: &[f64],
+    kblocks: &[u8],
+    krows: &[u32],
+    places: &[usize],
+    start: usize,
+)
+    requires { ⌜ ApplyPre ncol nrow nk mk (now kblocks) (now places) start (length (now panel)) (length (now kpanel))
+        (length (now kd)) (length (now ksub)) (length (now krows)) ⌝ }
+    ensures { λ _. ⌜ view nrow (now (panel .exit)) ≡ rowsApplied (first .0) ncol
+        (descendantOf nk mk (now (kpanel .entry)) (now (kd .entry)) (now (ksub .entry)) (now (kblocks .entry))
+        (now (krows .entry))) (bytes (now (places .entry))) (mk - start) start (view nrow (now (panel .entry))) ⌝ }
+{
+    let mut v = [0.0; COLUMNS_MAX];
+    let mut acc = [0.0; ROWS_MAX];
+    let mut c = start;
+    while c < mk {
+        update_row(
+            ncol,
+            nrow,
+            first,
+            panel,
+            nk,
+            mk,
+            kpanel,
+            kd,
+            ksub,
+            kblocks,
+            krows,
+            places,
+            c,
+            &mut v,
+            &mut acc,
+        );
+        c += 1;
+    }
+}

@@ -1,0 +1,158 @@
+// Refusals 13 to 16 and 18. Tests are joined by `&`, not `&&`: they are plain comparisons, and without a branch the
+// whole test is the definition's own.
+ghost use mathlib.Core.Path.{_≡_};
+ghost use mathlib.Core.Bool.{_&&_};
+ghost use mathlib.Core.List.{[]};
+ghost use lib.ListN.{length};
+ghost use Rattle.model.specs.Matrix.{bytes};
+ghost use Rattle.model.specs.Factor.{everyFrom};
+ghost use Rattle.model.specs.Assembly.{firstNot};
+ghost use Rattle.model.specs.Update.{updateSound, descendantSound};
+ghost use Rattle.entry.specs.Entry.{entrySays};
+ghost use Rattle.update.specs.Rows.{risesAt, standsAt, ColumnsPre};
+ghost use Rattle.update.specs.Call.{targetOf, descendantOf, listsCheck, ColumnPre, NumbersPre};
+use super::COLUMNS_MAX;
+use super::ROWS_MAX;
+use super::rows;
+use entry::Entry;
+use model::Elim;
+use model::GlobalRow;
+use model::Refusal;
+
+// Refusal 13's test, in which `first` plays no part. A length is worked out once the sizes are sound, so that no sum or
+// product overflows.
+fn lengths_sound(
+    ncol: usize,
+    nrow: usize,
+    rows: &[u32],
+    panel: &[f64],
+    nk: usize,
+    mk: usize,
+    kpanel: &[f64],
+    kd: &[f64],
+    ksub: &[f64],
+    kblocks: &[u8],
+    krows: &[u32],
+) -> bool
+    ensures { λ r. ⌜ r ≡ updateSound (targetOf ncol nrow 0 (now (rows .entry)))
+        (descendantOf nk mk (now (kpanel .entry)) (now (kd .entry)) (now (ksub .entry)) (now (kblocks .entry))
+        (now (krows .entry))) (now (panel .entry)) ⌝ }
+{
+    if !entry::shape_sound(ncol, nrow) {
+        return false;
+    }
+    if !((nk <= COLUMNS_MAX) & (mk <= ROWS_MAX)) {
+        return false;
+    }
+    let all = nk + mk;
+    let pivots = (kd.len() == nk)
+        & ((ksub.len() == nk) & ((kblocks.len() == nk) & (krows.len() == mk)));
+    let panels = (panel.len() == nrow * ncol)
+        & ((rows.len() == nrow) & ((kpanel.len() == all * nk) & pivots));
+    (all <= ROWS_MAX) & panels
+}
+
+// Refusal 14's test.
+fn target_sound(first: GlobalRow, rows: &[u32], ncol: usize) -> bool
+    requires { ⌜ ColumnsPre ncol (length (now rows)) ⌝ }
+    ensures { λ r. ⌜ r ≡ everyFrom (risesAt (bytes (now (rows .entry))) (length (now (rows .entry))))
+        (length (now (rows .entry))) 0 && everyFrom (standsAt (first .0) (bytes (now (rows .entry)))) ncol 0 ⌝ }
+{
+    if !rows::rising(rows) {
+        return false;
+    }
+    rows::begins_at(first, rows, ncol)
+}
+
+// Refusals 13 to 16.
+pub fn lists_check(
+    ncol: usize,
+    nrow: usize,
+    first: GlobalRow,
+    rows: &[u32],
+    panel: &[f64],
+    nk: usize,
+    mk: usize,
+    kpanel: &[f64],
+    kd: &[f64],
+    ksub: &[f64],
+    kblocks: &[u8],
+    krows: &[u32],
+) -> Entry
+    ensures { λ r. ⌜ entrySays r ≡ listsCheck (targetOf ncol nrow (first .0) (now (rows .entry)))
+        (descendantOf nk mk (now (kpanel .entry)) (now (kd .entry)) (now (ksub .entry)) (now (kblocks .entry))
+        (now (krows .entry))) (now (panel .entry)) ⌝ }
+{
+    if !lengths_sound(
+        ncol,
+        nrow,
+        rows,
+        panel,
+        nk,
+        mk,
+        kpanel,
+        kd,
+        ksub,
+        kblocks,
+        krows,
+    ) {
+        return Entry::Refused(Refusal::UpdateLength);
+    }
+    if !target_sound(first, rows, ncol) {
+        return Entry::Refused(Refusal::TargetRows);
+    }
+    if !rows::rising(krows) {
+        return Entry::Refused(Refusal::DescendantRows);
+    }
+    inertia::first_bad_byte(kblocks)
+}
+
+// Refusal 18's test: column c's d, its subdiagonal under a 1, and its numbers below the head are finite.
+fn column_sound(
+    nk: usize,
+    mk: usize,
+    kpanel: &[f64],
+    kd: &[f64],
+    ksub: &[f64],
+    kblocks: &[u8],
+    c: usize,
+) -> bool
+    requires { ⌜ ColumnPre nk mk c (length (now kpanel)) (length (now kd)) (length (now ksub))
+        (length (now kblocks)) ⌝ }
+    ensures { λ r. ⌜ r ≡ descendantSound
+        (descendantOf nk mk (now (kpanel .entry)) (now (kd .entry)) (now (ksub .entry)) (now (kblocks .entry)) []) c ⌝ }
+{
+    if !scalar::is_finite(kd[c]) {
+        return false;
+    }
+    if (kblocks[c] == 1) & !scalar::is_finite(ksub[c]) {
+        return false;
+    }
+    let all = nk + mk;
+    scan::column_finite(kpanel, all, c, nk, all)
+}
+
+// Refusal 18: the first column that has a number that is not finite.
+pub fn first_bad_column(
+    nk: usize,
+    mk: usize,
+    kpanel: &[f64],
+    kd: &[f64],
+    ksub: &[f64],
+    kblocks: &[u8],
+) -> Entry
+    requires { ⌜ NumbersPre nk mk (length (now kpanel)) (length (now kd)) (length (now ksub))
+        (length (now kblocks)) ⌝ }
+    ensures { λ r. ⌜ entrySays r ≡ firstNot (descendantSound
+        (descendantOf nk mk (now (kpanel .entry)) (now (kd .entry)) (now (ksub .entry)) (now (kblocks .entry)) []))
+        18 nk 0 ⌝ }
+{
+    let mut c = 0;
+    while c < nk {
+        if !column_sound(nk, mk, kpanel, kd, ksub, kblocks, c) {
+            return Entry::Refused(Refusal::DescendantNumber(Elim(c)));
+        }
+        c += 1;
+    }
+    Entry::Sound
+}

@@ -1,0 +1,132 @@
+// A factored descendant's update of a target node: each of its rows that lands on a column of the target subtracts its
+// part of L·D·Lᵀ from that column, from the landing row on.
+// rows.rt has the way from rows of the system to rows of the panel, checks.rt refusals 13 to 16 and 18, apply.rt the
+// numbers. A reader may rely on `update` answering any arguments: it refuses and writes nothing, or the panel is the
+// definition's.
+ghost use mathlib.Core.Path.{_≡_};
+ghost use lib.ListN.{length};
+ghost use Rattle.model.specs.Update.{updateOf};
+ghost use Rattle.assembly.specs.Call.{leaves};
+ghost use Rattle.update.specs.Call.{targetOf, descendantOf, columnsOf, ListsPre};
+use entry::Entry;
+use model::Applied;
+use model::GlobalRow;
+
+mod apply;
+mod checks;
+mod rows;
+
+// The most columns of a descendant, and the most rows, its columns' among them.
+const COLUMNS_MAX: usize = 128;
+
+const ROWS_MAX: usize = 1024;
+
+// Refusals 17 and 18 and the update itself, of a descendant that has columns.
+fn update_columns(
+    ncol: usize,
+    nrow: usize,
+    first: GlobalRow,
+    rows: &[u32],
+    panel: &mut [f64],
+    nk: usize,
+    mk: usize,
+    kpanel: &[f64],
+    kd: &[f64],
+    ksub: &[f64],
+    kblocks: &[u8],
+    krows: &[u32],
+) -> Applied
+    requires { ⌜ ListsPre (targetOf ncol nrow (first .0) (now rows))
+        (descendantOf nk mk (now kpanel) (now kd) (now ksub) (now kblocks) (now krows)) (length (now panel)) ⌝ }
+    ensures { λ r. ⌜ leaves r (now (panel .exit)) ≡ columnsOf (targetOf ncol nrow (first .0) (now (rows .entry)))
+        (descendantOf nk mk (now (kpanel .entry)) (now (kd .entry)) (now (ksub .entry)) (now (kblocks .entry))
+        (now (krows .entry))) (now (panel .entry)) ⌝ }
+{
+    let start = rows::first_landing(first, ncol, krows);
+    let mut places = [0usize; ROWS_MAX];
+    let located = rows::locate(rows, krows, start, &mut places);
+    let Entry::Sound = located else {
+        return assembly::answer(located);
+    };
+    let checked = checks::first_bad_column(nk, mk, kpanel, kd, ksub, kblocks);
+    let Entry::Sound = checked else {
+        return assembly::answer(checked);
+    };
+    apply::update_rows(
+        ncol,
+        nrow,
+        first,
+        panel,
+        nk,
+        mk,
+        kpanel,
+        kd,
+        ksub,
+        kblocks,
+        krows,
+        &places,
+        start,
+    );
+    Applied::Done
+}
+
+// in: ncol, nrow, first, rows: the target's columns and rows, the global row of its first column, its global rows.
+// in and out: panel, the target's nrow·ncol numbers, column-major; any on entry.
+// in: nk, mk, kpanel, kd, ksub, kblocks, krows: the descendant's columns and rows below them, its panel of (nk + mk)·nk
+// numbers, d, subdiagonal and block bytes, and the global rows below its columns.
+// Done, or a refusal of 13 to 18.
+// origin: src/numeric/ldlt/node.rs, fn ll_factor_node
+pub fn update(
+    ncol: usize,
+    nrow: usize,
+    first: u32,
+    rows: &[u32],
+    panel: &mut [f64],
+    nk: usize,
+    mk: usize,
+    kpanel: &[f64],
+    kd: &[f64],
+    ksub: &[f64],
+    kblocks: &[u8],
+    krows: &[u32],
+) -> Applied
+    ensures { λ r. ⌜ leaves r (now (panel .exit)) ≡ updateOf (targetOf ncol nrow first (now (rows .entry)))
+        (descendantOf nk mk (now (kpanel .entry)) (now (kd .entry)) (now (ksub .entry)) (now (kblocks .entry))
+        (now (krows .entry))) (now (panel .entry)) ⌝ }
+{
+    let first = GlobalRow(first);
+    let checked = checks::lists_check(
+        ncol,
+        nrow,
+        first,
+        rows,
+        &panel[..],
+        nk,
+        mk,
+        kpanel,
+        kd,
+        ksub,
+        kblocks,
+        krows,
+    );
+    let Entry::Sound = checked else {
+        return assembly::answer(checked);
+    };
+    if nk == 0 {
+        return Applied::Done;
+    }
+    update_columns(
+        ncol,
+        nrow,
+        first,
+        rows,
+        panel,
+        nk,
+        mk,
+        kpanel,
+        kd,
+        ksub,
+        kblocks,
+        krows,
+    )
+}
