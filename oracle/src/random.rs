@@ -80,12 +80,26 @@ pub fn any_number(rng: &mut Rng) -> f64 {
     number(rng, kind)
 }
 
-fn not_finite(rng: &mut Rng) -> f64 {
+pub fn not_finite(rng: &mut Rng) -> f64 {
     rng.one_of(&[f64::NAN, f64::INFINITY, f64::NEG_INFINITY])
 }
 
+/// A not-a-number with a payload, quiet or signalling.
+pub fn payload(bits: u64) -> f64 {
+    f64::from_bits(0x7FF0_0000_0000_0001 | bits & 0x800F_FFFF_FFFF_FFFE)
+}
+
+/// Not-a-numbers with payloads into some upper positions.
+pub fn upper_payloads(rng: &mut Rng, nrow: usize, panel: &mut [f64]) {
+    for at in (0..panel.len()).filter(|at| at % nrow < at / nrow) {
+        if rng.once_in(2) {
+            panel[at] = payload(rng.next());
+        }
+    }
+}
+
 /// Numbers of one kind, or of two mixed, or a kind with zeros in between.
-fn numbers(rng: &mut Rng, n: usize) -> Vec<f64> {
+pub fn numbers(rng: &mut Rng, n: usize) -> Vec<f64> {
     let main = rng.one_of(&[Kind::Small, Kind::Small, Kind::Quarters, Kind::Rough, Kind::Wide, Kind::Tiny, Kind::Huge]);
     let other = if rng.once_in(3) { rng.one_of(&KINDS) } else { main };
     (0..n).map(|_| if rng.once_in(4) { number(rng, other) } else { number(rng, main) }).collect()
@@ -115,7 +129,8 @@ pub struct Bounds {
     pub max_row: usize,
 }
 
-fn mode(rng: &mut Rng, a: &[f64]) -> Mode {
+/// Fail, or Lift with a floor on, by or far from the numbers of a panel; a wrong one now and then.
+pub fn mode(rng: &mut Rng, a: &[f64]) -> Mode {
     if rng.once_in(2) {
         return Mode::Fail;
     }
@@ -224,12 +239,12 @@ fn assembly(rng: &mut Rng, bounds: Bounds) -> Assembly {
 }
 
 /// A target's place: ncol rows in a run, then others with gaps.
-fn place(rng: &mut Rng, ncol: usize, nrow: usize) -> Place {
+pub fn place(rng: &mut Rng, ncol: usize, nrow: usize) -> Place {
     let first = rng.within(0, 9) as u32;
-    let mut rows = vec![first];
-    while rows.len() < nrow {
-        let gap = if rows.len() < ncol { 1 } else { rng.within(1, 3) as u32 };
-        rows.push(rows[rows.len() - 1] + gap);
+    let mut rows: Vec<u32> = Vec::new();
+    for i in 0..nrow {
+        let gap = if i < ncol.max(1) { 1 } else { rng.within(1, 3) as u32 };
+        rows.push(rows.last().map_or(first, |last| last + gap));
     }
     Place { first, rows }
 }
@@ -245,7 +260,7 @@ fn blocks(rng: &mut Rng, n: usize) -> Vec<u8> {
 }
 
 /// A descendant of a target with these rows: some of them, and some before.
-fn descendant(rng: &mut Rng, bounds: Bounds, rows: &[u32]) -> Descendant {
+pub fn descendant(rng: &mut Rng, bounds: Bounds, rows: &[u32]) -> Descendant {
     let ncol = if rng.once_in(12) { 0 } else { rng.within(1, bounds.max_col) };
     let mut below: Vec<u32> = (0..rows.first().map_or(0, |&r| r)).filter(|_| rng.once_in(5)).collect();
     below.extend(rows.iter().filter(|_| !rng.once_in(3)));
@@ -263,7 +278,7 @@ fn descendant(rng: &mut Rng, bounds: Bounds, rows: &[u32]) -> Descendant {
 
 /// One thing of an update made wrong: refusals 13 to 18, or a number in the
 /// descendant's head, which is not read.
-fn spoil_update(rng: &mut Rng, u: &mut Update) {
+pub fn spoil_update(rng: &mut Rng, u: &mut Update) {
     let (k, rows) = (&mut u.descendant, &mut u.place.rows);
     match rng.within(0, 8) {
         0 => k.d.push(1.0),

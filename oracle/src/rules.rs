@@ -186,8 +186,8 @@ fn assembled(a: &Assembly) -> Result<Vec<f64>, Refusal> {
 
 fn assembly_entry(a: &Assembly) -> Checked {
     let n = a.rows.len();
-    let lengths = a.cols.len() == n && a.numbers.len() == n && a.panel.len() == a.nrow * a.ncol;
-    refuse_if(bad_shape(a.ncol, a.nrow) || !lengths, 10)?;
+    refuse_if(bad_shape(a.ncol, a.nrow), 10)?;
+    refuse_if(a.cols.len() != n || a.numbers.len() != n || a.panel.len() != a.nrow * a.ncol, 10)?;
     let outside = |&e: &usize| a.rows[e] >= a.nrow || a.cols[e] >= a.ncol || a.rows[e] < a.cols[e];
     refuse_at((0..n).find(outside), 11)?;
     refuse_at((0..n).find(|&e| !a.numbers[e].is_finite()), 12)
@@ -213,12 +213,13 @@ fn rising(rows: &[u32]) -> bool {
 
 fn update_entry(ncol: usize, nrow: usize, place: &Place, panel: usize, k: &Descendant) -> Checked {
     let rows = &place.rows;
+    refuse_if(bad_shape(ncol, nrow) || k.ncol > MAX_COL || k.below > MAX_ROW || k.ncol + k.below > MAX_ROW, 13)?;
     let lengths = panel == nrow * ncol
         && rows.len() == nrow
         && k.panel.len() == (k.ncol + k.below) * k.ncol
         && [k.d.len(), k.sub.len(), k.blocks.len()] == [k.ncol; 3]
         && k.rows.len() == k.below;
-    refuse_if(bad_shape(ncol, nrow) || k.ncol > MAX_COL || k.ncol + k.below > MAX_ROW || !lengths, 13)?;
+    refuse_if(!lengths, 13)?;
     let in_a_run = (0..ncol).all(|i| rows[i] as usize == place.first as usize + i);
     refuse_if(!rising(rows) || !in_a_run, 14)?;
     refuse_if(!rising(&k.rows), 15)?;

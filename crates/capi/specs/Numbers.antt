@@ -1,14 +1,18 @@
 -- The C interface's plain numbers: an answer as its refusal's number and place or its counts, a mode as a flag and a floor.
 -- Definitions only. Assumes nothing.
 use mathlib.Core.Bool.{Bool, cond}
+use mathlib.Core.List.{List}
 use Prim.Native.Nat.{ℕ}
 use lib.Ieee.{Float}
 use Rattle.model.specs.Answer.{Said, refused, accepted}
 use Rattle.model.specs.Factor as factor
+use Rattle.model.specs.Inertia.{empty}
+use Rattle.model.specs.Assembly.{Panelled}
 use Rattle.model.specs.declared.Mode.{Mode}
 use Rattle.model.specs.declared.Mode.the-variants.{Fail, Lift}
 use Rattle.model.specs.declared.Report.{Report}
 use Rattle.model.specs.declared.Settings.{Settings}
+use Rattle.model.specs.declared.Tally.{Tally}
 use Rattle.capi.specs.declared.Outcome.{Outcome}
 
 -- Lift with the floor where the flag is set; else Fail, and the floor is not read
@@ -18,16 +22,41 @@ modeOf lifts floor = cond lifts (Lift floor) Fail
 abbrev pub settingsOf : (ncol nrow nb : ℕ) → Bool → Float → ℕ → Settings
 settingsOf ncol nrow nb lifts floor limit = record { ncol = ncol; nrow = nrow; nb = nb; mode = modeOf lifts floor; limit = limit }
 
--- a refusal's number and place with nothing counted; number 0 is acceptance, with rounds and inertia
-abbrev pub numbersOf : Said Report → Outcome
-numbersOf (refused n a b) = record { number = n; a = a; b = b; rounds = 0; positive = 0; negative = 0; zero = 0 }
-numbersOf (accepted r) =
-    record { number = 0; a = 0; b = 0; rounds = r .rounds; positive = r .inertia .positive; negative = r .inertia .negative; zero = r .inertia .zero }
+-- a refusal's number and place, with nothing counted
+abbrev pub refusedAs : (number a b : ℕ) → Outcome
+refusedAs n a b = record { number = n; a = a; b = b; rounds = 0; positive = 0; negative = 0; zero = 0 }
+
+-- number 0 is acceptance
+abbrev pub reportedAs : ℕ → Tally → Outcome
+reportedAs rounds t = record { number = 0; a = 0; b = 0; rounds = rounds; positive = t .positive; negative = t .negative; zero = t .zero }
+
+-- a factor call has rounds and counts
+abbrev pub factorNumbers : Said Report → Outcome
+factorNumbers (refused n a b) = refusedAs n a b
+factorNumbers (accepted r) = reportedAs (r .rounds) (r .inertia)
+
+-- an inertia call counts, without rounds
+abbrev pub inertiaNumbers : Said Tally → Outcome
+inertiaNumbers (refused n a b) = refusedAs n a b
+inertiaNumbers (accepted t) = reportedAs 0 t
+
+-- an assembly or an update has neither
+abbrev pub panelNumbers : Said (Unit {0}) → Outcome
+panelNumbers (refused n a b) = refusedAs n a b
+panelNumbers (accepted x) = reportedAs 0 empty
 
 -- what a factor call answers and leaves
-pub record Left : Type 0 where
+pub record FactorLeft : Type 0 where
   pub outcome : Outcome
   pub buffers : factor.Buffers
 
-unfoldable pub leftOf : factor.Outcome → Left
-leftOf o = record { outcome = numbersOf (o .answer); buffers = o .buffers }
+unfoldable pub factorLeft : factor.Outcome → FactorLeft
+factorLeft o = record { outcome = factorNumbers (o .answer); buffers = o .buffers }
+
+-- what an assembly or an update answers and leaves
+pub record PanelLeft : Type 0 where
+  pub outcome : Outcome
+  pub panel : List Float
+
+unfoldable pub panelLeft : Panelled → PanelLeft
+panelLeft o = record { outcome = panelNumbers (o .answer); panel = o .panel }

@@ -1,21 +1,32 @@
 // The C interface. Every function is exported under its own name, which begins `misuktaan_`, and asks nothing of its caller.
 // A slice is a pointer and a length.
-// The leaves are those of crate scalar, each equal to its definition in model's specs at every number. The factor call
-// answers by numbers what model's `factorOf` says, and leaves the buffers as it says.
+// The leaves are those of crate scalar, each equal to its definition in model's specs at every number. The four calls
+// answer by numbers what model's `factorOf`, `inertiaOf`, `assemblyOf` and `updateOf` say, and leave the buffers as these
+// say.
 ghost use mathlib.Core.Path.{_≡_};
 ghost use Rattle.model.specs.Scalar.{isFinite, magnitudeOf, squareOf, maximumOf, reciprocalOf, liftOf};
 ghost use Rattle.model.specs.Root.{sqrtOf};
-ghost use Rattle.model.specs.Answer.{refused, accepted, turnedAway, factoredSays};
+ghost use Rattle.model.specs.Answer.{factoredSays, countedSays, appliedSays};
 ghost use Rattle.model.specs.Factor.{factorOf};
-ghost use Rattle.capi.specs.Numbers.{modeOf, settingsOf, numbersOf, Left, leftOf};
+ghost use Rattle.model.specs.Inertia.{inertiaOf};
+ghost use Rattle.model.specs.Assembly.{assemblyOf};
+ghost use Rattle.model.specs.Update.{updateOf};
+ghost use Rattle.assembly.specs.Call.{entriesOf};
+ghost use Rattle.update.specs.Call.{targetOf, descendantOf};
+ghost use Rattle.capi.specs.Numbers.{modeOf, settingsOf, refusedAs, reportedAs};
+ghost use Rattle.capi.specs.Numbers.{factorNumbers, inertiaNumbers, panelNumbers};
+ghost use Rattle.capi.specs.Numbers.{FactorLeft, factorLeft, PanelLeft, panelLeft};
+use model::Applied;
+use model::Counted;
 use model::Factored;
 use model::Mode;
-use model::Refusal;
-use model::Report;
 use model::Settings;
+use model::Tally;
+use refusal::NumberAndPlace;
 
-// What a factor call answers. Number 0 is acceptance, with the rounds of all block lifts and the inertia; any other is the
-// refusal's, with its place a, b, and nothing counted.
+// What a call answers. Number 0 is acceptance: a factor call has the rounds of all block lifts and the inertia, an inertia
+// call the inertia, an assembly or an update neither. Any other is the refusal's, with its place a, b. What a call does not
+// have is 0.
 #[repr(C)]
 pub struct Outcome {
     pub number: usize,
@@ -87,14 +98,14 @@ pub extern "C" fn misuktaan_sqrt(x: f64) -> f64
 
 // ---- answers and modes as numbers
 
-// A refusal of a number at a place.
-fn refused_at(number: usize, a: usize, b: usize) -> Outcome
-    ensures { λ r. ⌜ r ≡ numbersOf (refused number a b) ⌝ }
+// A refusal, and nothing counted.
+fn refused_as(w: NumberAndPlace) -> Outcome
+    ensures { λ r. ⌜ r ≡ refusedAs (w .number) (w .a) (w .b) ⌝ }
 {
     Outcome {
-        number,
-        a,
-        b,
+        number: w.number,
+        a: w.a,
+        b: w.b,
         rounds: 0,
         positive: 0,
         negative: 0,
@@ -102,54 +113,52 @@ fn refused_at(number: usize, a: usize, b: usize) -> Outcome
     }
 }
 
-// A refusal by its number and place.
-fn refusal_outcome(why: Refusal) -> Outcome
-    ensures { λ r. ⌜ r ≡ numbersOf (turnedAway why) ⌝ }
-{
-    match why {
-        Refusal::Shape => refused_at(1, 0, 0),
-        Refusal::Width => refused_at(2, 0, 0),
-        Refusal::Length => refused_at(3, 0, 0),
-        Refusal::Floor => refused_at(4, 0, 0),
-        Refusal::Limit => refused_at(5, 0, 0),
-        Refusal::Input(column, row) => refused_at(6, column.0, row.0),
-        Refusal::ZeroPivot(at) => refused_at(7, at.0, 0),
-        Refusal::Rounds(at) => refused_at(8, at.0, 0),
-        Refusal::NotFinite(at) => refused_at(9, at.0, 0),
-        Refusal::AssemblyLength => refused_at(10, 0, 0),
-        Refusal::AssemblyPlace(at) => refused_at(11, at, 0),
-        Refusal::AssemblyNumber(at) => refused_at(12, at, 0),
-        Refusal::UpdateLength => refused_at(13, 0, 0),
-        Refusal::TargetRows => refused_at(14, 0, 0),
-        Refusal::DescendantRows => refused_at(15, 0, 0),
-        Refusal::BlockByte(at) => refused_at(16, at.0, 0),
-        Refusal::AbsentRow(at) => refused_at(17, at, 0),
-        Refusal::DescendantNumber(at) => refused_at(18, at.0, 0),
-        Refusal::InertiaLength => refused_at(19, 0, 0),
-    }
-}
-
-// An accepted call's report.
-fn report_outcome(x: Report) -> Outcome
-    ensures { λ r. ⌜ r ≡ numbersOf (accepted x) ⌝ }
+// Acceptance, with rounds and counts.
+fn reported_as(rounds: usize, t: Tally) -> Outcome
+    ensures { λ r. ⌜ r ≡ reportedAs rounds t ⌝ }
 {
     Outcome {
         number: 0,
         a: 0,
         b: 0,
-        rounds: x.rounds,
-        positive: x.inertia.positive,
-        negative: x.inertia.negative,
-        zero: x.inertia.zero,
+        rounds,
+        positive: t.positive,
+        negative: t.negative,
+        zero: t.zero,
     }
 }
 
-fn outcome_of(answer: Factored) -> Outcome
-    ensures { λ r. ⌜ r ≡ numbersOf (factoredSays answer) ⌝ }
+fn factor_outcome(answer: Factored) -> Outcome
+    ensures { λ r. ⌜ r ≡ factorNumbers (factoredSays answer) ⌝ }
 {
     match answer {
-        Factored::Accepted(report) => report_outcome(report),
-        Factored::Refused(why) => refusal_outcome(why),
+        Factored::Accepted(report) => reported_as(report.rounds, report.inertia),
+        Factored::Refused(why) => refused_as(refusal::numbered(why)),
+    }
+}
+
+fn inertia_outcome(answer: Counted) -> Outcome
+    ensures { λ r. ⌜ r ≡ inertiaNumbers (countedSays answer) ⌝ }
+{
+    match answer {
+        Counted::Counts(t) => reported_as(0, t),
+        Counted::Refused(why) => refused_as(refusal::numbered(why)),
+    }
+}
+
+fn panel_outcome(answer: Applied) -> Outcome
+    ensures { λ r. ⌜ r ≡ panelNumbers (appliedSays answer) ⌝ }
+{
+    match answer {
+        Applied::Done => reported_as(
+            0,
+            Tally {
+                positive: 0,
+                negative: 0,
+                zero: 0,
+            },
+        ),
+        Applied::Refused(why) => refused_as(refusal::numbered(why)),
     }
 }
 
@@ -159,7 +168,7 @@ fn mode_of(lifts: bool, floor: f64) -> Mode
     if lifts { Mode::Lift(floor) } else { Mode::Fail }
 }
 
-// ---- the factor call
+// ---- the calls
 
 // One node factored. Lift with this floor where `lifts`, else Fail. Everything is refused or accepted by the definition:
 // the answer, and what each of the nine buffers holds afterwards.
@@ -184,7 +193,7 @@ pub extern "C" fn misuktaan_factor(
     marks: &mut [u8],
     work: &mut [f64],
 ) -> Outcome
-    ensures { λ r. ⌜ _≡_ {A = Left} (record {
+    ensures { λ r. ⌜ _≡_ {A = FactorLeft} (record {
       outcome = r;
       buffers = record {
         panel = now (panel .exit);
@@ -198,7 +207,7 @@ pub extern "C" fn misuktaan_factor(
         work = now (work .exit);
       };
     })
-        (leftOf (factorOf (settingsOf ncol nrow nb lifts floor limit) (now (input .entry)) (record {
+        (factorLeft (factorOf (settingsOf ncol nrow nb lifts floor limit) (now (input .entry)) (record {
           panel = now (panel .entry);
           d = now (d .entry);
           sub = now (sub .entry);
@@ -218,7 +227,7 @@ pub extern "C" fn misuktaan_factor(
         mode,
         limit,
     };
-    outcome_of(factor::factor(
+    factor_outcome(factor::factor(
         c,
         input,
         panel,
@@ -230,5 +239,71 @@ pub extern "C" fn misuktaan_factor(
         order,
         marks,
         work,
+    ))
+}
+
+// The inertia of D as a factor call emits it, or refusal 19 or 16.
+// in: d, sub, blocks, one length of at most 128.
+#[no_mangle]
+pub extern "C" fn misuktaan_inertia(d: &[f64], sub: &[f64], blocks: &[u8]) -> Outcome
+    ensures { λ r. ⌜ r ≡ inertiaNumbers (inertiaOf (now (d .entry)) (now (sub .entry)) (now (blocks .entry))) ⌝ }
+{
+    inertia_outcome(inertia::inertia(d, sub, blocks))
+}
+
+// Entries added to a node's panel as they are listed, or refusal 10, 11 or 12 and nothing written.
+// in: ncol, nrow; rows, cols, numbers, one length. in and out: panel, nrow * ncol, any on entry.
+#[no_mangle]
+pub extern "C" fn misuktaan_assemble(
+    ncol: usize,
+    nrow: usize,
+    rows: &[usize],
+    cols: &[usize],
+    numbers: &[f64],
+    panel: &mut [f64],
+) -> Outcome
+    ensures { λ r. ⌜ _≡_ {A = PanelLeft} (record { outcome = r; panel = now (panel .exit) })
+        (panelLeft (assemblyOf ncol nrow
+        (entriesOf (now (rows .entry)) (now (cols .entry)) (now (numbers .entry))) (now (panel .entry)))) ⌝ }
+{
+    panel_outcome(assembly::assemble(ncol, nrow, rows, cols, numbers, panel))
+}
+
+// A factored descendant's update of a target node, or a refusal of 13 to 18 and nothing written.
+// in: ncol, nrow, first; rows, nrow; nk, mk; kpanel, (nk + mk) * nk; kd, ksub, kblocks, nk each; krows, mk.
+// in and out: panel, nrow * ncol, any on entry.
+#[no_mangle]
+pub extern "C" fn misuktaan_update(
+    ncol: usize,
+    nrow: usize,
+    first: u32,
+    rows: &[u32],
+    panel: &mut [f64],
+    nk: usize,
+    mk: usize,
+    kpanel: &[f64],
+    kd: &[f64],
+    ksub: &[f64],
+    kblocks: &[u8],
+    krows: &[u32],
+) -> Outcome
+    ensures { λ r. ⌜ _≡_ {A = PanelLeft} (record { outcome = r; panel = now (panel .exit) })
+        (panelLeft (updateOf (targetOf ncol nrow first (now (rows .entry)))
+        (descendantOf nk mk (now (kpanel .entry)) (now (kd .entry)) (now (ksub .entry)) (now (kblocks .entry))
+        (now (krows .entry))) (now (panel .entry)))) ⌝ }
+{
+    panel_outcome(update::update(
+        ncol,
+        nrow,
+        first,
+        rows,
+        panel,
+        nk,
+        mk,
+        kpanel,
+        kd,
+        ksub,
+        kblocks,
+        krows,
     ))
 }

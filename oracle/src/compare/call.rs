@@ -17,6 +17,11 @@ pub struct Outcome {
     pub zero: usize,
 }
 
+/// A refusal as it is answered: nothing is counted.
+pub fn refused(Refusal { number, a, b }: Refusal) -> Outcome {
+    Outcome { number, a, b, ..Outcome::default() }
+}
+
 /// The nine buffers that a call writes.
 #[derive(Clone, Debug)]
 pub struct Buffers {
@@ -90,13 +95,18 @@ pub fn left(call: Call, f: &Factor) -> Left {
 
 /// What a call must answer and leave, by the reference and document 01's rules.
 pub fn must(f: &Factor) -> Left {
+    answered(f, rules::answer(&Case::Factor(f.clone())))
+}
+
+/// What a call leaves that answers so.
+pub fn answered(f: &Factor, answer: Answer) -> Left {
     let lent = Buffers::lent(f);
     let bytes = |flags: Vec<bool>| flags.into_iter().map(u8::from).collect();
-    match rules::answer(&Case::Factor(f.clone())) {
-        Answer::Refused(Refusal { number, a, b }) => {
-            let zeros = matches!(number, 7..=9);
+    match answer {
+        Answer::Refused(refusal) => {
+            let zeros = matches!(refusal.number, 7..=9);
             let buffers = if zeros { Buffers::filled(&lent.lengths(), 0.0, 0, 0) } else { lent };
-            Left { outcome: Outcome { number, a, b, ..Outcome::default() }, buffers }
+            Left { outcome: refused(refusal), buffers }
         }
         Answer::Accepted { rounds, factored: of, marks } => {
             let [positive, negative, zero] = of.inertia;
@@ -143,4 +153,49 @@ pub fn difference(f: &Factor, got: &Left, must: &Left) -> Option<String> {
         }
     }
     None
+}
+
+// ---- the comparison itself
+
+/// A wrong cell in any one buffer, or a wrong number in the answer, is noticed.
+pub fn notices() {
+    let panel = vec![2.0, 1.0, 3.0, f64::NAN, 5.0, 7.0];
+    let settings = Settings { ncol: 2, nrow: 3, nb: 2, mode: Mode::Fail, limit: 1 };
+    let accepted = Factor { settings, panel, lengths: None };
+    let zero = Factor { panel: vec![0.0; 6], ..accepted.clone() };
+    let refused = Factor { settings: Settings { nb: 65, ..settings }, ..accepted.clone() };
+    let wrong: [fn(&mut Left); 17] = [
+        |l| l.outcome.number += 1,
+        |l| l.outcome.a += 1,
+        |l| l.outcome.b += 1,
+        |l| l.outcome.rounds += 1,
+        |l| l.outcome.positive += 1,
+        |l| l.outcome.negative += 1,
+        |l| l.outcome.zero += 1,
+        |l| flip(&mut l.buffers.panel[2]),
+        // the upper position
+        |l| flip(&mut l.buffers.panel[3]),
+        |l| flip(&mut l.buffers.d[1]),
+        |l| flip(&mut l.buffers.sub[1]),
+        |l| l.buffers.blocks[1] ^= 1,
+        |l| l.buffers.lifts[1] ^= 1,
+        |l| flip(&mut l.buffers.amounts[1]),
+        |l| l.buffers.order[2] ^= 1,
+        |l| l.buffers.marks[0] ^= 1,
+        |l| flip(&mut l.buffers.work[7]),
+    ];
+    for f in [accepted, zero, refused] {
+        let right = must(&f);
+        assert_eq!(difference(&f, &right, &right), None);
+        for spoil in wrong {
+            let mut got = right.clone();
+            spoil(&mut got);
+            assert!(difference(&f, &got, &right).is_some(), "a wrong answer passes: {got:?}");
+        }
+    }
+}
+
+/// The last bit of a number, the other way.
+pub fn flip(x: &mut f64) {
+    *x = f64::from_bits(x.to_bits() ^ 1);
 }

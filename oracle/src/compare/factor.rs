@@ -75,7 +75,7 @@ fn seeded(run: &mut Run, seed: u64, small: usize, large: usize) {
 
 fn main() {
     let (words, seed) = Words::read();
-    notices();
+    call::notices();
     notices_rows();
     let mut run = Run { counts: Counts::default(), call: library::factor, met: Met::default() };
     each_once(&mut run);
@@ -138,53 +138,9 @@ fn tails_agree(all: &[(Vec<u64>, Vec<u64>, u8)]) -> bool {
     all.iter().all(|p| all.iter().all(|q| p.0 != q.0 || (p.1 == q.1 && p.2 == q.2)))
 }
 
-// ---- the comparison itself
-
-/// A wrong cell in any one buffer, or a wrong number in the answer, is noticed.
-fn notices() {
-    let panel = vec![2.0, 1.0, 3.0, f64::NAN, 5.0, 7.0];
-    let settings = Settings { ncol: 2, nrow: 3, nb: 2, mode: Mode::Fail, limit: 1 };
-    let accepted = Factor { settings, panel, lengths: None };
-    let zero = Factor { panel: vec![0.0; 6], ..accepted.clone() };
-    let refused = Factor { settings: Settings { nb: 65, ..settings }, ..accepted.clone() };
-    let wrong: [fn(&mut Left); 17] = [
-        |l| l.outcome.number += 1,
-        |l| l.outcome.a += 1,
-        |l| l.outcome.b += 1,
-        |l| l.outcome.rounds += 1,
-        |l| l.outcome.positive += 1,
-        |l| l.outcome.negative += 1,
-        |l| l.outcome.zero += 1,
-        |l| flip(&mut l.buffers.panel[2]),
-        // the upper position
-        |l| flip(&mut l.buffers.panel[3]),
-        |l| flip(&mut l.buffers.d[1]),
-        |l| flip(&mut l.buffers.sub[1]),
-        |l| l.buffers.blocks[1] ^= 1,
-        |l| l.buffers.lifts[1] ^= 1,
-        |l| flip(&mut l.buffers.amounts[1]),
-        |l| l.buffers.order[2] ^= 1,
-        |l| l.buffers.marks[0] ^= 1,
-        |l| flip(&mut l.buffers.work[7]),
-    ];
-    for f in [accepted, zero, refused] {
-        let right = must(&f);
-        assert_eq!(difference(&f, &right, &right), None);
-        for spoil in wrong {
-            let mut got = right.clone();
-            spoil(&mut got);
-            assert!(difference(&f, &got, &right).is_some(), "a wrong answer passes: {got:?}");
-        }
-    }
-}
-
 /// A tail row with another factor row or mark than its equal is noticed.
 fn notices_rows() {
     let row = |l: u64, mark: u8| (vec![1], vec![l], mark);
     assert!(tails_agree(&[row(2, 0), row(2, 0)]));
     assert!(!tails_agree(&[row(2, 0), row(3, 0)]) && !tails_agree(&[row(2, 0), row(2, 1)]));
-}
-
-fn flip(x: &mut f64) {
-    *x = f64::from_bits(x.to_bits() ^ 1);
 }

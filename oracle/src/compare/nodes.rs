@@ -59,16 +59,11 @@ pub fn lengths(each: &mut dyn FnMut(Factor)) {
 
 // ---- tiny nodes
 
-/// A not-a-number with a payload, quiet or signalling.
-fn payload(bits: u64) -> f64 {
-    f64::from_bits(0x7FF0_0000_0000_0001 | bits & 0x800F_FFFF_FFFF_FFFE)
-}
-
 /// Every way to fill the lower positions with the given numbers; the upper ones hold not-a-numbers.
 fn fillings(ncol: usize, nrow: usize, of: &[f64], each: &mut dyn FnMut(Vec<f64>)) {
     let lower: Vec<usize> = (0..ncol * nrow).filter(|at| at % nrow >= at / nrow).collect();
     for code in 0..of.len().pow(lower.len() as u32) {
-        let mut panel: Vec<f64> = (0..ncol * nrow).map(|at| payload((code + at) as u64 * 2)).collect();
+        let mut panel: Vec<f64> = (0..ncol * nrow).map(|at| random::payload((code + at) as u64 * 2)).collect();
         let mut rest = code;
         for &at in &lower {
             panel[at] = of[rest % of.len()];
@@ -104,19 +99,9 @@ pub fn tiny(each: &mut dyn FnMut(Factor)) {
 pub fn random(rng: &mut Rng) -> Factor {
     let Some(Case::Factor(mut f)) = random::case(rng, "factor", BOUNDS) else { unreachable!() };
     if rng.once_in(3) {
-        upper(rng, &mut f);
+        random::upper_payloads(rng, f.settings.nrow, &mut f.panel);
     }
     f
-}
-
-/// Not-a-numbers with payloads into some upper positions.
-fn upper(rng: &mut Rng, f: &mut Factor) {
-    let nrow = f.settings.nrow;
-    for at in (0..f.panel.len()).filter(|at| at % nrow < at / nrow) {
-        if rng.once_in(2) {
-            f.panel[at] = payload(rng.next());
-        }
-    }
 }
 
 /// The row of a panel, by column.
@@ -138,6 +123,6 @@ pub fn sibling(rng: &mut Rng, of: &Factor, max_row: usize) -> Factor {
         }
     }
     let mut f = Factor { settings: Settings { nrow, ..of.settings }, panel, lengths: None };
-    upper(rng, &mut f);
+    random::upper_payloads(rng, f.settings.nrow, &mut f.panel);
     f
 }

@@ -1,6 +1,6 @@
 -- `capi::misuktaan_factor` meets its contract: the numbers of the factor call's answer, beside the buffers as it left them. Assumes nothing.
 use borrow.Author.Needs.{needs}
-use Rattle.capi.proofs.Laws.{left-is}
+use Rattle.capi.proofs.Laws.{factor-left}
 use Rattle.capi.proofs.misuktaan_factor.Statement.{statement}
 use Rattle.capi.proofs.misuktaan_factor.Tie as tie
 
@@ -8,7 +8,7 @@ returns : tie.Need-returns
 returns c =
     let called = c .before .before .before .before .before .before .before .before .before .before .before .before .before .before .before .before .before .before .before in
     let moded = called .before .before .before .before .before .before .before .before .before .before in
-    left-is (c .outcome-of .ensures) (rw (moded .mode-of .ensures) at (called .factor .ensures))
+    factor-left (c .factor-outcome .ensures) (rw (moded .mode-of .ensures) at (called .factor .ensures))
 
 pub misuktaan-factor-spec : {M : Type 1} → statement M
 misuktaan-factor-spec =

@@ -1,0 +1,2 @@
+-- Laws of numbers out of bytes.
+pub mod Laws

@@ -1,0 +1,2 @@
+-- Numbers out of bytes.
+pub mod LittleEndian

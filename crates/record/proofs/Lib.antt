@@ -1,0 +1,2 @@
+-- Laws of what a stream asks.
+pub mod Laws

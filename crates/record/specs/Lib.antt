@@ -1,0 +1,2 @@
+-- What a stream of bytes asks.
+pub mod Record

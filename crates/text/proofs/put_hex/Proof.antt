@@ -1,0 +1,17 @@
+-- `text::put_hex` meets its contract: sixteen digits. Assumes nothing.
+use native.Mathlib.Omega.{arith}
+use borrow.Author.Needs.{needs}
+use Rattle.text.proofs.Laws.{hex-length}
+use Rattle.text.proofs.put_hex.Statement.{statement}
+use Rattle.text.proofs.put_hex.Tie as tie
+
+returns : tie.Need-returns
+returns c = (search needs, omega (arith, c .before .before .put-digits .ensures .past, hex-length 16 (c .before .before .before .before .before .args .pattern)))
+
+pub put-hex-spec : {M : Type 1} → statement M
+put-hex-spec =
+    tie.close
+    (tie.spec
+    (λ c κs. search needs)
+    (λ c. search needs)
+    returns)
