@@ -90,9 +90,9 @@ static void print_panel(const char *what, const double *panel, size_t n)
     printf("\n");
 }
 
-int main(void)
+/* [1, 2; 8] by its lower triangle; the 0 is an upper position, which is not read. */
+static void factor_square(void)
 {
-    /* [1, 2; 8] by its lower triangle; the 0 is an upper position, which is not read. */
     const double square[] = {1.0, 2.0, 0.0, 8.0};
     struct factors f;
     printf("-- a node of two columns\n");
@@ -101,32 +101,43 @@ int main(void)
     printf("-- its inertia, from D alone\n");
     struct misuktaan_outcome o = misuktaan_inertia(f.d, 2, f.sub, 2, f.blocks, 2);
     printf("inertia %zu %zu %zu\n", o.positive, o.negative, o.zero);
+}
 
-    /* The descendant: one column over the rows 5 and 7 of the system. */
-    const double column[] = {1.0, 2.0, 3.0};
+/* The descendant k of one column, over the rows 5 and 7 of the system, updates a target of one column and two rows. */
+static struct misuktaan_outcome update(const uint32_t *rows, double *panel, const struct factors *k)
+{
     const uint32_t below[] = {5, 7};
-    struct factors k;
+    return misuktaan_update(1, 2, 5, rows, 2, panel, 2, 1, 2, k->panel, 3, k->d, 1, k->sub, 1, k->blocks, 1, below, 2);
+}
+
+static void update_target(void)
+{
+    const double column[] = {1.0, 2.0, 3.0};
+    struct factors k, f;
     printf("-- a descendant of one column and two tail rows\n");
     factor(1, 3, column, &k);
 
-    /* The target: one column, row 5 of the system, with row 7 below it. Its first place is listed twice. */
+    /* The target is row 5 of the system, with row 7 below it. Its first place is listed twice. */
     const size_t rows[] = {0, 1, 0};
     const size_t cols[] = {0, 0, 0};
     const double numbers[] = {4.0, 20.0, 6.0};
-    const uint32_t target[] = {5, 7};
     double panel[] = {0.0, 0.0};
     printf("-- a target assembled, updated and factored\n");
     if (accepted(misuktaan_assemble(1, 2, rows, 3, cols, 3, numbers, 3, panel, 2))) {
         print_panel("assembled", panel, 2);
     }
-    if (accepted(misuktaan_update(1, 2, 5, target, 2, panel, 2, 1, 2, k.panel, 3, k.d, 1, k.sub, 1, k.blocks, 1, below,
-                                  2))) {
+    if (accepted(update((const uint32_t[]){5, 7}, panel, &k))) {
         print_panel("updated", panel, 2);
     }
     factor(1, 2, panel, &f);
 
     printf("-- a target that lacks row 7\n");
-    const uint32_t other[] = {5, 6};
-    accepted(misuktaan_update(1, 2, 5, other, 2, panel, 2, 1, 2, k.panel, 3, k.d, 1, k.sub, 1, k.blocks, 1, below, 2));
+    accepted(update((const uint32_t[]){5, 6}, panel, &k));
+}
+
+int main(void)
+{
+    factor_square();
+    update_target();
     return 0;
 }

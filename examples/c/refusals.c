@@ -512,8 +512,12 @@ static void update_numbers(void)
     u.krows[1] = 7;
     accepted("no columns", apply(&u), 0, 0, 0);
     check(as_expected(), "no columns", "memory");
-    /* Row 6 lands on column 1: its rows 6, 8, 9 lose 2*2 + 3*3, 3*2 + 4*3, 4*2 + 5*3, and all else stays. */
-    u = update();
+}
+
+/* Row 6 lands on column 1: its rows 6, 8, 9 lose 2*2 + 3*3, 3*2 + 4*3, 4*2 + 5*3, and all else stays. */
+static void update_lands(void)
+{
+    struct update u = update();
     const size_t places[] = {5, 6, 7};
     const double left[] = {100 - 13, 100 - 18, 100 - 23};
     for (size_t i = 0; i < 3; i++) {
@@ -606,6 +610,7 @@ int main(void)
     update_lengths();
     update_rows();
     update_numbers();
+    update_lands();
     upper_kept();
     bounds();
     empty();

@@ -21,6 +21,11 @@ use std::fmt;
 mod ffi;
 pub mod leaves;
 
+/// The guide's Rust program is tested with those of this crate.
+#[cfg(doctest)]
+#[doc = include_str!("../../docs/GUIDE.md")]
+struct Guide;
+
 /// The most columns of a node.
 pub const COLUMNS_MAX: usize = 128;
 

@@ -1,8 +1,7 @@
-// The C interface. Every function is exported under its own name, which begins `misuktaan_`, and asks nothing of its caller.
-// A slice is a pointer and a length.
+// The C interface, as include/misuktaan.h declares it. Every function is exported under its own name, which begins
+// `misuktaan_`, and asks nothing of its caller. A slice is a pointer and a length.
 // The leaves are those of crate scalar, each equal to its definition in model's specs at every number. The four calls
-// answer by numbers what model's `factorOf`, `inertiaOf`, `assemblyOf` and `updateOf` say, and leave the buffers as these
-// say.
+// answer by numbers what model's `factorOf`, `inertiaOf`, `assemblyOf` and `updateOf` say, and leave the buffers so.
 ghost use mathlib.Core.Path.{_≡_};
 ghost use Rattle.model.specs.Scalar.{isFinite, magnitudeOf, squareOf, maximumOf, reciprocalOf, liftOf};
 ghost use Rattle.model.specs.Root.{sqrtOf};
@@ -24,9 +23,9 @@ use model::Settings;
 use model::Tally;
 use refusal::NumberAndPlace;
 
-// What a call answers. Number 0 is acceptance: a factor call has the rounds of all block lifts and the inertia, an inertia
-// call the inertia, an assembly or an update neither. Any other is the refusal's, with its place a, b. What a call does not
-// have is 0.
+// What a call answers. Number 0 is acceptance: a factor call has the rounds of all block lifts and the inertia, an
+// inertia call the inertia, an assembly or an update neither. Any other is the refusal's, with its place a, b. What a
+// call does not have is 0.
 #[repr(C)]
 pub struct Outcome {
     pub number: usize,
@@ -170,8 +169,8 @@ fn mode_of(lifts: bool, floor: f64) -> Mode
 
 // ---- the calls
 
-// One node factored. Lift with this floor where `lifts`, else Fail. Everything is refused or accepted by the definition:
-// the answer, and what each of the nine buffers holds afterwards.
+// One node factored. Lift with this floor where `lifts`, else Fail. The definition decides all of it: the answer, and
+// what each of the nine buffers holds afterwards.
 // in: settings; input, nrow * ncol. out: panel, nrow * ncol; d, sub, blocks, lifted, amounts, ncol each; order, nrow;
 // marks, nrow - ncol. work: 3 * nrow * (nb + 1) + nb * nb, any on entry, +0.0 after acceptance.
 #[no_mangle]

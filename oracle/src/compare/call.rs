@@ -4,8 +4,7 @@
 use oracle::case::*;
 use oracle::rules;
 
-/// What a call answers, as `crates/capi` returns it; number 0 is acceptance.
-#[repr(C)]
+/// What a call answers, as numbers; number 0 is acceptance.
 #[derive(Clone, Copy, Debug, Default, PartialEq)]
 pub struct Outcome {
     pub number: usize,

@@ -47,9 +47,9 @@ impl Counts {
         }
     }
 
-    /// The last line, and the end of the program.
-    pub fn end(self) -> ! {
-        println!("{} compared, {} differ", self.compared, self.differ);
+    /// The last line, with a word for each count, and the end of the program.
+    pub fn end(self, compared: &str, differ: &str) -> ! {
+        println!("{} {compared}, {} {differ}", self.compared, self.differ);
         std::process::exit(i32::from(self.differ > 0))
     }
 }

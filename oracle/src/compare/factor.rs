@@ -81,7 +81,7 @@ fn main() {
     each_once(&mut run);
     seeded(&mut run, seed, words.count(1, 1_000_000), words.count(2, 300));
     run.met.print();
-    run.counts.end()
+    run.counts.end("compared", "differ")
 }
 
 impl Run {

@@ -5,22 +5,11 @@
 mod counts;
 
 use counts::{Counts, Words};
+use misuktaan::leaves;
 use oracle::random::Rng;
 use rslab::reach;
 use std::hint::black_box;
 use std::time::Instant;
-
-// SAFETY: each is declared as `crates/capi/src/lib.rt` exports it, takes any
-// numbers and touches nothing.
-unsafe extern "C" {
-    safe fn misuktaan_is_finite(x: f64) -> bool;
-    safe fn misuktaan_magnitude(x: f64) -> f64;
-    safe fn misuktaan_square(x: f64) -> f64;
-    safe fn misuktaan_maximum(a: f64, b: f64) -> f64;
-    safe fn misuktaan_reciprocal(x: f64) -> f64;
-    safe fn misuktaan_lift(floor: f64, d: f64) -> f64;
-    safe fn misuktaan_sqrt(x: f64) -> f64;
-}
 
 /// A leaf of one number: its name, the port's answer, the reference's.
 type One = (&'static str, fn(f64) -> f64, fn(f64) -> f64);
@@ -37,17 +26,17 @@ fn as_number(b: bool) -> f64 {
 }
 
 const ONES: [One; 5] = [
-    ("is_finite", |x| as_number(misuktaan_is_finite(x)), |x| as_number(x.is_finite())),
-    ("magnitude", |x| misuktaan_magnitude(x), |x| reference("magnitude", x, 0.0)),
-    ("square", |x| misuktaan_square(x), |x| reference("square", x, 0.0)),
-    ("reciprocal", |x| misuktaan_reciprocal(x), |x| reference("reciprocal", x, 0.0)),
-    ("sqrt", |x| misuktaan_sqrt(x), |x| reference("sqrt", x, 0.0)),
+    ("is_finite", |x| as_number(leaves::is_finite(x)), |x| as_number(x.is_finite())),
+    ("magnitude", leaves::magnitude, |x| reference("magnitude", x, 0.0)),
+    ("square", leaves::square, |x| reference("square", x, 0.0)),
+    ("reciprocal", leaves::reciprocal, |x| reference("reciprocal", x, 0.0)),
+    ("sqrt", leaves::sqrt, |x| reference("sqrt", x, 0.0)),
 ];
 
 // a lift's second number is its floor
 const TWOS: [Two; 2] = [
-    ("maximum", |a, b| misuktaan_maximum(a, b), |a, b| reference("maximum", a, b)),
-    ("lift", |d, floor| misuktaan_lift(floor, d), |d, floor| reference("lift", d, floor)),
+    ("maximum", leaves::maximum, |a, b| reference("maximum", a, b)),
+    ("lift", |d, floor| leaves::lift(floor, d), |d, floor| reference("lift", d, floor)),
 ];
 
 const FRACTION: u64 = (1 << 52) - 1;
@@ -184,6 +173,6 @@ fn main() {
     let (words, seed) = Words::read();
     let mut counts = Counts::default();
     compare(&mut counts, seed, words.count(1, 10_000_000));
-    println!("a square root takes {:.1} ns, f64::sqrt {:.1} ns", time(|x| misuktaan_sqrt(x)), time(f64::sqrt));
-    counts.end()
+    println!("a square root takes {:.1} ns, f64::sqrt {:.1} ns", time(leaves::sqrt), time(f64::sqrt));
+    counts.end("compared", "differ")
 }

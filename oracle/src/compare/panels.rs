@@ -2,7 +2,7 @@
 //! differs from that. The inertia call too, which leaves nothing.
 
 use crate::call::{flip, refused, Outcome};
-use crate::panel_library as library;
+use crate::library::outcome;
 use oracle::case::*;
 use oracle::random;
 use oracle::rules;
@@ -28,12 +28,36 @@ fn lent(case: &Case) -> &[f64] {
 pub fn left(case: &Case) -> Left {
     let mut panel = lent(case).to_vec();
     let outcome = match case {
-        Case::Assembly(a) => library::assemble(a, &mut panel),
-        Case::Update(u) => library::update(u, &mut panel),
-        Case::Inertia(i) => library::inertia(i),
+        Case::Assembly(a) => assemble(a, &mut panel),
+        Case::Update(u) => update(u, &mut panel),
+        Case::Inertia(i) => inertia(i),
         _ => unreachable!("no call on a panel"),
     };
     Left { outcome, panel }
+}
+
+fn assemble(a: &Assembly, panel: &mut [f64]) -> Outcome {
+    let entries = misuktaan::Entries { rows: &a.rows, cols: &a.cols, numbers: &a.numbers };
+    outcome(misuktaan::assemble(a.ncol, a.nrow, &entries, panel).map(|()| Outcome::default()))
+}
+
+fn update(u: &Update, panel: &mut [f64]) -> Outcome {
+    let Update { ncol, nrow, place, descendant: k, .. } = u;
+    let target = misuktaan::Target { ncol: *ncol, nrow: *nrow, first: place.first, rows: &place.rows };
+    let descendant = misuktaan::Descendant {
+        nk: k.ncol,
+        mk: k.below,
+        panel: &k.panel,
+        d: &k.d,
+        sub: &k.sub,
+        blocks: &k.blocks,
+        rows: &k.rows,
+    };
+    outcome(misuktaan::update(&target, panel, &descendant).map(|()| Outcome::default()))
+}
+
+pub fn inertia(i: &Inertia) -> Outcome {
+    outcome(misuktaan::inertia(&i.d, &i.sub, &i.blocks).map(|n| counted([n.positive, n.negative, n.zero])))
 }
 
 /// What a call must answer and leave, by the reference and document 01's rules.

@@ -5,7 +5,6 @@ mod call;
 mod counts;
 mod edges;
 mod library;
-mod panel_library;
 mod panels;
 mod targets;
 
@@ -98,7 +97,7 @@ fn main() {
     singles(&mut run, &mut rng, words.count(1, 600_000));
     nodes(&mut run, &mut rng, words.count(2, 150_000), words.count(3, 40));
     run.met.print();
-    run.counts.end()
+    run.counts.end("compared", "differ")
 }
 
 impl Run {
@@ -130,7 +129,7 @@ impl Run {
     /// The inertia of factored pivots beside the reference's counts.
     fn pivots(&mut self, b: &call::Buffers, o: &call::Outcome) {
         let pivots = Inertia { d: b.d.clone(), sub: b.sub.clone(), blocks: b.blocks.clone() };
-        let (got, must) = (panel_library::inertia(&pivots), panels::counted([o.positive, o.negative, o.zero]));
+        let (got, must) = (panels::inertia(&pivots), panels::counted([o.positive, o.negative, o.zero]));
         let line = || format!("{}\n    {got:?}, must be {must:?}", lines::case_text(&Case::Inertia(pivots)));
         self.counts.add(got == must, line);
         self.met.inertias += 1;

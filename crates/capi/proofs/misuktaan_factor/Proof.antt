@@ -6,7 +6,8 @@ use Rattle.capi.proofs.misuktaan_factor.Tie as tie
 
 returns : tie.Need-returns
 returns c =
-    let called = c .before .before .before .before .before .before .before .before .before .before .before .before .before .before .before .before .before .before .before in
+    let ended = c .before .before .before .before .before .before .before .before .before in
+    let called = ended .before .before .before .before .before .before .before .before .before .before in
     let moded = called .before .before .before .before .before .before .before .before .before .before in
     factor-left (c .factor-outcome .ensures) (rw (moded .mode-of .ensures) at (called .factor .ensures))
 
