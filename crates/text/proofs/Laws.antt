@@ -59,6 +59,13 @@ writes-then {xs = xs} {p = p} {q = q} {at = at} v w =
       room = omega (arith, w .room, ap length (v .text), l);
     }
 
+-- all that was written from the beginning on
+pub written : {xs ys p : List ℕ} {r : ℕ} → Writes xs 0 p ys r → take r ys ≡ p
+unfolding placed
+written {xs = xs} {p = p} w =
+    let e : 0 + length p ≡ length p = omega arith in
+    rw (w .text, w .past) (take-at p (drop (0 + length p) xs) (0 + length p) (omega arith))
+
 -- a word's first i bytes: none, one more, all
 pub word-none : (xs : List ℕ) (at : ℕ) (word : List ℕ) → at + length word ≤ length xs → Writes xs at (take 0 word) xs at
 word-none xs at word h = writes-none xs at (omega arith)

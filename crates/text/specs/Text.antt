@@ -4,8 +4,15 @@ use mathlib.Core.Path.{_≡_}
 use mathlib.Core.Bool.{cond}
 use mathlib.Core.List.{List, [], _∷_, _++_}
 use Prim.Native.Nat.{ℕ, zero, suc, _+_, _/_, _%_, _≤_}
+use Prim.Native.Char.{code}
+use Prim.Native.String as string
 use lib.Dec.{ltb}
 use lib.ListN.{length, take, drop}
+
+-- a quoted text by the codes of its characters
+abbrev pub word : string.String → List ℕ
+word string.[] = []
+word (string._∷_ c s) = code c ∷ word s
 
 -- the character of a digit below 16: 0 to 9, then A to F
 abbrev pub digitOf : ℕ → ℕ

@@ -3,10 +3,9 @@
 
 mod call;
 mod counts;
-mod library;
 mod nodes;
 
-use call::{difference, left, must, Call, Left};
+use call::{difference, left, must, number, Left};
 use counts::{Counts, Words};
 use oracle::case::*;
 use oracle::lines;
@@ -27,12 +26,12 @@ struct Met {
 
 impl Met {
     fn note(&mut self, f: &Factor, l: &Left) {
-        let (o, b, s) = (&l.outcome, &l.buffers, &f.settings);
-        self.answers[o.number] += 1;
-        if o.number == 0 {
+        let (b, s) = (&l.buffers, &f.settings);
+        self.answers[number(&l.outcome)] += 1;
+        if let Ok(report) = l.outcome {
             self.blocks += u64::from(b.blocks.contains(&1));
-            self.lifts += u64::from(b.lifts.contains(&1));
-            self.rounds += u64::from(o.rounds > 1);
+            self.lifts += u64::from(b.lifted.contains(&1));
+            self.rounds += u64::from(report.rounds > 1);
             self.marks += u64::from(b.marks.contains(&1));
             self.panels += u64::from(s.nb < s.ncol);
         }
@@ -45,9 +44,9 @@ impl Met {
     }
 }
 
+#[derive(Default)]
 struct Run {
     counts: Counts,
-    call: Call,
     met: Met,
 }
 
@@ -77,7 +76,7 @@ fn main() {
     let (words, seed) = Words::read();
     call::notices();
     notices_rows();
-    let mut run = Run { counts: Counts::default(), call: library::factor, met: Met::default() };
+    let mut run = Run::default();
     each_once(&mut run);
     seeded(&mut run, seed, words.count(1, 1_000_000), words.count(2, 300));
     run.met.print();
@@ -88,19 +87,19 @@ impl Run {
     /// One call, compared. Says whether it passes the entry checks.
     fn one(&mut self, f: &Factor) -> bool {
         let must = must(f);
-        let differs = difference(f, &left(self.call, f), &must);
+        let differs = difference(f, &left(f), &must);
         let line = || format!("{}\n    {}", lines::case_text(&Case::Factor(f.clone())), differs.clone().unwrap());
         self.counts.add(differs.is_none(), line);
         self.met.note(f, &must);
-        !matches!(must.outcome.number, 1..=6)
+        !matches!(number(&must.outcome), 1..=6)
     }
 
     /// Demand 3. Two calls that pass the entry checks and whose heads are equal have the same answer and the same
     /// head; equal tail rows, in one call or in both, get equal factor rows and marks.
     fn pair(&mut self, f: &Factor, g: &Factor) {
-        let (x, y) = (left(self.call, f), left(self.call, g));
+        let (x, y) = (left(f), left(g));
         let mut same = x.outcome == y.outcome;
-        if same && x.outcome.number == 0 {
+        if same && x.outcome.is_ok() {
             same = head(f, &x) == head(g, &y) && tails_agree(&[tails(f, &x), tails(g, &y)].concat());
         }
         let text = |f: &Factor| lines::case_text(&Case::Factor(f.clone()));
@@ -120,7 +119,7 @@ fn head(f: &Factor, l: &Left) -> Vec<Vec<u64>> {
     let (ncol, b) = (f.settings.ncol, &l.buffers);
     let bytes = |xs: &[u8]| xs.iter().map(|&x| x.into()).collect();
     let order = b.order[..ncol].iter().map(|&i| i as u64).collect();
-    let mut all = vec![bits(&b.d), bits(&b.sub), bytes(&b.blocks), bytes(&b.lifts), bits(&b.amounts), order];
+    let mut all = vec![bits(&b.d), bits(&b.sub), bytes(&b.blocks), bytes(&b.lifted), bits(&b.amounts), order];
     all.extend((0..ncol).map(|i| bits(&nodes::row(f, &b.panel, i)[..=i])));
     all
 }

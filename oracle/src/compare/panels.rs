@@ -1,11 +1,13 @@
 //! A call that adds to a node's panel, an assembly or an update: what it must answer and leave, and where an answer
 //! differs from that. The inertia call too, which leaves nothing.
 
-use crate::call::{flip, refused, Outcome};
-use crate::library::outcome;
+use crate::call::{counted, counts_beside, flip, refusals_beside, refused};
 use oracle::case::*;
 use oracle::random;
 use oracle::rules;
+
+/// What a call answers: the counts of an inertia call; the others count nothing.
+type Outcome = Result<misuktaan::Inertia, misuktaan::Refusal>;
 
 /// What a call answered, and the panel as it left it.
 #[derive(Clone, Debug)]
@@ -30,7 +32,7 @@ pub fn left(case: &Case) -> Left {
     let outcome = match case {
         Case::Assembly(a) => assemble(a, &mut panel),
         Case::Update(u) => update(u, &mut panel),
-        Case::Inertia(i) => inertia(i),
+        Case::Inertia(i) => misuktaan::inertia(&i.d, &i.sub, &i.blocks),
         _ => unreachable!("no call on a panel"),
     };
     Left { outcome, panel }
@@ -38,7 +40,7 @@ pub fn left(case: &Case) -> Left {
 
 fn assemble(a: &Assembly, panel: &mut [f64]) -> Outcome {
     let entries = misuktaan::Entries { rows: &a.rows, cols: &a.cols, numbers: &a.numbers };
-    outcome(misuktaan::assemble(a.ncol, a.nrow, &entries, panel).map(|()| Outcome::default()))
+    misuktaan::assemble(a.ncol, a.nrow, &entries, panel).map(|()| counted([0; 3]))
 }
 
 fn update(u: &Update, panel: &mut [f64]) -> Outcome {
@@ -53,27 +55,18 @@ fn update(u: &Update, panel: &mut [f64]) -> Outcome {
         blocks: &k.blocks,
         rows: &k.rows,
     };
-    outcome(misuktaan::update(&target, panel, &descendant).map(|()| Outcome::default()))
-}
-
-pub fn inertia(i: &Inertia) -> Outcome {
-    outcome(misuktaan::inertia(&i.d, &i.sub, &i.blocks).map(|n| counted([n.positive, n.negative, n.zero])))
+    misuktaan::update(&target, panel, &descendant).map(|()| counted([0; 3]))
 }
 
 /// What a call must answer and leave, by the reference and document 01's rules.
 pub fn must(case: &Case) -> Left {
     let kept = lent(case).to_vec();
     match rules::answer(case) {
-        Answer::Refused(refusal) => Left { outcome: refused(refusal), panel: kept },
-        Answer::Panel(panel) => Left { outcome: Outcome::default(), panel },
-        Answer::Counts(counts) => Left { outcome: counted(counts), panel: kept },
+        Answer::Refused(refusal) => Left { outcome: Err(refused(refusal)), panel: kept },
+        Answer::Panel(panel) => Left { outcome: Ok(counted([0; 3])), panel },
+        Answer::Counts(counts) => Left { outcome: Ok(counted(counts)), panel: kept },
         other => panic!("no answer of a call on a panel: {other:?}"),
     }
-}
-
-/// Counts as they are answered.
-pub fn counted([positive, negative, zero]: [usize; 3]) -> Outcome {
-    Outcome { positive, negative, zero, ..Outcome::default() }
 }
 
 /// Which cells of the panel an accepted call writes: the entries' places; of an update the rows from each landing row
@@ -102,7 +95,7 @@ pub fn difference(case: &Case, got: &Left, must: &Left) -> Option<String> {
     if got.outcome != must.outcome {
         return Some(format!("{:?}, must be {:?}", got.outcome, must.outcome));
     }
-    let (kept, accepted) = (lent(case), must.outcome.number == 0);
+    let (kept, accepted) = (lent(case), must.outcome.is_ok());
     let written = if accepted { written(case) } else { vec![false; kept.len()] };
     for (at, (x, y)) in got.panel.iter().zip(&must.panel).enumerate() {
         assert!(written[at] || y.to_bits() == kept[at].to_bits(), "the reference writes elsewhere");
@@ -161,24 +154,17 @@ pub fn notices() {
 fn notices_in(case: &Case) {
     let right = must(case);
     assert_eq!(difference(case, &right, &right), None);
-    let answer: [fn(&mut Outcome); 7] = [
-        |o| o.number += 1,
-        |o| o.a += 1,
-        |o| o.b += 1,
-        |o| o.rounds += 1,
-        |o| o.positive += 1,
-        |o| o.negative += 1,
-        |o| o.zero += 1,
-    ];
     let noticed = |got: Left| assert!(difference(case, &got, &right).is_some(), "a wrong answer passes: {got:?}");
-    for spoil in answer {
-        let mut got = right.clone();
-        spoil(&mut got.outcome);
-        noticed(got);
-    }
+    let beside: Vec<Outcome> = match right.outcome {
+        Err(refusal) => refusals_beside(refusal).map(Err).into_iter().chain([Ok(counted([0; 3]))]).collect(),
+        Ok(counts) => counts_beside(counts).map(Ok).into_iter().chain([Err(ABSENT)]).collect(),
+    };
+    beside.into_iter().for_each(|outcome| noticed(Left { outcome, ..right.clone() }));
     for at in 0..right.panel.len() {
         let mut got = right.clone();
         flip(&mut got.panel[at]);
         noticed(got);
     }
 }
+
+const ABSENT: misuktaan::Refusal = misuktaan::Refusal { number: 17, a: 0, b: 0 };

@@ -4,7 +4,6 @@
 mod call;
 mod counts;
 mod edges;
-mod library;
 mod panels;
 mod targets;
 
@@ -34,13 +33,13 @@ struct Met {
 
 impl Met {
     fn note(&mut self, case: &Case, left: &panels::Left) {
-        self.answers[left.outcome.number] += 1;
+        self.answers[call::number(&left.outcome)] += 1;
         match case {
             Case::Assembly(_) => self.assemblies += 1,
             Case::Inertia(_) => self.inertias += 1,
             Case::Update(u) => {
                 let lands = u.descendant.rows.iter().any(|g| u.place.rows.iter().take(u.ncol).any(|r| r == g));
-                let accepted = left.outcome.number == 0;
+                let accepted = left.outcome.is_ok();
                 self.updates += 1;
                 self.landed += u64::from(accepted && lands && u.descendant.ncol > 0);
                 self.blocks += u64::from(accepted && lands && u.descendant.blocks.contains(&1));
@@ -116,22 +115,25 @@ impl Run {
 
     /// A factor call, compared; what it emits, compared and kept.
     fn factor(&mut self, rng: &mut Rng, f: &Factor, must: call::Left) {
-        let got = call::left(library::factor, f);
+        let got = call::left(f);
         let differs = call::difference(f, &got, &must);
         let line = || format!("{}\n    {}", lines::case_text(&Case::Factor(f.clone())), differs.clone().unwrap());
         self.counts.add(differs.is_none(), line);
-        if got.outcome.number == 0 && must.outcome.number == 0 {
-            self.pivots(&got.buffers, &must.outcome);
+        if let (Ok(_), Ok(report)) = (got.outcome, must.outcome) {
+            self.pivots(&got, report.inertia);
             self.emitted(rng, f, &got);
         }
     }
 
     /// The inertia of factored pivots beside the reference's counts.
-    fn pivots(&mut self, b: &call::Buffers, o: &call::Outcome) {
-        let pivots = Inertia { d: b.d.clone(), sub: b.sub.clone(), blocks: b.blocks.clone() };
-        let (got, must) = (panels::inertia(&pivots), panels::counted([o.positive, o.negative, o.zero]));
-        let line = || format!("{}\n    {got:?}, must be {must:?}", lines::case_text(&Case::Inertia(pivots)));
-        self.counts.add(got == must, line);
+    fn pivots(&mut self, left: &call::Left, must: misuktaan::Inertia) {
+        let b = &left.buffers;
+        let got = misuktaan::inertia(&b.d, &b.sub, &b.blocks);
+        let line = || {
+            let pivots = Inertia { d: b.d.clone(), sub: b.sub.clone(), blocks: b.blocks.clone() };
+            format!("{}\n    {got:?}, must be {must:?}", lines::case_text(&Case::Inertia(pivots)))
+        };
+        self.counts.add(got == Ok(must), line);
         self.met.inertias += 1;
         self.met.answers[0] += 1;
     }
@@ -140,7 +142,8 @@ impl Run {
     fn emitted(&mut self, rng: &mut Rng, f: &Factor, left: &call::Left) {
         let emitted = targets::emitted(f, left);
         let case = Case::Update(targets::update(rng, &emitted));
-        let (got, must) = (self.one(&case).outcome.number, if left.buffers.marks.contains(&1) { 18 } else { 0 });
+        let got = call::number(&self.one(&case).outcome);
+        let must = if left.buffers.marks.contains(&1) { 18 } else { 0 };
         self.counts.add(got == must, || format!("{}\n    {got}, must be {must}", lines::case_text(&case)));
         self.met.factored += 1;
         self.pool.add(rng, emitted);
@@ -152,7 +155,7 @@ impl Run {
         let answer = rules::answer(&Case::Whole(w.clone()));
         let mut left = self.one(&Case::Assembly(w.assembly.clone()));
         for k in &w.descendants {
-            if left.outcome.number == 0 {
+            if left.outcome.is_ok() {
                 left = self.one(&Case::Update(Update {
                     ncol: w.settings.ncol,
                     nrow: w.settings.nrow,
@@ -162,12 +165,12 @@ impl Run {
                 }));
             }
         }
-        if left.outcome.number == 0 {
+        if left.outcome.is_ok() {
             let f = Factor { settings: w.settings, panel: left.panel, lengths: None };
             self.met.accepted += u64::from(matches!(answer, Answer::Accepted { .. }));
             self.factor(rng, &f, call::answered(&f, answer));
         } else {
-            let same = matches!(answer, Answer::Refused(r) if call::refused(r) == left.outcome);
+            let same = matches!(answer, Answer::Refused(r) if Err(call::refused(r)) == left.outcome);
             self.counts.add(same, || format!("{}: {:?}", lines::case_text(&Case::Whole(w.clone())), left.outcome));
         }
         self.met.nodes += 1;

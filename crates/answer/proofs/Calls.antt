@@ -1,0 +1,91 @@
+-- Laws of the calls: what a factor call answers and leaves is printed by its lines. Assumes nothing.
+use mathlib.Core.Path.{_≡_, refl}
+use mathlib.Core.List.{List, []}
+use Prim.Native.Nat.{ℕ, _+_, _*_, _≤_}
+use native.Mathlib.Omega.{arith}
+use lib.ListN.{length}
+use lib.Ieee.{Float}
+use Rattle.model.specs.Answer.{Said, refused, accepted, turnedAway, factoredSays}
+use Rattle.model.specs.Factor.{Buffers, Outcome, factorOf}
+use Rattle.model.specs.declared.Settings.{Settings}
+use Rattle.model.specs.declared.Report.{Report}
+use Rattle.model.specs.declared.Refusal.{Refusal}
+use Rattle.model.specs.declared.Factored.{Factored}
+use Rattle.model.specs.declared.Factored.the-variants.{Accepted, Refused}
+use Rattle.finish.specs.Buffers.{buffersOf}
+use Rattle.factor.specs.Judge.{outcomeOf}
+use Rattle.refusal.proofs.Laws.{turned-away}
+use Rattle.little_endian.specs.LittleEndian.{numbersOf}
+use Rattle.record.specs.Record.{panelLength, panelOf, askedOf}
+use Rattle.record.specs.declared.Asked as Asked
+use Rattle.record.specs.declared.Asked.the-variants.{Factor}
+use Rattle.record.proofs.Laws.{asked-sizes, asked-length}
+use Rattle.text.specs.Text.{Writes}
+use Rattle.text.proofs.Laws.{writes-then}
+use Rattle.answer.specs.Lines.{each, refusedLine, acceptedLine, orderLine, pivotAt, inertiaLine, rowLine, acceptedLines, saidLines, outcomeLines, cleared, printed}
+use Rattle.answer.specs.Lengths.{SizesPre, LinesPre}
+
+-- ---- the lines of an accepted call
+
+pub factor-is : {o p₁ p₂ p₃ p₄ p₅ : List ℕ} {r₁ r₂ r₃ r₄ r₅ : ℕ} (c : Settings) (r : Report) (x : Buffers) → length (x .d) ≡ c .ncol
+    → Writes o 0 (acceptedLine (r .rounds)) p₁ r₁ → Writes p₁ r₁ (orderLine (x .order)) p₂ r₂
+    → Writes p₂ r₂ (each (pivotAt (x .d) (x .sub) (x .blocks) (x .lifts) (x .amounts)) (length (x .d))) p₃ r₃
+    → Writes p₃ r₃ (inertiaLine (r .inertia)) p₄ r₄ → Writes p₄ r₄ (each (rowLine (c .nrow) (c .ncol) (x .panel) (x .marks)) (c .nrow)) p₅ r₅
+    → Writes o 0 (acceptedLines c r x) p₅ r₅
+unfolding acceptedLines
+factor-is c r x e l₁ l₂ l₃ l₄ l₅ = writes-then (writes-then (writes-then (writes-then l₁ l₂) (rw e at l₃)) l₄) l₅
+
+-- ---- what a call says
+
+module _ {xs ys : List ℕ} {r : ℕ} (c : Settings) (x : Buffers) {answer : Factored} where
+  pub said-accepted : (report : Report) → answer ≡ Accepted report → Writes xs 0 (acceptedLines c report x) ys r
+      → Writes xs 0 (saidLines (factoredSays answer) c x) ys r
+  said-accepted report e w = rw e w
+
+  pub said-refused : (why : Refusal) (n a b : ℕ) → answer ≡ Refused why → _≡_ {A = Said (Unit {0})} (refused n a b) (turnedAway why)
+      → Writes xs 0 (refusedLine n a b) ys r → Writes xs 0 (saidLines (factoredSays answer) c x) ys r
+  said-refused why n a b e t w =
+      let says : _≡_ {A = Said Report} (refused n a b) (turnedAway why) = turned-away why t in
+      rw (e, ← says) w
+
+-- nothing of the working buffer is printed
+said-work : (s : Said Report) (c : Settings) (panel d sub amounts work : List Float) (blocks lifts order marks : List ℕ)
+    → saidLines s c (buffersOf panel d sub blocks lifts amounts order marks []) ≡ saidLines s c (buffersOf panel d sub blocks lifts amounts order marks work)
+unfolding acceptedLines
+said-work (refused n a b) c panel d sub amounts work blocks lifts order marks = refl
+said-work (accepted r) c panel d sub amounts work blocks lifts order marks = refl
+
+-- ---- the factor call
+
+pub lines-kept : {c : Settings} {panel d sub blocks lifts amounts order marks out panel′ d′ sub′ blocks′ lifts′ amounts′ order′ marks′ : ℕ}
+    → LinesPre c panel d sub blocks lifts amounts order marks out → panel′ ≡ panel → d′ ≡ d → sub′ ≡ sub → blocks′ ≡ blocks → lifts′ ≡ lifts
+    → amounts′ ≡ amounts → order′ ≡ order → marks′ ≡ marks → LinesPre c panel′ d′ sub′ blocks′ lifts′ amounts′ order′ marks′ out
+lines-kept h p d s b l a o m = rw (p, d, s, b, l, a, o, m) h
+
+pub run-is : {xs ys : List ℕ} {r : ℕ} (c : Settings) (answer : Factored) (panel d sub amounts work : List Float)
+    (blocks lifts order marks : List ℕ) (o : Outcome) → outcomeOf answer (buffersOf panel d sub blocks lifts amounts order marks work) ≡ o
+    → Writes xs 0 (saidLines (factoredSays answer) c (buffersOf panel d sub blocks lifts amounts order marks [])) ys r → Writes xs 0 (outcomeLines c o) ys r
+unfolding outcomeLines
+run-is c answer panel d sub amounts work blocks lifts order marks o e w =
+    rw (← e, ← said-work (factoredSays answer) c panel d sub amounts work blocks lifts order marks) w
+
+-- ---- the stream
+
+module _ (s : List ℕ) (c : Settings) (e : askedOf s ≡ Factor c) where
+  -- the panel stands in the stream
+  pub panel-there : {n : ℕ} → n ≡ panelLength c → 30 + 8 * n ≤ length s
+  panel-there q = omega (arith, asked-length s c e)
+
+  pub sizes-pre : {out : ℕ} → 32768 ≤ out → SizesPre c out
+  sizes-pre h = let w = asked-sizes s c e in record { columns = w .columns; rows = w .rows; width = w .width; room = h }
+
+  pub factor-printed : {xs ys : List ℕ} {r n : ℕ} (input : List Float) → n ≡ panelLength c → input ≡ numbersOf s 30 n
+      → Writes xs 0 (outcomeLines c (factorOf c input (cleared c))) ys r → Writes xs 0 (printed s) ys r
+  unfolding printed panelOf
+  factor-printed input q i w = rw (e, ← q, ← i) w
+
+-- refused, with no place named
+pub refused-printed : {xs ys : List ℕ} {r : ℕ} (s : List ℕ) (n : ℕ) → askedOf s ≡ Asked.the-variants.Refused n
+    → Writes xs 0 (refusedLine n 0 0) ys r → Writes xs 0 (printed s) ys r
+unfolding printed
+refused-printed s n e w = rw e w

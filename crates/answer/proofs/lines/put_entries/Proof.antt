@@ -1,0 +1,58 @@
+-- `answer::lines::put_entries` meets its contract.
+-- The invariant: the first j numbers stand from `at` on, in 17 bytes each; the measure is what is left. Assumes nothing.
+use mathlib.Core.Path.{_≡_}
+use Prim.Native.Nat.{_+_, _*_, _-_, _≤_}
+use lib.ListN.{length}
+use borrow.Author.Needs.{needs}
+use Rattle.grid.proofs.Laws.{offsets}
+use Rattle.text.specs.Text.{Writes}
+use Rattle.answer.specs.Lines.{each, entryField}
+use Rattle.answer.proofs.Laws.{each-none, entries-step, each-end}
+use Rattle.answer.proofs.lines.put_entries.Statement.{statement}
+use Rattle.answer.proofs.lines.put_entries.Tie as tie
+
+abbrev Inv-loop : tie.InvT-loop
+Inv-loop panel nrow ncol i out₀ at end₀ j₀ out end j =
+    (j ≤ ncol) × (length out ≡ length out₀) × (end ≡ at + 17 * j) × Writes out₀ at (each (entryField nrow panel i) j) out end
+
+abbrev μ-loop : tie.MeasureT-loop
+μ-loop panel nrow ncol i out₀ at end₀ j₀ out end j = ncol - j
+
+loop-holds : tie.Need-loop-holds Inv-loop μ-loop
+loop-holds c = search (needs, each-none)
+
+mul-put-number : tie.Need-mul-put-number Inv-loop μ-loop
+mul-put-number c = search (needs, offsets)
+
+add-put-number : tie.Need-add-put-number Inv-loop μ-loop
+add-put-number c = search (needs, offsets)
+
+mul-put-number-2 : tie.Need-mul-put-number-2 Inv-loop μ-loop
+mul-put-number-2 c = search (needs, offsets)
+
+shared-slice-read-put-number : tie.Need-shared-slice-read-put-number Inv-loop μ-loop
+shared-slice-read-put-number c = search (needs, offsets)
+
+loop-again : tie.Need-loop-again Inv-loop μ-loop
+loop-again c = search (needs, entries-step)
+
+returns : tie.Need-returns Inv-loop μ-loop
+returns c = (search (needs, each-end), search needs)
+
+pub put-entries-spec : {M : Type 1} → statement M
+put-entries-spec =
+    tie.close
+    (tie.spec
+    Inv-loop
+    μ-loop
+    loop-holds
+    mul-put-number
+    add-put-number
+    mul-put-number-2
+    shared-slice-read-put-number
+    (λ c κs. search needs)
+    (λ c. search needs)
+    (λ c. search needs)
+    loop-again
+    (λ c. search needs)
+    returns)

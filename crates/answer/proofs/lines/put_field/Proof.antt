@@ -1,0 +1,18 @@
+-- `answer::lines::put_field` meets its contract: a space, then the digits. Assumes nothing.
+use native.Mathlib.Omega.{arith}
+use borrow.Author.Needs.{needs}
+use Rattle.answer.proofs.Laws.{field-is}
+use Rattle.answer.proofs.lines.put_field.Statement.{statement}
+use Rattle.answer.proofs.lines.put_field.Tie as tie
+
+returns : tie.Need-returns
+returns c = (search (needs, field-is), omega arith)
+
+pub put-field-spec : {M : Type 1} → statement M
+put-field-spec =
+    tie.close
+    (tie.spec
+    (λ c κs. search needs)
+    (λ c κs. search needs)
+    (λ c. search needs)
+    returns)

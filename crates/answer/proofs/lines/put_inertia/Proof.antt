@@ -1,0 +1,20 @@
+-- `answer::lines::put_inertia` meets its contract: its parts one after another. Assumes nothing.
+use native.Mathlib.Omega.{arith}
+use borrow.Author.Needs.{needs}
+use Rattle.answer.proofs.Laws.{inertia-is}
+use Rattle.answer.proofs.lines.put_inertia.Statement.{statement}
+use Rattle.answer.proofs.lines.put_inertia.Tie as tie
+
+returns : tie.Need-returns
+returns c = (search (needs, inertia-is), omega arith)
+
+pub put-inertia-spec : {M : Type 1} → statement M
+put-inertia-spec =
+    tie.close
+    (tie.spec
+    (λ c. search needs)
+    (λ c κs. search needs)
+    (λ c κs. search needs)
+    (λ c κs. search needs)
+    (λ c. search needs)
+    returns)

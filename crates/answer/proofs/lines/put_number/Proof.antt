@@ -1,0 +1,19 @@
+-- `answer::lines::put_number` meets its contract: a space, then the digits of the number's bits. Assumes nothing.
+use native.Mathlib.Omega.{arith}
+use borrow.Author.Needs.{needs}
+use Rattle.answer.proofs.Laws.{number-is}
+use Rattle.answer.proofs.lines.put_number.Statement.{statement}
+use Rattle.answer.proofs.lines.put_number.Tie as tie
+
+returns : tie.Need-returns
+returns c = (search (needs, number-is), omega arith)
+
+pub put-number-spec : {M : Type 1} → statement M
+put-number-spec =
+    tie.close
+    (tie.spec
+    (λ c κs. search needs)
+    (λ c κs. search needs)
+    (λ c κs. search needs)
+    (λ c. search needs)
+    returns)

@@ -1,0 +1,19 @@
+-- `answer::lines::put_refused` meets its contract: its parts one after another. Assumes nothing.
+use borrow.Author.Needs.{needs}
+use Rattle.answer.proofs.Laws.{refused-is}
+use Rattle.answer.proofs.lines.put_refused.Statement.{statement}
+use Rattle.answer.proofs.lines.put_refused.Tie as tie
+
+returns : tie.Need-returns
+returns c = search (needs, refused-is)
+
+pub put-refused-spec : {M : Type 1} → statement M
+put-refused-spec =
+    tie.close
+    (tie.spec
+    (λ c. search needs)
+    (λ c κs. search needs)
+    (λ c κs. search needs)
+    (λ c κs. search needs)
+    (λ c. search needs)
+    returns)

@@ -1,0 +1,19 @@
+-- `answer::lines::put_three` meets its contract: three fields. Assumes nothing.
+use native.Mathlib.Omega.{arith}
+use borrow.Author.Needs.{needs}
+use Rattle.answer.proofs.Laws.{three-is}
+use Rattle.answer.proofs.lines.put_three.Statement.{statement}
+use Rattle.answer.proofs.lines.put_three.Tie as tie
+
+returns : tie.Need-returns
+returns c = (search (needs, three-is), omega arith)
+
+pub put-three-spec : {M : Type 1} → statement M
+put-three-spec =
+    tie.close
+    (tie.spec
+    (λ c κs. search needs)
+    (λ c κs. search needs)
+    (λ c κs. search needs)
+    (λ c. search needs)
+    returns)

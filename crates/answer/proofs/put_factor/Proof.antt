@@ -1,0 +1,33 @@
+-- `answer::put_factor` meets its contract: its lines one after another, each found where its call returned. Assumes nothing.
+use mathlib.Core.List.{[]}
+use borrow.Author.Needs.{needs}
+use Rattle.finish.specs.Buffers.{buffersOf}
+use Rattle.answer.proofs.Calls.{factor-is}
+use Rattle.answer.proofs.put_factor.Statement.{statement}
+use Rattle.answer.proofs.put_factor.Tie as tie
+
+returns : tie.Need-returns
+returns c =
+    let rows = c .before .before in
+    let counts = rows .before .before .before .before in
+    let pivots = counts .before .before .before .before in
+    let ordered = pivots .before .before .before .before in
+    let accepted = ordered .before .before .before .before in
+    let start = accepted .before .before .before .before .before .before .before .before .before .before .before in
+    let a = start .args in
+    let left =
+    buffersOf (a .panel .now) (a .d .now) (a .sub .now) (a .blocks .now) (a .lifts .now) (a .amounts .now) (a .order .now) (a .marks .now) [] in
+    factor-is (a .c) (a .report) left (start .pre .diagonal) (accepted .put-accepted .ensures .0) (ordered .put-order .ensures .0)
+    (pivots .put-pivots .ensures .0) (counts .put-inertia .ensures .0) (rows .put-rows .ensures .0)
+
+pub put-factor-spec : {M : Type 1} → statement M
+put-factor-spec =
+    tie.close
+    (tie.spec
+    (λ c κs. search needs)
+    (λ c κs. search needs)
+    (λ c κs. search needs)
+    (λ c κs. search needs)
+    (λ c κs. search needs)
+    (λ c. search needs)
+    returns)

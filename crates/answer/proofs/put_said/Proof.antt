@@ -1,0 +1,25 @@
+-- `answer::put_said` meets its contract: the lines of an accepted call, or the line of its refusal. Assumes nothing.
+use borrow.Author.Needs.{needs}
+use Rattle.answer.proofs.Calls.{said-accepted, said-refused}
+use Rattle.answer.proofs.put_said.Statement.{statement}
+use Rattle.answer.proofs.put_said.Tie as tie
+
+returns : tie.Need-returns
+returns c = search (needs, said-accepted)
+
+returns-2 : tie.Need-returns-2
+returns-2 c = search (needs, said-refused)
+
+pub put-said-spec : {M : Type 1} → statement M
+put-said-spec =
+    tie.close
+    (tie.spec
+    (λ c. search needs)
+    (λ c κs. search needs)
+    (λ c. search needs)
+    (λ c κs. search needs)
+    (λ c κs. search needs)
+    (λ c. search needs)
+    returns
+    (λ c. search needs)
+    returns-2)
