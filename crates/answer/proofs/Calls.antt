@@ -1,9 +1,10 @@
 -- Laws of the calls: what a factor call answers and leaves is printed by its lines. Assumes nothing.
-use mathlib.Core.Path.{_≡_, refl}
+use mathlib.Core.Path.{_≡_, refl, sym, _∙_}
 use mathlib.Core.List.{List, []}
 use Prim.Native.Nat.{ℕ, _+_, _*_, _≤_}
 use native.Mathlib.Omega.{arith}
-use lib.ListN.{length}
+use lib.ListN.{length, take}
+use lib.Seq.{take-all}
 use lib.Ieee.{Float}
 use Rattle.model.specs.Answer.{Said, refused, accepted, turnedAway, factoredSays}
 use Rattle.model.specs.Factor.{Buffers, Outcome, factorOf}
@@ -16,10 +17,10 @@ use Rattle.finish.specs.Buffers.{buffersOf}
 use Rattle.factor.specs.Judge.{outcomeOf}
 use Rattle.refusal.proofs.Laws.{turned-away}
 use Rattle.little_endian.specs.LittleEndian.{numbersOf}
-use Rattle.record.specs.Record.{panelLength, panelOf, askedOf}
+use Rattle.record.specs.Record.{panelLength, panelOf, askedOf, longest}
 use Rattle.record.specs.declared.Asked as Asked
 use Rattle.record.specs.declared.Asked.the-variants.{Factor}
-use Rattle.record.proofs.Laws.{asked-sizes, asked-length}
+use Rattle.record.proofs.Laws.{asked-sizes, asked-length, asked-prefix}
 use Rattle.text.specs.Text.{Writes}
 use Rattle.text.proofs.Laws.{writes-then}
 use Rattle.answer.specs.Lines.{each, refusedLine, acceptedLine, orderLine, pivotAt, inertiaLine, rowLine, acceptedLines, saidLines, outcomeLines, cleared, printed}
@@ -57,6 +58,7 @@ said-work (accepted r) c panel d sub amounts work blocks lifts order marks = ref
 
 -- ---- the factor call
 
+-- a call that keeps the lengths
 pub lines-kept : {c : Settings} {panel d sub blocks lifts amounts order marks out panel′ d′ sub′ blocks′ lifts′ amounts′ order′ marks′ : ℕ}
     → LinesPre c panel d sub blocks lifts amounts order marks out → panel′ ≡ panel → d′ ≡ d → sub′ ≡ sub → blocks′ ≡ blocks → lifts′ ≡ lifts
     → amounts′ ≡ amounts → order′ ≡ order → marks′ ≡ marks → LinesPre c panel′ d′ sub′ blocks′ lifts′ amounts′ order′ marks′ out
@@ -76,6 +78,7 @@ module _ (s : List ℕ) (c : Settings) (e : askedOf s ≡ Factor c) where
   pub panel-there : {n : ℕ} → n ≡ panelLength c → 30 + 8 * n ≤ length s
   panel-there q = omega (arith, asked-length s c e)
 
+  -- its sizes are the program's
   pub sizes-pre : {out : ℕ} → 32768 ≤ out → SizesPre c out
   sizes-pre h = let w = asked-sizes s c e in record { columns = w .columns; rows = w .rows; width = w .width; room = h }
 
@@ -89,3 +92,18 @@ pub refused-printed : {xs ys : List ℕ} {r : ℕ} (s : List ℕ) (n : ℕ) → 
     → Writes xs 0 (refusedLine n 0 0) ys r → Writes xs 0 (printed s) ys r
 unfolding printed
 refused-printed s n e w = rw e w
+
+-- two streams refused alike print alike
+refused-alike : (s t : List ℕ) (n : ℕ) → askedOf s ≡ Asked.the-variants.Refused n → askedOf t ≡ Asked.the-variants.Refused n → printed s ≡ printed t
+unfolding printed
+refused-alike s t n e f = rw (e, f)
+
+-- what a stream prints is settled by its first bytes, one more than the longest that asks for a factor has
+pub printed-prefix : (s : List ℕ) → printed s ≡ printed (take (longest + 1) s)
+printed-prefix s = by (askedOf s) refl
+  where
+    by : (a : Asked.Asked) → askedOf s ≡ a → printed s ≡ printed (take (longest + 1) s)
+    by (Asked.the-variants.Factor c) e =
+        let few = asked-sizes s c e .numbers in
+        rw (take-all (longest + 1) s (omega (arith, asked-length s c e)))
+    by (Asked.the-variants.Refused n) e = refused-alike s (take (longest + 1) s) n e (sym (asked-prefix s) ∙ e)
