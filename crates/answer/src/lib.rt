@@ -47,8 +47,11 @@ fn put_factor(
     marks: &[u8],
     out: &mut [u8],
 ) -> usize
-    requires { ⌜ LinesPre c (length (now panel)) (length (now d)) (length (now sub)) (length (now blocks)) (length (now lifts)) (length (now amounts)) (length (now order)) (length (now marks)) (length (now out)) ⌝ }
-    ensures { λ r. ⌜ Writes (now (out .entry)) 0 (acceptedLines c report (buffersOf (now (panel .entry)) (now (d .entry)) (now (sub .entry)) (now (blocks .entry)) (now (lifts .entry)) (now (amounts .entry)) (now (order .entry)) (now (marks .entry)) [])) (now (out .exit)) r ⌝ }
+    requires { ⌜ LinesPre c (length (now panel)) (length (now d)) (length (now sub)) (length (now blocks))
+        (length (now lifts)) (length (now amounts)) (length (now order)) (length (now marks)) (length (now out)) ⌝ }
+    ensures { λ r. ⌜ Writes (now (out .entry)) 0 (acceptedLines c report (buffersOf (now (panel .entry))
+        (now (d .entry)) (now (sub .entry)) (now (blocks .entry)) (now (lifts .entry)) (now (amounts .entry))
+        (now (order .entry)) (now (marks .entry)) [])) (now (out .exit)) r ⌝ }
 {
     let accepted = lines::put_accepted(report.rounds, out, 0);
     let ordered = lines::put_order(order, out, accepted);
@@ -71,8 +74,11 @@ fn put_said(
     marks: &[u8],
     out: &mut [u8],
 ) -> usize
-    requires { ⌜ LinesPre c (length (now panel)) (length (now d)) (length (now sub)) (length (now blocks)) (length (now lifts)) (length (now amounts)) (length (now order)) (length (now marks)) (length (now out)) ⌝ }
-    ensures { λ r. ⌜ Writes (now (out .entry)) 0 (saidLines (factoredSays answer) c (buffersOf (now (panel .entry)) (now (d .entry)) (now (sub .entry)) (now (blocks .entry)) (now (lifts .entry)) (now (amounts .entry)) (now (order .entry)) (now (marks .entry)) [])) (now (out .exit)) r ⌝ }
+    requires { ⌜ LinesPre c (length (now panel)) (length (now d)) (length (now sub)) (length (now blocks))
+        (length (now lifts)) (length (now amounts)) (length (now order)) (length (now marks)) (length (now out)) ⌝ }
+    ensures { λ r. ⌜ Writes (now (out .entry)) 0 (saidLines (factoredSays answer) c (buffersOf (now (panel .entry))
+        (now (d .entry)) (now (sub .entry)) (now (blocks .entry)) (now (lifts .entry)) (now (amounts .entry))
+        (now (order .entry)) (now (marks .entry)) [])) (now (out .exit)) r ⌝ }
 {
     match answer {
         Factored::Accepted(report) => put_factor(
@@ -110,8 +116,12 @@ fn run(
     work: &mut [f64],
     out: &mut [u8],
 ) -> usize
-    requires { ⌜ LinesPre c (length (now panel)) (length (now d)) (length (now sub)) (length (now blocks)) (length (now lifts)) (length (now amounts)) (length (now order)) (length (now marks)) (length (now out)) ⌝ }
-    ensures { λ r. ⌜ Writes (now (out .entry)) 0 (outcomeLines c (factorOf c (now (input .entry)) (buffersOf (now (panel .entry)) (now (d .entry)) (now (sub .entry)) (now (blocks .entry)) (now (lifts .entry)) (now (amounts .entry)) (now (order .entry)) (now (marks .entry)) (now (work .entry))))) (now (out .exit)) r ⌝ }
+    requires { ⌜ LinesPre c (length (now panel)) (length (now d)) (length (now sub)) (length (now blocks))
+        (length (now lifts)) (length (now amounts)) (length (now order)) (length (now marks)) (length (now out)) ⌝ }
+    ensures { λ r. ⌜ Writes (now (out .entry)) 0 (outcomeLines c (factorOf c (now (input .entry)) (buffersOf
+        (now (panel .entry)) (now (d .entry)) (now (sub .entry)) (now (blocks .entry)) (now (lifts .entry))
+        (now (amounts .entry)) (now (order .entry)) (now (marks .entry)) (now (work .entry))))) (now (out .exit))
+        r ⌝ }
 {
     let answer = factor::factor(
         c,
@@ -170,7 +180,8 @@ fn work_size(nrow: usize, nb: usize) -> usize
 // The factor call with buffers of the stated lengths.
 fn with_buffers(c: Settings, input: &[f64], out: &mut [u8]) -> usize
     requires { ⌜ SizesPre c (length (now out)) ⌝ }
-    ensures { λ r. ⌜ Writes (now (out .entry)) 0 (outcomeLines c (factorOf c (now (input .entry)) (cleared c))) (now (out .exit)) r ⌝ }
+    ensures { λ r. ⌜ Writes (now (out .entry)) 0 (outcomeLines c (factorOf c (now (input .entry)) (cleared c)))
+        (now (out .exit)) r ⌝ }
 {
     let mut panel = [0.0; NUMBERS];
     let mut d = [0.0; COLUMNS];

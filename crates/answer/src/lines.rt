@@ -93,7 +93,8 @@ pub fn put_inertia(t: Tally, out: &mut [u8], at: usize) -> usize
 // The order's places.
 fn put_places(order: &[usize], out: &mut [u8], at: usize) -> usize
     requires { ⌜ at + 21 * length (now order) ≤ length (now out) ⌝ }
-    ensures { λ r. ⌜ Writes (now (out .entry)) at (each (orderField (now (order .entry))) (length (now (order .entry)))) (now (out .exit)) r ⌝ }
+    ensures { λ r. ⌜ Writes (now (out .entry)) at (each (orderField (now (order .entry)))
+        (length (now (order .entry)))) (now (out .exit)) r ⌝ }
     ensures { λ r. ⌜ r ≤ at + 21 * length (now (order .entry)) ⌝ }
 {
     let mut end = at;
@@ -150,9 +151,12 @@ pub fn put_pivots(
     out: &mut [u8],
     at: usize,
 ) -> usize
-    requires { ⌜ PivotsPre (length (now d)) (length (now sub)) (length (now blocks)) (length (now lifts)) (length (now amounts)) ⌝ }
+    requires { ⌜ PivotsPre (length (now d)) (length (now sub)) (length (now blocks)) (length (now lifts))
+        (length (now amounts)) ⌝ }
     requires { ⌜ at + 120 * length (now d) ≤ length (now out) ⌝ }
-    ensures { λ r. ⌜ Writes (now (out .entry)) at (each (pivotAt (now (d .entry)) (now (sub .entry)) (now (blocks .entry)) (now (lifts .entry)) (now (amounts .entry))) (length (now (d .entry)))) (now (out .exit)) r ⌝ }
+    ensures { λ r. ⌜ Writes (now (out .entry)) at (each (pivotAt (now (d .entry)) (now (sub .entry))
+        (now (blocks .entry)) (now (lifts .entry)) (now (amounts .entry))) (length (now (d .entry))))
+        (now (out .exit)) r ⌝ }
     ensures { λ r. ⌜ r ≤ at + 120 * length (now (d .entry)) ⌝ }
 {
     let mut end = at;
@@ -175,7 +179,8 @@ fn put_entries(
 ) -> usize
     requires { ⌜ EntriesPre nrow ncol i (length (now panel)) ⌝ }
     requires { ⌜ at + 17 * ncol ≤ length (now out) ⌝ }
-    ensures { λ r. ⌜ Writes (now (out .entry)) at (each (entryField nrow (now (panel .entry)) i) ncol) (now (out .exit)) r ⌝ }
+    ensures { λ r. ⌜ Writes (now (out .entry)) at (each (entryField nrow (now (panel .entry)) i) ncol)
+        (now (out .exit)) r ⌝ }
     ensures { λ r. ⌜ r ≡ at + 17 * ncol ⌝ }
 {
     let mut end = at;
@@ -211,7 +216,8 @@ fn put_row(
     requires { ⌜ RowsPre nrow ncol (length (now panel)) (length (now marks)) ⌝ }
     requires { ⌜ i < nrow ⌝ }
     requires { ⌜ at + 318 ≤ length (now out) ⌝ }
-    ensures { λ r. ⌜ Writes (now (out .entry)) at (rowLine nrow ncol (now (panel .entry)) (now (marks .entry)) i) (now (out .exit)) r ⌝ }
+    ensures { λ r. ⌜ Writes (now (out .entry)) at (rowLine nrow ncol (now (panel .entry)) (now (marks .entry)) i)
+        (now (out .exit)) r ⌝ }
     ensures { λ r. ⌜ r ≤ at + 318 ⌝ }
 {
     let word = text::put_word(b"row", out, at);
@@ -232,7 +238,8 @@ pub fn put_rows(
 ) -> usize
     requires { ⌜ RowsPre nrow ncol (length (now panel)) (length (now marks)) ⌝ }
     requires { ⌜ at + 318 * nrow ≤ length (now out) ⌝ }
-    ensures { λ r. ⌜ Writes (now (out .entry)) at (each (rowLine nrow ncol (now (panel .entry)) (now (marks .entry))) nrow) (now (out .exit)) r ⌝ }
+    ensures { λ r. ⌜ Writes (now (out .entry)) at (each (rowLine nrow ncol (now (panel .entry)) (now (marks .entry)))
+        nrow) (now (out .exit)) r ⌝ }
     ensures { λ r. ⌜ r ≤ at + 318 * nrow ⌝ }
 {
     let mut end = at;
