@@ -4,12 +4,11 @@
 //! the repetitions are divided. One line a shape is printed, for `report`.
 
 mod apart;
+#[allow(dead_code)]
 #[path = "../../oracle/src/compare/call.rs"]
 mod call;
-#[path = "../../oracle/src/compare/library.rs"]
-mod library;
 
-use call::Buffers;
+use misuktaan::Factors;
 use oracle::case::{Factor, Mode, Settings};
 use oracle::random::Rng;
 use rslab::reach::timed::Prepared;
@@ -119,10 +118,10 @@ fn clocked<R>(f: impl FnOnce() -> R) -> f64 {
     begin.elapsed().as_nanos() as f64 / 1000.0
 }
 
-/// Stops unless both sides leave the same bits in everything that the reference has, and the library leaves in all of
-/// its buffers what the definition says.
+/// Stops unless the library answers and leaves in all of its buffers what the oracle says, and the timed run of the
+/// reference leaves the same bits.
 fn compare(f: &Factor, prepared: &Prepared) {
-    let got = call::left(library::factor, f);
+    let got = call::left(f);
     if let Some(how) = call::difference(f, &got, &call::must(f)) {
         panic!("the library differs: {how}");
     }
@@ -136,27 +135,32 @@ fn compare(f: &Factor, prepared: &Prepared) {
             && bits(&timed.sub) == bits(&got.buffers.sub)
             && timed.order == got.buffers.order
             && timed.blocks.iter().map(|&b| u8::from(b)).eq(got.buffers.blocks.iter().copied())
-            && timed.inertia == [got.outcome.positive, got.outcome.negative, got.outcome.zero],
+            && got.outcome.is_ok_and(|report| report.inertia == call::counted(timed.inertia)),
         "the timed run of the reference differs"
     );
 }
 
-/// The best times of a node: the reference, the library, dsytf2; and its blocks.
+/// The best times of a node: the reference, the library, dsytf2; and its blocks. Both sides find their panel freshly
+/// written.
 fn best(f: &Factor, runs: usize) -> ([f64; 3], usize) {
-    let s = &f.settings;
-    let prepared = Prepared::new(s.ncol, s.nrow, s.nb, &f.panel);
+    let Settings { ncol, nrow, nb, limit, .. } = f.settings;
+    let prepared = Prepared::new(ncol, nrow, nb, &f.panel);
     compare(f, &prepared);
-    let mut lent = Buffers::lent(f);
+    let settings = misuktaan::Settings { ncol, nrow, nb, mode: misuktaan::Mode::Fail, limit };
+    let mut input = f.panel.clone();
+    let mut factors = Factors::zeros(ncol, nrow, nb);
     let mut square = Square::new(f);
     let mut best = [f64::INFINITY; 3];
     for _ in 0..runs {
         prepared.ready();
-        let times = [clocked(|| prepared.run()), clocked(|| library::factor(f, &mut lent)), square.run()];
-        for (least, time) in best.iter_mut().zip(times) {
+        let reference = clocked(|| prepared.run());
+        input.copy_from_slice(&f.panel);
+        let library = clocked(|| misuktaan::factor(&settings, &input, factors.lend()));
+        for (least, time) in best.iter_mut().zip([reference, library, square.run()]) {
             *least = if time < *least { time } else { *least };
         }
     }
-    (best, lent.blocks.iter().filter(|&&b| b == 1).count())
+    (best, factors.blocks.iter().filter(|&&b| b == 1).count())
 }
 
 fn main() {

@@ -13,10 +13,11 @@ const NEIGHBOURS: Bounds = Bounds { max_col: 4, max_row: 8 };
 const MIDDLE: Bounds = Bounds { max_col: 16, max_row: 40 };
 const LARGE: Bounds = Bounds { max_col: 64, max_row: 96 };
 
-/// What the program has room for: the numbers of a panel or a working buffer; columns, pivots or entries; rows.
+/// What the program has room for: the numbers of a panel or a working buffer; pivots or entries; rows; global rows.
 const ROOM: usize = 30_000;
 const ROOM_COLUMNS: usize = 130;
 const ROOM_ROWS: usize = 1_026;
+const ROOM_GLOBAL_ROWS: usize = 1_024;
 
 const CALLS: [&str; 4] = ["factor", "inertia", "assembly", "update"];
 
@@ -147,7 +148,8 @@ fn identity(ncol: usize, nrow: usize, nb: usize, mode: Mode, limit: usize) -> Fa
     Factor { settings: Settings { ncol, nrow, nb, mode, limit }, panel, lengths: None }
 }
 
-/// Settings at their bounds and beyond; each buffer one cell too long and one too short.
+/// Settings at their bounds and beyond; a diagonal at alpha·colmax and a step below, where rows are exchanged; each
+/// buffer one cell too long and one too short.
 fn factor_bounds() -> impl Iterator<Item = Case> {
     let mut all = Vec::new();
     for (ncol, nrow) in [(0, 0), (0, 1024), (0, 1025), (1, 0), (1, 1024), (1, 1025)] {
@@ -158,6 +160,10 @@ fn factor_bounds() -> impl Iterator<Item = Case> {
     }
     for (nb, limit) in [(0, 1), (64, 1), (2, 0), (2, 64)] {
         all.push(identity(2, 3, nb, Mode::Lift(0.5), limit));
+    }
+    let alpha = rslab::reach::leaf("alpha", 0.0, 0.0).unwrap();
+    for diagonal in [alpha, f64::from_bits(alpha.to_bits() - 1)] {
+        all.push(Factor { panel: vec![diagonal, 1.0, 0.0, 3.0], ..identity(2, 2, 2, Mode::Fail, 1) });
     }
     let sound = identity(2, 5, 2, Mode::Fail, 1);
     for off in [-1, 1] {
@@ -205,7 +211,7 @@ fn assembly_bounds() -> impl Iterator<Item = Case> {
     all.into_iter().map(Case::Assembly)
 }
 
-/// Sizes at their bounds and beyond; each list one longer and one shorter.
+/// Sizes at their bounds and beyond; equal rows; each list one longer and one shorter.
 fn update_bounds() -> impl Iterator<Item = Case> {
     let one = |first: u32, below: usize| {
         let rows: Vec<u32> = (0..below as u32).map(|i| first + i).collect();
@@ -215,9 +221,14 @@ fn update_bounds() -> impl Iterator<Item = Case> {
         Update { ncol: 1, nrow: below.min(1024), place, panel: vec![8.0; below.min(1024)], descendant }
     };
     let mut all = vec![one(3, 1023), one(3, 1024), one(u32::MAX - 2, 3)];
-    let mut wrapped = one(u32::MAX - 1, 2);
-    wrapped.place.rows = vec![u32::MAX - 1, 0];
-    all.push(wrapped);
+    let with = |change: fn(&mut Update)| {
+        let mut u = one(4, 3);
+        change(&mut u);
+        u
+    };
+    all.push(with(|u| u.place = Place { first: u32::MAX - 1, rows: vec![u32::MAX - 1, u32::MAX, 0] }));
+    all.push(with(|u| u.place.rows = vec![4, 5, 5]));
+    all.push(with(|u| u.descendant.rows = vec![4, 5, 5]));
     for off in [-1, 1] {
         let longer = |n: usize| n.saturating_add_signed(off);
         for which in 0..7 {
@@ -338,7 +349,7 @@ fn assembly(to: &mut Bytes, a: &Assembly, of: &Answer) {
 fn update(to: &mut Bytes, u: &Update, of: &Answer) {
     let (k, rows) = (&u.descendant, &u.place.rows);
     let columns = [k.d.len(), k.sub.len(), k.blocks.len()];
-    assert!(rows.len().max(k.rows.len()) <= ROOM_ROWS && u.panel.len().max(k.panel.len()) <= ROOM);
+    assert!(rows.len().max(k.rows.len()) <= ROOM_GLOBAL_ROWS && u.panel.len().max(k.panel.len()) <= ROOM);
     assert!(columns.into_iter().all(|n| n <= ROOM_COLUMNS));
     to.counts(&[u.ncol, u.nrow, k.ncol, k.below]);
     to.u32s(&[u.place.first]);

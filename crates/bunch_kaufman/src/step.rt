@@ -5,7 +5,7 @@ ghost use mathlib.Core.Path.{_≡_};
 ghost use Prim.Native.Nat.{_+_};
 ghost use lib.ListN.{length};
 ghost use Rattle.model.specs.Matrix.{view};
-ghost use Rattle.model.specs.Head.{headOne, headTwo, keptOne, keptTwo, tryOf};
+ghost use Rattle.model.specs.Head.{tryOf};
 ghost use Rattle.eliminate.specs.Eliminate.{inPanel};
 ghost use Rattle.bunch_kaufman.specs.Slices.{blockIn};
 ghost use Rattle.bunch_kaufman.specs.Answers.{tried, singleOf, pairOf, zeroOf, ByColumn};
@@ -20,64 +20,6 @@ use rule::Choice;
 use rule::OneSettled;
 use rule::PivotRule;
 use rule::TwoSettled;
-
-// The most rows that a panel eliminates in: those above ke, which is at most ncol.
-const ROWS: usize = 128;
-
-// The elimination of a 1x1 pivot d at k, with a scratch column of its own.
-fn eliminate_single(
-    panel: &mut [f64],
-    mult: &mut [f64],
-    nrow: usize,
-    ncol: usize,
-    nb: usize,
-    kb: usize,
-    ke: usize,
-    k: usize,
-    d: f64,
-)
-    requires { ⌜ StepPre nrow ncol nb kb ke k k (length (now panel)) (length (now mult)) ⌝ }
-    ensures { λ _. ⌜ view nrow (now (panel .exit)) ≡ headOne ke k d (view nrow (now (panel .entry))) ⌝ }
-    ensures { λ _. ⌜ inPanel kb ke (view nb (now (mult .exit)))
-        ≡ keptOne ke k d (view nrow (now (panel .entry))) (inPanel kb ke (view nb (now (mult .entry)))) ⌝ }
-{
-    let mut column = [0.0; ROWS];
-    eliminate::head_one(panel, mult, &mut column, nrow, ncol, nb, kb, ke, k, d);
-}
-
-// The elimination of a block at k and k + 1, with two scratch columns of its own.
-fn eliminate_pair(
-    panel: &mut [f64],
-    mult: &mut [f64],
-    nrow: usize,
-    ncol: usize,
-    nb: usize,
-    kb: usize,
-    ke: usize,
-    k: usize,
-    b: Block,
-)
-    requires { ⌜ StepPre nrow ncol nb kb ke k (k + 1) (length (now panel)) (length (now mult)) ⌝ }
-    ensures { λ _. ⌜ view nrow (now (panel .exit)) ≡ headTwo ke k b (view nrow (now (panel .entry))) ⌝ }
-    ensures { λ _. ⌜ inPanel kb ke (view nb (now (mult .exit)))
-        ≡ keptTwo ke k b (view nrow (now (panel .entry))) (inPanel kb ke (view nb (now (mult .entry)))) ⌝ }
-{
-    let mut first = [0.0; ROWS];
-    let mut second = [0.0; ROWS];
-    eliminate::head_two(
-        panel,
-        mult,
-        &mut first,
-        &mut second,
-        nrow,
-        ncol,
-        nb,
-        kb,
-        ke,
-        k,
-        b,
-    );
-}
 
 // The block at k and k + 1.
 fn block_at(panel: &[f64], nrow: usize, ncol: usize, k: usize) -> Block
@@ -113,7 +55,7 @@ fn single(
         return Taken::Refused(Refusal::ZeroPivot(Elim(k)));
     };
     exchange::exchange_if(panel, nrow, ncol, k, kp, ke);
-    eliminate_single(panel, mult, nrow, ncol, nb, kb, ke, k, d);
+    eliminate::head_one(panel, mult, nrow, ncol, nb, kb, ke, k, d);
     Taken::Took(Pivot {
         kp,
         two: false,
@@ -156,7 +98,7 @@ fn pair(
             amount,
             rounds,
         } => {
-            eliminate_pair(panel, mult, nrow, ncol, nb, kb, ke, k, block);
+            eliminate::head_two(panel, mult, nrow, ncol, nb, kb, ke, k, block);
             Taken::Took(Pivot {
                 kp,
                 two: true,

@@ -11,11 +11,11 @@ use lib.ListN.{length}
 use lib.Ieee.{Float}
 use Rattle.model.specs.Scalar.{_⊖_, _⊗_}
 use Rattle.model.specs.Matrix.{Row, Mat, view, vec, within, withColumn, withPart}
-use Rattle.grid.specs.Rules.{times, combined}
-use Rattle.grid.proofs.Laws.{test, no, vec-part}
-use Rattle.grid.proofs.Parts.{column-lent}
+use Rattle.grid.specs.Rules.{columnOf, times, combined, ThreePre}
+use Rattle.grid.proofs.Laws.{test, no}
+use Rattle.grid.proofs.Parts.{mid-count, column-at, column-lent}
 use Rattle.whole.proofs.Masked.{within-in, within-before, within-past, ranged}
-use Rattle.eliminate.specs.Eliminate.{inPanel}
+use Rattle.eliminate.specs.Eliminate.{inPanel, KeepPre, SourcePre}
 
 pub kept-at : (kb ke : ℕ) (B : Mat) (j c : ℕ) → kb ≤ j → j < ke → kb ≤ c → c < ke → B (j - kb) (c - kb) ≡ inPanel kb ke B j c
 unfolding inPanel
@@ -61,34 +61,52 @@ kept-column kb ke B c lo N′ N f l u same =
         (λ q. absurd (true≢false (sym (within-in kb ke a (ltb-false a kb q) h) ∙ e))))
         (λ p. within-past lo ke a (ltb-false a ke p))
 
--- ---- the functions that lend a column of the buffer
+-- a row of the panel by its distance from kb
+shift : (lo kb t : ℕ) → kb ≤ lo → lo + t ≡ lo - kb + t + kb
+shift lo kb t h = omega arith
 
-pub keep-one-lent : (nb : ℕ) (xs ys zs : List Float) (kb ke c lo : ℕ) (r : Float) → nb + (c - kb) * nb ≤ length xs → ke ≤ kb + nb → kb ≤ c → c < ke → kb ≤ lo
-    → lo ≤ ke
+-- ---- the functions that lend a column of the buffer, and read columns of a panel of n rows
+
+pub keep-one-lent : (nb n : ℕ) (xs ys zs : List Float) (kb ke c lo : ℕ) (r : Float) → KeepPre nb kb ke c lo (length xs) → ke ≤ n
     → length ys ≡ length (midOf (lo - kb + (c - kb) * nb) (ke - kb + (c - kb) * nb - (lo - kb + (c - kb) * nb)) xs)
     → vec ys ≡ withPart (vec (midOf (lo - kb + (c - kb) * nb) (ke - kb + (c - kb) * nb - (lo - kb + (c - kb) * nb)) xs)) 0 (ke - kb - (lo - kb))
-    (times (vec (midOf lo (ke - lo) zs)) r)
+    (times (vec (midOf (lo + c * n) (ke + c * n - (lo + c * n)) zs)) r)
     → inPanel kb ke (view nb (putMid (lo - kb + (c - kb) * nb) (ke - kb + (c - kb) * nb - (lo - kb + (c - kb) * nb)) xs ys))
-    ≡ withColumn (inPanel kb ke (view nb xs)) c lo ke (times (vec zs) r)
-unfolding times
-keep-one-lent nb xs ys zs kb ke c lo r room w f l u g ly e =
-    ap (λ (B : Mat). inPanel kb ke B) (column-lent nb xs ys (c - kb) (lo - kb) (ke - kb) _ _ (λ a. vec zs (a + kb) ⊗ r) room (omega arith) (omega arith) ly e
-    (λ t h. ap (λ (x : Float). x ⊗ r) (vec-part lo ke zs t (omega arith) ∙ ap (vec zs) (omega arith))))
-    ∙ kept-column kb ke (view nb xs) c lo _ _ f l u (λ a h m. ap (λ (x : ℕ). vec zs x ⊗ r) (omega arith))
-
-pub keep-two-lent : (nb : ℕ) (xs ys zs ws : List Float) (kb ke c lo : ℕ) (p q r : Float) → nb + (c - kb) * nb ≤ length xs → ke ≤ kb + nb → kb ≤ c → c < ke
-    → kb ≤ lo → lo ≤ ke
-    → length ys ≡ length (midOf (lo - kb + (c - kb) * nb) (ke - kb + (c - kb) * nb - (lo - kb + (c - kb) * nb)) xs)
-    → vec ys ≡ withPart (vec (midOf (lo - kb + (c - kb) * nb) (ke - kb + (c - kb) * nb - (lo - kb + (c - kb) * nb)) xs)) 0 (ke - kb - (lo - kb))
-    (combined (vec (midOf lo (ke - lo) zs)) (vec (midOf lo (ke - lo) ws)) p q r)
-    → inPanel kb ke (view nb (putMid (lo - kb + (c - kb) * nb) (ke - kb + (c - kb) * nb - (lo - kb + (c - kb) * nb)) xs ys))
-    ≡ withColumn (inPanel kb ke (view nb xs)) c lo ke (combined (vec zs) (vec ws) p q r)
-unfolding combined
-keep-two-lent nb xs ys zs ws kb ke c lo p q r room w f l u g ly e =
+    ≡ withColumn (inPanel kb ke (view nb xs)) c lo ke (times (columnOf (view n zs) c) r)
+unfolding times columnOf
+keep-one-lent nb n xs ys zs kb ke c lo r pre h ly e =
+    let above = pre .above in
     ap (λ (B : Mat). inPanel kb ke B)
-    (column-lent nb xs ys (c - kb) (lo - kb) (ke - kb) _ _ (λ a. (p ⊗ vec zs (a + kb) ⊖ q ⊗ vec ws (a + kb)) ⊗ r) room (omega arith) (omega arith) ly e
-    (λ t h. cc (vec-part lo ke zs t (omega arith) ∙ ap (vec zs) (shift t h), vec-part lo ke ws t (omega arith) ∙ ap (vec ws) (shift t h))))
-    ∙ kept-column kb ke (view nb xs) c lo _ _ f l u (λ a h m. ap (λ (x : ℕ). (p ⊗ vec zs x ⊖ q ⊗ vec ws x) ⊗ r) (omega arith))
-  where
-    shift : (t : ℕ) → t < ke - kb - (lo - kb) → lo + t ≡ lo - kb + t + kb
-    shift t h = omega arith
+    (column-lent nb xs ys (c - kb) (lo - kb) (ke - kb) _ _ (λ a. view n zs (a + kb) c ⊗ r) (pre .col) (omega (arith, pre .up)) (omega (arith, pre .width)) ly e
+    (λ t l. rw (column-at n zs c lo ke t h (omega arith), shift lo kb t above)))
+    ∙ kept-column kb ke (view nb xs) c lo _ _ (pre .from) (pre .here) above (λ a g m. ap (λ (x : ℕ). view n zs x c ⊗ r) (omega arith))
+
+-- the parts of the buffer and of the panel are as long as they are to be
+pub keep-parts : (nb n : ℕ) (xs zs : List Float) (kb ke c t lo : ℕ) → KeepPre nb kb ke c lo (length xs) → SourcePre n ke c (length zs)
+    → SourcePre n ke t (length zs)
+    → ThreePre (ke - kb - (lo - kb)) (length (midOf (lo - kb + (c - kb) * nb) (ke - kb + (c - kb) * nb - (lo - kb + (c - kb) * nb)) xs))
+    (length (midOf (lo + c * n) (ke + c * n - (lo + c * n)) zs)) (length (midOf (lo + t * n) (ke + t * n - (lo + t * n)) zs))
+keep-parts nb n xs zs kb ke c t lo pre first second =
+    let above = pre .above in
+    let up = pre .up in
+    record {
+      out = omega (arith, mid-count (lo - kb + (c - kb) * nb) (ke - kb + (c - kb) * nb) xs (omega arith) (omega (arith, pre .col, pre .width)));
+      first = omega (arith, mid-count (lo + c * n) (ke + c * n) zs (omega arith) (omega (arith, first .rows, first .col)));
+      second = omega (arith, mid-count (lo + t * n) (ke + t * n) zs (omega arith) (omega (arith, second .rows, second .col)));
+    }
+
+pub keep-two-lent : (nb n : ℕ) (xs ys zs : List Float) (kb ke c t lo : ℕ) (p q r : Float) → KeepPre nb kb ke c lo (length xs) → ke ≤ n
+    → length ys ≡ length (midOf (lo - kb + (c - kb) * nb) (ke - kb + (c - kb) * nb - (lo - kb + (c - kb) * nb)) xs)
+    → vec ys ≡ withPart (vec (midOf (lo - kb + (c - kb) * nb) (ke - kb + (c - kb) * nb - (lo - kb + (c - kb) * nb)) xs)) 0 (ke - kb - (lo - kb))
+    (combined (vec (midOf (lo + c * n) (ke + c * n - (lo + c * n)) zs)) (vec (midOf (lo + t * n) (ke + t * n - (lo + t * n)) zs)) p q r)
+    → inPanel kb ke (view nb (putMid (lo - kb + (c - kb) * nb) (ke - kb + (c - kb) * nb - (lo - kb + (c - kb) * nb)) xs ys))
+    ≡ withColumn (inPanel kb ke (view nb xs)) c lo ke (combined (columnOf (view n zs) c) (columnOf (view n zs) t) p q r)
+unfolding combined columnOf
+keep-two-lent nb n xs ys zs kb ke c t lo p q r pre h ly e =
+    let above = pre .above in
+    ap (λ (B : Mat). inPanel kb ke B)
+    (column-lent nb xs ys (c - kb) (lo - kb) (ke - kb) _ _ (λ a. (p ⊗ view n zs (a + kb) c ⊖ q ⊗ view n zs (a + kb) t) ⊗ r) (pre .col)
+    (omega (arith, pre .up)) (omega (arith, pre .width)) ly e
+    (λ i l. rw (column-at n zs c lo ke i h (omega arith), column-at n zs t lo ke i h (omega arith), shift lo kb i above)))
+    ∙ kept-column kb ke (view nb xs) c lo _ _ (pre .from) (pre .here) above
+    (λ a g m. ap (λ (x : ℕ). (p ⊗ view n zs x c ⊖ q ⊗ view n zs x t) ⊗ r) (omega arith))

@@ -7,17 +7,17 @@ use borrow.Author.Tests.{lt-ltb, le-ltb, le-leb, lt-leb, eq-eqb, ne-eqb, eqb-tru
 use lib.Dec.{ltb, leb, eqb}
 use lib.Ieee.{Float}
 use Rattle.model.specs.Scalar.{_⊗_, reciprocalOf}
-use Rattle.model.specs.Matrix.{Row, Mat, within, put, putAt, withPart, withColumn, exchangedPlace}
+use Rattle.model.specs.Matrix.{Row, Mat, within, put, putAt, withColumn, exchangedPlace}
 use Rattle.model.specs.Step.{one, two, eliminated, rowAfterStep}
 use Rattle.model.specs.Head.{headOne, headTwo, keptOne, keptTwo}
 use Rattle.model.specs.declared.Block.{Block}
 use Rattle.grid.specs.Rules.{columnOf, times, combined, columnsExchanged}
-use Rattle.grid.proofs.Laws.{test, cmp, no, withColumn-same}
+use Rattle.grid.proofs.Laws.{test, cmp, no}
 use Rattle.whole.specs.Whole.{below}
 use Rattle.whole.proofs.Masked.{within-before, within-past, ranged, one-alike, two-alike, headOne-in, headOne-diagonal, headOne-before, headOne-past}
 use Rattle.whole.proofs.Masked.{firsts, seconds, headTwo-in, headTwo-before, headTwo-past}
 use Rattle.eliminate.specs.Eliminate.{region, sweptOne, sweptTwo, appliedOne, appliedTwo}
-use Rattle.eliminate.proofs.Region.{region-row}
+use Rattle.eliminate.proofs.Region.{region-row, sweep-one-source, sweep-two-source}
 
 -- ---- where a row's elimination ends
 
@@ -38,11 +38,7 @@ panel-column c ke a h b =
     (λ p. test (ltb b ke) (λ q. rw (p, q, le-leb b a (omega (arith, ltb-true b ke q)))) (λ q. rw (p, q)))
     (λ p. rw p)
 
--- ---- copies and exchanges, at a row within and at one without
-
-copied-at : (s s′ : Row) (M : Mat) (j lo hi a : ℕ) → s′ ≡ withPart s lo hi (columnOf M j) → lo ≤ a → a < hi → s′ a ≡ M a j
-unfolding withPart columnOf
-copied-at s s′ M j lo hi a e h g = ap (λ (f : Row). f a) e ∙ rw (le-leb lo a h, lt-ltb a hi g)
+-- ---- exchanges, at a row within and at one without
 
 exchanged-in : (M E : Mat) (p q lo hi a b : ℕ) → E ≡ columnsExchanged M p q lo hi → within lo hi a ≡ true → E a b ≡ M a (exchangedPlace p q b)
 unfolding columnsExchanged
@@ -54,35 +50,34 @@ exchanged-out M E p q lo hi a b e w = ap (λ (X : Mat). X a b) e ∙ rw w
 
 -- ---- a 1x1
 
-pub one-applied : (M P Q : Mat) (s m : Row) (k ke lo hi : ℕ) (d r : Float) → r ≡ reciprocalOf d → P ≡ sweptOne M s m k ke lo hi
-    → Q ≡ withColumn P k lo hi (times s r)
-    → Q ≡ appliedOne M s m k ke lo hi d
+pub one-applied : (M P Q : Mat) (m : Row) (k ke lo hi : ℕ) (d r : Float) → r ≡ reciprocalOf d → P ≡ sweptOne M m k ke lo hi
+    → Q ≡ withColumn P k lo hi (times (columnOf P k) r)
+    → Q ≡ appliedOne M m k ke lo hi d
 unfolding appliedOne
-one-applied M P Q s m k ke lo hi d r er p q = q ∙ rw (p, er)
+one-applied M P Q m k ke lo hi d r er p q = q ∙ rw (sweep-one-source M P m k ke lo hi p, p, er)
 
-one-row : (M : Mat) (s m : Row) (k kp ke lo hi : ℕ) (d : Float) (a b end : ℕ) → lo ≤ a → a < hi → s a ≡ M a k
-    → within (k + 1) ke b && leb b a ≡ within (k + 1) end b → appliedOne M s m k ke lo hi d a b ≡ eliminated (one k kp d m) end (M a) b
-unfolding appliedOne sweptOne withColumn times eliminated
-one-row M s m k kp ke lo hi d a b end h g e w =
-    rw (le-leb lo a h, lt-ltb a hi g, region-row M (k + 1) ke lo hi _ a b end h g w, e) (test (eqb b k) (λ x. rw x) (λ x. rw x))
+one-row : (M : Mat) (m : Row) (k kp ke lo hi : ℕ) (d : Float) (a b end : ℕ) → lo ≤ a → a < hi
+    → within (k + 1) ke b && leb b a ≡ within (k + 1) end b → appliedOne M m k ke lo hi d a b ≡ eliminated (one k kp d m) end (M a) b
+unfolding appliedOne sweptOne withColumn times columnOf eliminated
+one-row M m k kp ke lo hi d a b end h g w =
+    rw (le-leb lo a h, lt-ltb a hi g, region-row M (k + 1) ke lo hi _ a b end h g w) (test (eqb b k) (λ x. rw x) (λ x. rw x))
 
-one-out : (M : Mat) (s m : Row) (k ke lo hi : ℕ) (d : Float) (a b : ℕ) → within lo hi a ≡ false → appliedOne M s m k ke lo hi d a b ≡ M a b
+one-out : (M : Mat) (m : Row) (k ke lo hi : ℕ) (d : Float) (a b : ℕ) → within lo hi a ≡ false → appliedOne M m k ke lo hi d a b ≡ M a b
 unfolding appliedOne sweptOne region withColumn
-one-out M s m k ke lo hi d a b w = rw (w, no (leb b a), no (within (k + 1) ke b), no (eqb b k))
+one-out M m k ke lo hi d a b w = rw (w, no (leb b a), no (within (k + 1) ke b), no (eqb b k))
 
-module _ (M I I′ : Mat) (s s′ : Row) (k ke : ℕ) (d r : Float) (er : r ≡ reciprocalOf d) (es : s′ ≡ withPart s (k + 1) ke (columnOf M k))
-    (ei : I′ ≡ withColumn I k (k + 1) ke (times s′ r)) where
+module _ (M I I′ : Mat) (k ke : ℕ) (d r : Float) (er : r ≡ reciprocalOf d) (ei : I′ ≡ withColumn I k (k + 1) ke (times (columnOf M k) r)) where
   -- the multipliers kept
   pub one-kept : I′ ≡ keptOne ke k d M I
-  unfolding keptOne times
-  one-kept = ei ∙ withColumn-same I k (k + 1) ke _ _ (λ j h g. rw (er, copied-at s s′ M k (k + 1) ke j es h g))
+  unfolding keptOne times columnOf
+  one-kept = ei ∙ rw er
 
   kept-at : (j : ℕ) → k < j → j < ke → columnOf I′ k j ≡ M j k ⊗ reciprocalOf d
   unfolding columnOf keptOne withColumn
   kept-at j h g = ap (λ (X : Mat). X j k) one-kept ∙ rw (eq-eqb k k refl, le-leb (k + 1) j (omega arith), lt-ltb j ke g)
 
   -- the panel's own rows
-  pub one-head : (P Q : Mat) → P ≡ appliedOne M s′ (columnOf I′ k) k ke (k + 1) ke d → Q ≡ putAt P k k d → Q ≡ headOne ke k d M
+  pub one-head : (P Q : Mat) → P ≡ appliedOne M (columnOf I′ k) k ke (k + 1) ke d → Q ≡ putAt P k k d → Q ≡ headOne ke k d M
   unfolding putAt put
   one-head P Q p q =
       fun-ext λ i. fun-ext λ j. ap (λ (X : Mat). X i j) q ∙
@@ -90,8 +85,7 @@ module _ (M I I′ : Mat) (s s′ : Row) (k ke : ℕ) (d r : Float) (er : r ≡ 
       (λ l. test (ltb i ke)
       (λ t. let u : i < ke = ltb-true i ke t in
       off-row i j (λ x. omega arith) ∙ ap (λ (X : Mat). X i j) p
-      ∙ one-row M s′ (columnOf I′ k) k k ke (k + 1) ke d i j (i + 1) (omega arith) u (copied-at s s′ M k (k + 1) ke i es (omega arith) u)
-      (own-column (k + 1) ke i u j)
+      ∙ one-row M (columnOf I′ k) k k ke (k + 1) ke d i j (i + 1) (omega arith) u (own-column (k + 1) ke i u j)
       ∙ one-alike k k k (i + 1) d (columnOf I′ k) (λ b. M b k ⊗ reciprocalOf d) (M i) (M i) j refl refl (λ h g. kept-at j h (omega arith))
       ∙ sym (headOne-in ke k d M i j l u))
       (λ t. let u : ke ≤ i = ltb-false i ke t in
@@ -100,7 +94,7 @@ module _ (M I I′ : Mat) (s s′ : Row) (k ke : ℕ) (d r : Float) (er : r ≡ 
       (λ l. off-row i j (λ x. omega arith) ∙ left i j (within-before (k + 1) ke i (omega arith)) ∙ sym (headOne-before ke k d M i j l))
     where
       left : (i j : ℕ) → within (k + 1) ke i ≡ false → P i j ≡ M i j
-      left i j w = ap (λ (X : Mat). X i j) p ∙ one-out M s′ (columnOf I′ k) k ke (k + 1) ke d i j w
+      left i j w = ap (λ (X : Mat). X i j) p ∙ one-out M (columnOf I′ k) k ke (k + 1) ke d i j w
 
       off-row : (i j : ℕ) → (i ≡ k → ⊥) → putAt P k k d i j ≡ P i j
       off-row i j h = rw (ne-eqb i k h)
@@ -109,54 +103,50 @@ module _ (M I I′ : Mat) (s s′ : Row) (k ke : ℕ) (d r : Float) (er : r ≡ 
       diagonal j = rw (eq-eqb k k refl) (test (eqb j k) (λ x. rw x) (λ x. rw x (left k j (within-before (k + 1) ke k (omega arith)))))
 
 -- the rows below
-pub one-below : (M E Q : Mat) (s s′ m : Row) (k kp ke n : ℕ) (d : Float) → E ≡ columnsExchanged M k kp ke n → s′ ≡ withPart s ke n (columnOf E k)
-    → Q ≡ appliedOne E s′ m k ke ke n d → Q ≡ below ke n (rowAfterStep ke (one k kp d m)) M
+pub one-below : (M E Q : Mat) (m : Row) (k kp ke n : ℕ) (d : Float) → E ≡ columnsExchanged M k kp ke n → Q ≡ appliedOne E m k ke ke n d
+    → Q ≡ below ke n (rowAfterStep ke (one k kp d m)) M
 unfolding below rowAfterStep
-one-below M E Q s s′ m k kp ke n d ee es q =
+one-below M E Q m k kp ke n d ee q =
     fun-ext λ i. ranged ke n i
     (λ h g w. rw w (fun-ext λ j. ap (λ (X : Mat). X i j) q
-    ∙ one-row E s′ m k kp ke ke n d i j ke h g (copied-at s s′ E k ke n i es h g) (panel-column (k + 1) ke i h j)
+    ∙ one-row E m k kp ke ke n d i j ke h g (panel-column (k + 1) ke i h j)
     ∙ one-alike k kp kp ke d m m (E i) (λ b. M i (exchangedPlace k kp b)) j
     (exchanged-in M E k kp ke n i k ee w) (exchanged-in M E k kp ke n i j ee w) (λ x y. refl)))
-    (λ w. rw w (fun-ext λ j. ap (λ (X : Mat). X i j) q ∙ one-out E s′ m k ke ke n d i j w ∙ exchanged-out M E k kp ke n i j ee w))
+    (λ w. rw w (fun-ext λ j. ap (λ (X : Mat). X i j) q ∙ one-out E m k ke ke n d i j w ∙ exchanged-out M E k kp ke n i j ee w))
 
 -- ---- a block
 
-pub two-applied : (M P Q R : Mat) (s t m1 m2 : Row) (k ke lo hi : ℕ) (b : Block) (r : Float) → r ≡ reciprocalOf (b .det) → P ≡ sweptTwo M s t m1 m2 k ke lo hi
-    → Q ≡ withColumn P k lo hi (combined s t (b .d22) (b .d21) r) → R ≡ withColumn Q (k + 1) lo hi (combined t s (b .d11) (b .d21) r)
-    → R ≡ appliedTwo M s t m1 m2 k ke lo hi b
+pub two-applied : (M P Q : Mat) (m1 m2 : Row) (k ke lo hi : ℕ) (b : Block) (r : Float) → r ≡ reciprocalOf (b .det) → P ≡ sweptTwo M m1 m2 k ke lo hi
+    → Q ≡ withColumn (withColumn P k lo hi (combined (columnOf P k) (columnOf P (k + 1)) (b .d22) (b .d21) r)) (k + 1) lo hi
+    (combined (columnOf P (k + 1)) (columnOf P k) (b .d11) (b .d21) r)
+    → Q ≡ appliedTwo M m1 m2 k ke lo hi b
 unfolding appliedTwo
-two-applied M P Q R s t m1 m2 k ke lo hi b r er p q z = z ∙ rw (q, p, er)
+two-applied M P Q m1 m2 k ke lo hi b r er p q =
+    q ∙ rw (sweep-two-source M P m1 m2 k ke lo hi k (omega arith) p, sweep-two-source M P m1 m2 k ke lo hi (k + 1) (omega arith) p, p, er)
 
-two-row : (M : Mat) (s t m1 m2 : Row) (k kp ke lo hi : ℕ) (b : Block) (a c end : ℕ) → lo ≤ a → a < hi → s a ≡ M a k → t a ≡ M a (k + 1)
-    → within (k + 2) ke c && leb c a ≡ within (k + 2) end c → appliedTwo M s t m1 m2 k ke lo hi b a c ≡ eliminated (two k kp b m1 m2) end (M a) c
-unfolding appliedTwo sweptTwo withColumn combined eliminated
-two-row M s t m1 m2 k kp ke lo hi b a c end h g e f w =
-    rw (le-leb lo a h, lt-ltb a hi g, region-row M (k + 2) ke lo hi _ a c end h g w, e, f)
+two-row : (M : Mat) (m1 m2 : Row) (k kp ke lo hi : ℕ) (b : Block) (a c end : ℕ) → lo ≤ a → a < hi
+    → within (k + 2) ke c && leb c a ≡ within (k + 2) end c → appliedTwo M m1 m2 k ke lo hi b a c ≡ eliminated (two k kp b m1 m2) end (M a) c
+unfolding appliedTwo sweptTwo withColumn combined columnOf eliminated
+two-row M m1 m2 k kp ke lo hi b a c end h g w =
+    rw (le-leb lo a h, lt-ltb a hi g, region-row M (k + 2) ke lo hi _ a c end h g w)
     (test (eqb c k)
     (λ x. rw (x, ne-eqb c (k + 1) (λ z. omega (arith, eqb-true c k x))))
     (λ x. test (eqb c (k + 1)) (λ y. rw (x, y)) (λ y. rw (x, y))))
 
-two-out : (M : Mat) (s t m1 m2 : Row) (k ke lo hi : ℕ) (b : Block) (a c : ℕ) → within lo hi a ≡ false → appliedTwo M s t m1 m2 k ke lo hi b a c ≡ M a c
+two-out : (M : Mat) (m1 m2 : Row) (k ke lo hi : ℕ) (b : Block) (a c : ℕ) → within lo hi a ≡ false → appliedTwo M m1 m2 k ke lo hi b a c ≡ M a c
 unfolding appliedTwo sweptTwo region withColumn
-two-out M s t m1 m2 k ke lo hi b a c w = rw (w, no (leb c a), no (within (k + 2) ke c), no (eqb c k), no (eqb c (k + 1)))
+two-out M m1 m2 k ke lo hi b a c w = rw (w, no (leb c a), no (within (k + 2) ke c), no (eqb c k), no (eqb c (k + 1)))
 
-module _ (M : Mat) (s s′ t t′ : Row) (k ke : ℕ) (b : Block) (es : s′ ≡ withPart s (k + 2) ke (columnOf M k))
-    (et : t′ ≡ withPart t (k + 2) ke (columnOf M (k + 1))) where
+module _ (M : Mat) (k ke : ℕ) (b : Block) where
   -- the multipliers kept
-  pub two-kept : (I I′ I″ : Mat) (r : Float) → r ≡ reciprocalOf (b .det) → I′ ≡ withColumn I k (k + 2) ke (combined s′ t′ (b .d22) (b .d21) r)
-      → I″ ≡ withColumn I′ (k + 1) (k + 2) ke (combined t′ s′ (b .d11) (b .d21) r) → I″ ≡ keptTwo ke k b M I
-  unfolding keptTwo combined
-  two-kept I I′ I″ r er e1 e2 =
-      e2
-      ∙ withColumn-same I′ (k + 1) (k + 2) ke _ (seconds k b M)
-      (λ j h g. rw (er, copied-at s s′ M k (k + 2) ke j es h g, copied-at t t′ M (k + 1) (k + 2) ke j et h g))
-      ∙ ap (λ (X : Mat). withColumn X (k + 1) (k + 2) ke (seconds k b M))
-      (e1 ∙ withColumn-same I k (k + 2) ke _ (firsts k b M)
-      (λ j h g. rw (er, copied-at s s′ M k (k + 2) ke j es h g, copied-at t t′ M (k + 1) (k + 2) ke j et h g)))
+  pub two-kept : (I I′ I″ : Mat) (r : Float) → r ≡ reciprocalOf (b .det)
+      → I′ ≡ withColumn I k (k + 2) ke (combined (columnOf M k) (columnOf M (k + 1)) (b .d22) (b .d21) r)
+      → I″ ≡ withColumn I′ (k + 1) (k + 2) ke (combined (columnOf M (k + 1)) (columnOf M k) (b .d11) (b .d21) r) → I″ ≡ keptTwo ke k b M I
+  unfolding keptTwo combined columnOf
+  two-kept I I′ I″ r er e1 e2 = e2 ∙ rw (e1, er)
 
   -- the panel's own rows
-  pub two-head : (I I′ P : Mat) → I′ ≡ keptTwo ke k b M I → P ≡ appliedTwo M s′ t′ (columnOf I′ k) (columnOf I′ (k + 1)) k ke (k + 2) ke b
+  pub two-head : (I I′ P : Mat) → I′ ≡ keptTwo ke k b M I → P ≡ appliedTwo M (columnOf I′ k) (columnOf I′ (k + 1)) k ke (k + 2) ke b
       → P ≡ headTwo ke k b M
   unfolding columnOf keptTwo withColumn
   two-head I I′ P ei p =
@@ -165,15 +155,14 @@ module _ (M : Mat) (s s′ t t′ : Row) (k ke : ℕ) (b : Block) (es : s′ ≡
       (λ v. let l : k + 1 < i = ltb-true (k + 1) i v in
       test (ltb i ke)
       (λ w. let u : i < ke = ltb-true i ke w in
-      two-row M s′ t′ _ _ k k ke (k + 2) ke b i j (i + 1) (omega arith) u (copied-at s s′ M k (k + 2) ke i es (omega arith) u)
-      (copied-at t t′ M (k + 1) (k + 2) ke i et (omega arith) u) (own-column (k + 2) ke i u j)
+      two-row M _ _ k k ke (k + 2) ke b i j (i + 1) (omega arith) u (own-column (k + 2) ke i u j)
       ∙ two-alike k k k (i + 1) b _ _ (firsts k b M) (seconds k b M) (M i) (M i) j refl refl refl (λ h g. first-at j h (omega arith))
       (λ h g. second-at j h (omega arith))
       ∙ sym (headTwo-in ke k b M i j l u))
       (λ w. let u : ke ≤ i = ltb-false i ke w in
-      two-out M s′ t′ _ _ k ke (k + 2) ke b i j (within-past (k + 2) ke i u) ∙ sym (headTwo-past ke k b M i j u)))
+      two-out M _ _ k ke (k + 2) ke b i j (within-past (k + 2) ke i u) ∙ sym (headTwo-past ke k b M i j u)))
       (λ v. let l : i ≤ k + 1 = ltb-false (k + 1) i v in
-      two-out M s′ t′ _ _ k ke (k + 2) ke b i j (within-before (k + 2) ke i (omega arith)) ∙ sym (headTwo-before ke k b M i j l))
+      two-out M _ _ k ke (k + 2) ke b i j (within-before (k + 2) ke i (omega arith)) ∙ sym (headTwo-before ke k b M i j l))
     where
       first-at : (j : ℕ) → k + 1 < j → j < ke → I′ j k ≡ firsts k b M j
       first-at j h g = ap (λ (X : Mat). X j k) ei ∙ rw (ne-eqb k (k + 1) (λ z. omega arith), eq-eqb k k refl, le-leb (k + 2) j (omega arith), lt-ltb j ke g)
@@ -182,17 +171,15 @@ module _ (M : Mat) (s s′ t t′ : Row) (k ke : ℕ) (b : Block) (es : s′ ≡
       second-at j h g = ap (λ (X : Mat). X j (k + 1)) ei ∙ rw (eq-eqb (k + 1) (k + 1) refl, le-leb (k + 2) j (omega arith), lt-ltb j ke g)
 
 -- the rows below
-pub two-below : (M E Q : Mat) (s s′ t t′ m1 m2 : Row) (k kp ke n : ℕ) (b : Block) → E ≡ columnsExchanged M (k + 1) kp ke n
-    → s′ ≡ withPart s ke n (columnOf E k) → t′ ≡ withPart t ke n (columnOf E (k + 1)) → Q ≡ appliedTwo E s′ t′ m1 m2 k ke ke n b
+pub two-below : (M E Q : Mat) (m1 m2 : Row) (k kp ke n : ℕ) (b : Block) → E ≡ columnsExchanged M (k + 1) kp ke n → Q ≡ appliedTwo E m1 m2 k ke ke n b
     → Q ≡ below ke n (rowAfterStep ke (two k kp b m1 m2)) M
 unfolding below rowAfterStep
-two-below M E Q s s′ t t′ m1 m2 k kp ke n b ee es et q =
+two-below M E Q m1 m2 k kp ke n b ee q =
     fun-ext λ i. ranged ke n i
     (λ h g w. rw w (fun-ext λ j. ap (λ (X : Mat). X i j) q
-    ∙ two-row E s′ t′ m1 m2 k kp ke ke n b i j ke h g (copied-at s s′ E k ke n i es h g) (copied-at t t′ E (k + 1) ke n i et h g)
-    (panel-column (k + 2) ke i h j)
+    ∙ two-row E m1 m2 k kp ke ke n b i j ke h g (panel-column (k + 2) ke i h j)
     ∙ two-alike k kp kp ke b m1 m2 m1 m2 (E i) (λ c. M i (exchangedPlace (k + 1) kp c)) j
     (exchanged-in M E (k + 1) kp ke n i k ee w) (exchanged-in M E (k + 1) kp ke n i (k + 1) ee w) (exchanged-in M E (k + 1) kp ke n i j ee w) (λ x y. refl)
     (λ x y. refl)))
     (λ w. rw w (fun-ext λ j.
-    ap (λ (X : Mat). X i j) q ∙ two-out E s′ t′ m1 m2 k ke ke n b i j w ∙ exchanged-out M E (k + 1) kp ke n i j ee w))
+    ap (λ (X : Mat). X i j) q ∙ two-out E m1 m2 k ke ke n b i j w ∙ exchanged-out M E (k + 1) kp ke n i j ee w))

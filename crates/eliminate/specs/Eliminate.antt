@@ -10,7 +10,7 @@ use Rattle.model.specs.Scalar.{_⊖_, _⊗_, zeroF, reciprocalOf}
 use Rattle.model.specs.Matrix.{Row, Mat, within, withColumn}
 use Rattle.model.specs.Step.{lessMultiple}
 use Rattle.model.specs.declared.Block.{Block}
-use Rattle.grid.specs.Rules.{times, combined}
+use Rattle.grid.specs.Rules.{columnOf, times, combined}
 
 -- the multipliers' buffer by the panel's rows and columns: row j and column c stand at j - kb and c - kb; +0.0 outside the panel
 unfoldable pub inPanel : ℕ → ℕ → Mat → Mat
@@ -20,22 +20,23 @@ inPanel kb ke m = λ j c. cond (within kb ke j && within kb ke c) (m (j - kb) (c
 unfoldable pub region : Mat → ℕ → ℕ → ℕ → ℕ → (ℕ → ℕ → Float → Float) → Mat
 region M c j lo hi F = λ a b. cond (within c j b && (leb b a && within lo hi a)) (F a b (M a b)) (M a b)
 
--- columns k + 1 up to j after a 1x1 at k: s holds column k by row, m the multipliers by column
-unfoldable pub sweptOne : Mat → Row → Row → ℕ → ℕ → ℕ → ℕ → Mat
-sweptOne M s m k j lo hi = region M (k + 1) j lo hi (λ a b x. lessMultiple x (s a) (m b))
+-- columns k + 1 up to j after a 1x1 at k: m holds the multipliers by column
+unfoldable pub sweptOne : Mat → Row → ℕ → ℕ → ℕ → ℕ → Mat
+sweptOne M m k j lo hi = region M (k + 1) j lo hi (λ a b x. lessMultiple x (M a k) (m b))
 
--- columns k + 2 up to j after a block at k and k + 1: s and t hold its columns
-unfoldable pub sweptTwo : Mat → Row → Row → Row → Row → ℕ → ℕ → ℕ → ℕ → Mat
-sweptTwo M s t m1 m2 k j lo hi = region M (k + 2) j lo hi (λ a b x. (x ⊖ s a ⊗ m1 b) ⊖ t a ⊗ m2 b)
+-- columns k + 2 up to j after a block at k and k + 1
+unfoldable pub sweptTwo : Mat → Row → Row → ℕ → ℕ → ℕ → ℕ → Mat
+sweptTwo M m1 m2 k j lo hi = region M (k + 2) j lo hi (λ a b x. (x ⊖ M a k ⊗ m1 b) ⊖ M a (k + 1) ⊗ m2 b)
 
 -- and the pivot's own columns in rows lo up to hi: the multipliers of those rows
-unfoldable pub appliedOne : Mat → Row → Row → ℕ → ℕ → ℕ → ℕ → Float → Mat
-appliedOne M s m k ke lo hi d = withColumn (sweptOne M s m k ke lo hi) k lo hi (times s (reciprocalOf d))
+unfoldable pub appliedOne : Mat → Row → ℕ → ℕ → ℕ → ℕ → Float → Mat
+appliedOne M m k ke lo hi d = withColumn (sweptOne M m k ke lo hi) k lo hi (times (columnOf M k) (reciprocalOf d))
 
-unfoldable pub appliedTwo : Mat → Row → Row → Row → Row → ℕ → ℕ → ℕ → ℕ → Block → Mat
-appliedTwo M s t m1 m2 k ke lo hi b =
-    withColumn (withColumn (sweptTwo M s t m1 m2 k ke lo hi) k lo hi (combined s t (b .d22) (b .d21) (reciprocalOf (b .det)))) (k + 1) lo hi
-    (combined t s (b .d11) (b .d21) (reciprocalOf (b .det)))
+unfoldable pub appliedTwo : Mat → Row → Row → ℕ → ℕ → ℕ → ℕ → Block → Mat
+appliedTwo M m1 m2 k ke lo hi b =
+    withColumn (withColumn (sweptTwo M m1 m2 k ke lo hi) k lo hi
+    (combined (columnOf M k) (columnOf M (k + 1)) (b .d22) (b .d21) (reciprocalOf (b .det)))) (k + 1) lo hi
+    (combined (columnOf M (k + 1)) (columnOf M k) (b .d11) (b .d21) (reciprocalOf (b .det)))
 
 -- ---- what the functions ask
 
@@ -51,8 +52,8 @@ pub record SweepPre (nrow ncol nb kb ke k e lo hi len lenM : ℕ) : Type 0 where
   pub last : ke ≤ hi
   pub rows : hi ≤ nrow
 
--- a 1x1 at k in the rows of the panel, with a scratch for those
-pub record HeadOnePre (nrow ncol nb kb ke k len lenM slen : ℕ) : Type 0 where
+-- a 1x1 at k
+pub record OnePre (nrow ncol nb kb ke k len lenM : ℕ) : Type 0 where
   pub size : len ≡ nrow * ncol
   pub square : lenM ≡ nb * nb
   pub head : ncol ≤ nrow
@@ -60,10 +61,9 @@ pub record HeadOnePre (nrow ncol nb kb ke k len lenM slen : ℕ) : Type 0 where
   pub width : ke ≤ kb + nb
   pub from : kb ≤ k
   pub here : k < ke
-  pub scratch : ke ≤ slen
 
--- a block at k and k + 1 in the rows of the panel, with two
-pub record HeadTwoPre (nrow ncol nb kb ke k len lenM slen tlen : ℕ) : Type 0 where
+-- a block at k and k + 1
+pub record TwoPre (nrow ncol nb kb ke k len lenM : ℕ) : Type 0 where
   pub size : len ≡ nrow * ncol
   pub square : lenM ≡ nb * nb
   pub head : ncol ≤ nrow
@@ -71,37 +71,17 @@ pub record HeadTwoPre (nrow ncol nb kb ke k len lenM slen tlen : ℕ) : Type 0 w
   pub width : ke ≤ kb + nb
   pub from : kb ≤ k
   pub here : k + 1 < ke
-  pub first : ke ≤ slen
-  pub second : ke ≤ tlen
 
--- the same in the rows below the panel, with scratches for all rows
-pub record OnePre (nrow ncol nb kb ke k len lenM slen : ℕ) : Type 0 where
-  pub size : len ≡ nrow * ncol
-  pub square : lenM ≡ nb * nb
-  pub head : ncol ≤ nrow
-  pub cols : ke ≤ ncol
-  pub width : ke ≤ kb + nb
-  pub from : kb ≤ k
-  pub here : k < ke
-  pub scratch : nrow ≤ slen
-
-pub record TwoPre (nrow ncol nb kb ke k len lenM slen tlen : ℕ) : Type 0 where
-  pub size : len ≡ nrow * ncol
-  pub square : lenM ≡ nb * nb
-  pub head : ncol ≤ nrow
-  pub cols : ke ≤ ncol
-  pub width : ke ≤ kb + nb
-  pub from : kb ≤ k
-  pub here : k + 1 < ke
-  pub first : nrow ≤ slen
-  pub second : nrow ≤ tlen
-
--- rows lo up to ke of column c of the buffer, from a vector
-pub record KeepPre (nb kb ke c lo lenM slen : ℕ) : Type 0 where
+-- rows lo up to ke of column c of the buffer
+pub record KeepPre (nb kb ke c lo lenM : ℕ) : Type 0 where
   pub col : nb + (c - kb) * nb ≤ lenM
   pub width : ke ≤ kb + nb
   pub from : kb ≤ c
   pub here : c < ke
   pub above : kb ≤ lo
   pub up : lo ≤ ke
-  pub scratch : ke ≤ slen
+
+-- column j of a panel of n rows, before row ke
+pub record SourcePre (n ke j len : ℕ) : Type 0 where
+  pub rows : ke ≤ n
+  pub col : n + j * n ≤ len

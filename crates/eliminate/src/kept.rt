@@ -3,16 +3,16 @@
 // the buffer changes within the panel.
 use grid::kernels;
 ghost use mathlib.Core.Path.{_≡_};
-ghost use Prim.Native.Nat.{_≤_};
 ghost use lib.ListN.{length};
-ghost use Rattle.model.specs.Matrix.{view, vec, withColumn};
-ghost use Rattle.grid.specs.Rules.{times, combined};
-ghost use Rattle.eliminate.specs.Eliminate.{inPanel, KeepPre};
+ghost use Rattle.model.specs.Matrix.{view, withColumn};
+ghost use Rattle.grid.specs.Rules.{columnOf, times, combined};
+ghost use Rattle.eliminate.specs.Eliminate.{inPanel, KeepPre, SourcePre};
 
-// Rows lo up to ke of column c become s times r.
+// Rows lo up to ke of column c become those of the panel times r.
 pub fn keep_one(
     mult: &mut [f64],
-    s: &[f64],
+    panel: &[f64],
+    nrow: usize,
     nb: usize,
     kb: usize,
     ke: usize,
@@ -20,40 +20,58 @@ pub fn keep_one(
     lo: usize,
     r: f64,
 )
-    requires { ⌜ KeepPre nb kb ke c lo (length (now mult)) (length (now s)) ⌝ }
+    requires { ⌜ KeepPre nb kb ke c lo (length (now mult)) ⌝ }
+    requires { ⌜ SourcePre nrow ke c (length (now panel)) ⌝ }
     ensures { λ _. ⌜ inPanel kb ke (view nb (now (mult .exit)))
-        ≡ withColumn (inPanel kb ke (view nb (now (mult .entry)))) c lo ke (times (vec (now (s .entry))) r) ⌝ }
+        ≡ withColumn (inPanel kb ke (view nb (now (mult .entry)))) c lo ke
+        (times (columnOf (view nrow (now (panel .entry))) c) r) ⌝ }
 {
     let top = lo - kb;
     let end = ke - kb;
     let a = top + (c - kb) * nb;
     let b = end + (c - kb) * nb;
-    kernels::scale(&mut mult[a..b], &s[lo..ke], end - top, r);
+    let x = lo + c * nrow;
+    let y = ke + c * nrow;
+    kernels::scale(&mut mult[a..b], &panel[x..y], end - top, r);
 }
 
-// Rows lo up to ke of column c become (p·s − q·t)·r.
+// Rows lo up to ke of column c become (p·s − q·t)·r, where s and t are those of the panel's columns c and t.
 pub fn keep_two(
     mult: &mut [f64],
-    s: &[f64],
-    t: &[f64],
+    panel: &[f64],
+    nrow: usize,
     nb: usize,
     kb: usize,
     ke: usize,
     c: usize,
+    t: usize,
     lo: usize,
     p: f64,
     q: f64,
     r: f64,
 )
-    requires { ⌜ KeepPre nb kb ke c lo (length (now mult)) (length (now s)) ⌝ }
-    requires { ⌜ ke ≤ length (now t) ⌝ }
+    requires { ⌜ KeepPre nb kb ke c lo (length (now mult)) ⌝ }
+    requires { ⌜ SourcePre nrow ke c (length (now panel)) ⌝ }
+    requires { ⌜ SourcePre nrow ke t (length (now panel)) ⌝ }
     ensures { λ _. ⌜ inPanel kb ke (view nb (now (mult .exit)))
         ≡ withColumn (inPanel kb ke (view nb (now (mult .entry)))) c lo ke
-        (combined (vec (now (s .entry))) (vec (now (t .entry))) p q r) ⌝ }
+        (combined (columnOf (view nrow (now (panel .entry))) c) (columnOf (view nrow (now (panel .entry))) t) p q r) ⌝ }
 {
     let top = lo - kb;
     let end = ke - kb;
     let a = top + (c - kb) * nb;
     let b = end + (c - kb) * nb;
-    kernels::combine(&mut mult[a..b], &s[lo..ke], &t[lo..ke], end - top, p, q, r);
+    let x = lo + c * nrow;
+    let y = ke + c * nrow;
+    let u = lo + t * nrow;
+    let v = ke + t * nrow;
+    kernels::combine(
+        &mut mult[a..b],
+        &panel[x..y],
+        &panel[u..v],
+        end - top,
+        p,
+        q,
+        r,
+    );
 }

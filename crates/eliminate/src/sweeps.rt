@@ -1,10 +1,10 @@
-// The columns of a panel past a pivot, each less the pivot's part: one column a turn, its rows lent as a part of the
-// panel. A reader may rely on the contracts: no other number changes.
+// The columns of a panel past a pivot, each less the pivot's part: one column a turn, lent with the pivot's as a part of
+// the panel. A reader may rely on the contracts: no other number changes.
 use grid::columns;
 ghost use mathlib.Core.Path.{_≡_};
-ghost use Prim.Native.Nat.{_+_, _≤_, max};
+ghost use Prim.Native.Nat.{_+_, max};
 ghost use lib.ListN.{length};
-ghost use Rattle.model.specs.Matrix.{view, vec};
+ghost use Rattle.model.specs.Matrix.{view};
 ghost use Rattle.grid.specs.Rules.{columnOf};
 ghost use Rattle.eliminate.specs.Eliminate.{inPanel, sweptOne, sweptTwo, SweepPre};
 
@@ -18,12 +18,11 @@ fn later(a: usize, b: usize) -> usize
     a
 }
 
-// Columns k + 1 up to ke, in rows lo up to hi of the lower triangle, lose s times their multiplier of column k; zero
-// multipliers are skipped.
+// Columns k + 1 up to ke, in rows lo up to hi of the lower triangle, lose column k times their multiplier of column k;
+// zero multipliers are skipped.
 pub fn sweep_one(
     panel: &mut [f64],
     mult: &[f64],
-    s: &[f64],
     nrow: usize,
     ncol: usize,
     nb: usize,
@@ -34,25 +33,22 @@ pub fn sweep_one(
     hi: usize,
 )
     requires { ⌜ SweepPre nrow ncol nb kb ke k k lo hi (length (now panel)) (length (now mult)) ⌝ }
-    requires { ⌜ hi ≤ length (now s) ⌝ }
     ensures { λ _. ⌜ view nrow (now (panel .exit))
-        ≡ sweptOne (view nrow (now (panel .entry))) (vec (now (s .entry)))
-        (columnOf (inPanel kb ke (view nb (now (mult .entry)))) k) k ke lo hi ⌝ }
+        ≡ sweptOne (view nrow (now (panel .entry))) (columnOf (inPanel kb ke (view nb (now (mult .entry)))) k)
+        k ke lo hi ⌝ }
 {
     for j in (k + 1)..ke {
         let top = later(j, lo);
         let m = grid::get(mult, nb, j - kb, k - kb);
-        columns::less_if(panel, nrow, j, top, hi, s, m);
+        columns::less_if(panel, nrow, k, j, top, hi, m);
     }
 }
 
-// Columns k + 2 up to ke, in rows lo up to hi of the lower triangle, lose s times their multiplier of column k, then t
-// times that of column k + 1; none is skipped.
+// Columns k + 2 up to ke, in rows lo up to hi of the lower triangle, lose column k times their multiplier of column k,
+// then column k + 1 times that of column k + 1; none is skipped.
 pub fn sweep_two(
     panel: &mut [f64],
     mult: &[f64],
-    s: &[f64],
-    t: &[f64],
     nrow: usize,
     ncol: usize,
     nb: usize,
@@ -63,16 +59,14 @@ pub fn sweep_two(
     hi: usize,
 )
     requires { ⌜ SweepPre nrow ncol nb kb ke k (k + 1) lo hi (length (now panel)) (length (now mult)) ⌝ }
-    requires { ⌜ (hi ≤ length (now s)) × (hi ≤ length (now t)) ⌝ }
     ensures { λ _. ⌜ view nrow (now (panel .exit))
-        ≡ sweptTwo (view nrow (now (panel .entry))) (vec (now (s .entry))) (vec (now (t .entry)))
-        (columnOf (inPanel kb ke (view nb (now (mult .entry)))) k)
+        ≡ sweptTwo (view nrow (now (panel .entry))) (columnOf (inPanel kb ke (view nb (now (mult .entry)))) k)
         (columnOf (inPanel kb ke (view nb (now (mult .entry)))) (k + 1)) k ke lo hi ⌝ }
 {
     for j in (k + 2)..ke {
         let top = later(j, lo);
         let m1 = grid::get(mult, nb, j - kb, k - kb);
         let m2 = grid::get(mult, nb, j - kb, k + 1 - kb);
-        columns::less_two(panel, nrow, j, top, hi, s, t, m1, m2);
+        columns::less_two(panel, nrow, k, j, top, hi, m1, m2);
     }
 }

@@ -103,12 +103,11 @@ holds-ke nrow ncol nb kb ke mode limit len lenW ld ls la lb ll lo lp t h =
       partners = omega (arith, h .partners);
     }
 
-pub tail-pre : (nrow ncol nb kb ke len lenW ld ls lb lp l1 l2 : ℕ) (ws : List Float) → AfterPre nrow ncol nb kb ke len lenW ld ls lb lp → length ws ≡ lenW → l1 ≡ 1024 → l2 ≡ 1024
-    → TailPre nrow ncol nb kb ke len (length (midOf 0 (nb * nb - 0) ws)) ld ls lb lp l1 l2
-tail-pre nrow ncol nb kb ke len lenW ld ls lb lp l1 l2 ws a e f g =
+pub tail-pre : (nrow ncol nb kb ke len lenW ld ls lb lp : ℕ) (ws : List Float) → AfterPre nrow ncol nb kb ke len lenW ld ls lb lp → length ws ≡ lenW
+    → TailPre nrow ncol nb kb ke len (length (midOf 0 (nb * nb - 0) ws)) ld ls lb lp
+tail-pre nrow ncol nb kb ke len lenW ld ls lb lp ws a e =
     let cols = a .cols in
     let few = a .fewColumns in
-    let rows = a .fewRows in
     record {
       size = a .panel;
       square = part-length (nb * nb) ws (square-fits nrow nb (length ws) (omega (arith, a .work)));
@@ -119,8 +118,6 @@ tail-pre nrow ncol nb kb ke len lenW ld ls lb lp l1 l2 ws a e f g =
       inSub = omega (arith, a .sub);
       inBlocks = omega (arith, a .blocks);
       inPartners = omega (arith, a .partners);
-      first = omega arith;
-      second = omega arith;
     }
 
 wide-fits : (nrow nb len : ℕ) → workLength nrow nb ≤ len → nb * nrow ≤ len

@@ -111,8 +111,6 @@ fn rows_below(
     requires { ⌜ StepsPre ke (bytes (now blocks)) (bytes (now partners)) ⌝ }
     ensures { λ _. ⌜ view nrow (now (panel .exit)) ≡ below ke nrow (rowAfterSteps (pivotsOf (now (d .entry)) (now (sub .entry)) (now (blocks .entry)) (now (partners .entry))) (inPanel kb ke (view nb (take (nb * nb) (now (work .entry))))) ke (ke - kb) kb) (view nrow (now (panel .entry))) ⌝ }
 {
-    let mut s = [0.0; 1024];
-    let mut t = [0.0; 1024];
     let square = nb * nb;
     tail::apply_bk_panel_trailing(
         panel,
@@ -121,8 +119,6 @@ fn rows_below(
         sub,
         blocks,
         partners,
-        &mut s,
-        &mut t,
         nrow,
         ncol,
         nb,

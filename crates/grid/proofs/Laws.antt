@@ -168,6 +168,10 @@ pub withPart-past : (f : ℕ → Float) (lo hi : ℕ) (N : ℕ → Float) (a : �
 unfolding withPart
 withPart-past f lo hi N a h = test (leb lo a) (λ r. rw (r, le-ltb a hi h)) (λ r. rw r)
 
+pub withPart-before : (f : ℕ → Float) (lo hi : ℕ) (N : ℕ → Float) (a : ℕ) → a < lo → withPart f lo hi N a ≡ f a
+unfolding withPart
+withPart-before f lo hi N a h = rw (lt-leb lo a h)
+
 pub withPart-more : (f : ℕ → Float) (lo hi : ℕ) (N : ℕ → Float) → lo ≤ hi → put (withPart f lo hi N) hi (N hi) ≡ withPart f lo (hi + 1) N
 unfolding withPart put
 withPart-more f lo hi N h =

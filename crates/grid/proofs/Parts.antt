@@ -1,7 +1,7 @@
 -- Laws of a part of a panel or of a vector that was lent to a kernel and is back, and of the exchange of two columns. Assumes nothing.
 use Prim.Native.Nat.{ℕ, suc, _+_, _-_, _*_, _<_, _≤_}
 use mathlib.Core.Path.{_≡_, refl, sym, _∙_, ap, fun-ext}
-use mathlib.Core.Bool.{Bool, true, false, not, _&&_}
+use mathlib.Core.Bool.{Bool, true, false, cond, not, _&&_}
 use mathlib.Core.List.{List}
 use native.Mathlib.Omega.{arith}
 use native.Mathlib.Nat.{mul-le-mul-right, suc-mul, add-mul, le-antisymm}
@@ -13,7 +13,8 @@ use borrow.Rule.Slice.PartMut.{midOf, putMid}
 use lib.Ieee.{Float, nan, eq, ne}
 use Rattle.model.specs.Scalar.{zeroF}
 use Rattle.model.specs.Matrix.{Row, Mat, view, vec, putAt, withColumn, withPart}
-use Rattle.grid.specs.Rules.{columnOf, zeroed, lessTimes, lessTimesIf, lessTwo, lessEach, plusTimes, plusFour, times, combined, columnsExchanged}
+use Rattle.grid.specs.Rules.{columnOf, behind, ahead, zeroed, lessTimes, lessTimesIf, lessTwo, lessEach, plusTimes, plusFour, times, combined}
+use Rattle.grid.specs.Rules.{columnsExchanged, AheadPre, TwoAheadPre, LaterPre, RowsPre}
 use Rattle.grid.proofs.Laws.{test, cmp, no, vec-put, vec-part, view-set, view-at}
 
 -- ---- any rule
@@ -31,11 +32,15 @@ part xs lo hi = midOf lo (hi - lo) xs
 abbrev back : List Float → ℕ → ℕ → List Float → List Float
 back xs lo hi ys = putMid lo (hi - lo) xs ys
 
+-- a row of places seen as a matrix of n rows: of a list it is `view`
+abbrev rowView : ℕ → Row → Mat
+rowView n f = λ i j. cond (ltb i n) (f (i + j * n)) nan
+
 -- a run of places within one column is a part of that column
-view-part : (n : ℕ) (xs zs : List Float) (j lo hi : ℕ) (W N : Row) → hi ≤ n → vec zs ≡ withPart (vec xs) (lo + j * n) (hi + j * n) W
-    → ((a : ℕ) → lo ≤ a → a < hi → W (a + j * n) ≡ N a) → view n zs ≡ withColumn (view n xs) j lo hi N
-unfolding vec withPart view withColumn
-view-part n xs zs j lo hi W N h e same =
+view-part : (n : ℕ) (f g : Row) (j lo hi : ℕ) (W N : Row) → hi ≤ n → g ≡ withPart f (lo + j * n) (hi + j * n) W
+    → ((a : ℕ) → lo ≤ a → a < hi → W (a + j * n) ≡ N a) → rowView n g ≡ withColumn (rowView n f) j lo hi N
+unfolding withPart withColumn
+view-part n f g j lo hi W N h e same =
     fun-ext λ a. fun-ext λ b.
     test (ltb a n)
     (λ p. let ha : a < n = ltb-true a n p in rw p (ap (λ (g : Row). g (a + b * n)) e ∙
@@ -53,7 +58,7 @@ view-part n xs zs j lo hi W N h e same =
     (λ p. rw (p, le-ltb a hi (omega (arith, ltb-false a n p)), no (leb lo a), no (eqb b j)))
 
 -- how many are lent
-mid-count : (a e : ℕ) (xs : List Float) → a ≤ e → e ≤ length xs → length (midOf a (e - a) xs) ≡ e - a
+pub mid-count : (a e : ℕ) (xs : List Float) → a ≤ e → e ≤ length xs → length (midOf a (e - a) xs) ≡ e - a
 mid-count a e xs h l = length-take-le (e - a) (drop a xs) (omega (arith, length-drop a xs))
 
 -- what is lent of a column
@@ -74,8 +79,9 @@ back-at ys f N′ N lo hi a l g e same =
 pub column-lent : (n : ℕ) (xs ys : List Float) (j lo hi : ℕ) (f N′ N : Row) → n + j * n ≤ length xs → lo ≤ hi → hi ≤ n
     → length ys ≡ length (columnPart n xs j lo hi) → vec ys ≡ withPart f 0 (hi - lo) N′ → ((t : ℕ) → t < hi - lo → N′ t ≡ N (lo + t))
     → view n (columnBack n xs j lo hi ys) ≡ withColumn (view n xs) j lo hi N
+unfolding view vec
 column-lent n xs ys j lo hi f N′ N room u h ly e same =
-    view-part n xs _ j lo hi _ N h
+    view-part n (vec xs) _ j lo hi _ N h
     (vec-put (lo + j * n) (hi + j * n) xs ys (omega arith) (omega arith) (ly ∙ mid-count (lo + j * n) (hi + j * n) xs (omega arith) (omega arith)))
     (λ a l g. ap (λ (x : ℕ). vec ys x) {x = a + j * n - (lo + j * n)} {y = a - lo} (omega arith) ∙ back-at ys f N′ N lo hi a l g e same)
 
@@ -94,32 +100,18 @@ part-lent xs ys lo hi f N′ N u h ly e same =
 
 -- ---- the functions that lend
 
-pub copy-lent : (n : ℕ) (xs ys zs : List Float) (j lo hi : ℕ) → lo ≤ hi → hi ≤ n → hi ≤ length xs → length ys ≡ length (part xs lo hi)
-    → vec ys ≡ withPart (vec (part xs lo hi)) 0 (hi - lo) (vec (columnPart n zs j lo hi))
-    → vec (back xs lo hi ys) ≡ withPart (vec xs) lo hi (columnOf (view n zs) j)
-unfolding columnOf
-copy-lent n xs ys zs j lo hi u h g ly e = part-lent xs ys lo hi _ _ _ u g ly e (λ t l. column-at n zs j lo hi t h l)
-
 pub plus-lent : (n : ℕ) (xs ys zs : List Float) (j lo hi : ℕ) (m : Float) → lo ≤ hi → hi ≤ n → hi ≤ length xs → length ys ≡ length (part xs lo hi)
     → vec ys ≡ withPart (vec (part xs lo hi)) 0 (hi - lo) (plusTimes (vec (part xs lo hi)) (vec (columnPart n zs j lo hi)) m)
     → vec (back xs lo hi ys) ≡ withPart (vec xs) lo hi (plusTimes (vec xs) (columnOf (view n zs) j) m)
 unfolding plusTimes columnOf
 plus-lent n xs ys zs j lo hi m u h g ly e = part-lent xs ys lo hi _ _ _ u g ly e (λ t l. rw (vec-part lo hi xs t l, column-at n zs j lo hi t h l))
 
-pub scale-lent : (n : ℕ) (xs ys zs : List Float) (j lo hi : ℕ) (r : Float) → n + j * n ≤ length xs → lo ≤ hi → hi ≤ n
+pub scale-lent : (n : ℕ) (xs ys : List Float) (j lo hi : ℕ) (r : Float) → n + j * n ≤ length xs → lo ≤ hi → hi ≤ n
     → length ys ≡ length (columnPart n xs j lo hi)
-    → vec ys ≡ withPart (vec (columnPart n xs j lo hi)) 0 (hi - lo) (times (vec (part zs lo hi)) r)
-    → view n (columnBack n xs j lo hi ys) ≡ withColumn (view n xs) j lo hi (times (vec zs) r)
-unfolding times
-scale-lent n xs ys zs j lo hi r room u h ly e = column-lent n xs ys j lo hi _ _ _ room u h ly e (λ t l. rw (vec-part lo hi zs t l))
-
-pub combine-lent : (n : ℕ) (xs ys zs ws : List Float) (j lo hi : ℕ) (p q r : Float) → n + j * n ≤ length xs → lo ≤ hi → hi ≤ n
-    → length ys ≡ length (columnPart n xs j lo hi)
-    → vec ys ≡ withPart (vec (columnPart n xs j lo hi)) 0 (hi - lo) (combined (vec (part zs lo hi)) (vec (part ws lo hi)) p q r)
-    → view n (columnBack n xs j lo hi ys) ≡ withColumn (view n xs) j lo hi (combined (vec zs) (vec ws) p q r)
-unfolding combined
-combine-lent n xs ys zs ws j lo hi p q r room u h ly e =
-    column-lent n xs ys j lo hi _ _ _ room u h ly e (λ t l. rw (vec-part lo hi zs t l, vec-part lo hi ws t l))
+    → vec ys ≡ withPart (vec (columnPart n xs j lo hi)) 0 (hi - lo) (times (vec (columnPart n xs j lo hi)) r)
+    → view n (columnBack n xs j lo hi ys) ≡ withColumn (view n xs) j lo hi (times (columnOf (view n xs) j) r)
+unfolding times columnOf
+scale-lent n xs ys j lo hi r room u h ly e = column-lent n xs ys j lo hi _ _ _ room u h ly e (λ t l. rw (column-at n xs j lo hi t h l))
 
 pub less-each-lent : (n : ℕ) (xs ys zs : List Float) (j lo hi : ℕ) → n + j * n ≤ length xs → lo ≤ hi → hi ≤ n
     → length ys ≡ length (columnPart n xs j lo hi)
@@ -128,22 +120,6 @@ pub less-each-lent : (n : ℕ) (xs ys zs : List Float) (j lo hi : ℕ) → n + j
 unfolding lessEach columnOf
 less-each-lent n xs ys zs j lo hi room u h ly e =
     column-lent n xs ys j lo hi _ _ _ room u h ly e (λ t l. rw (column-at n xs j lo hi t h l, vec-part lo hi zs t l))
-
-pub less-lent : (n : ℕ) (xs ys zs : List Float) (j lo hi : ℕ) (m : Float) → n + j * n ≤ length xs → lo ≤ hi → hi ≤ n
-    → length ys ≡ length (columnPart n xs j lo hi)
-    → vec ys ≡ withPart (vec (columnPart n xs j lo hi)) 0 (hi - lo) (lessTimes (vec (columnPart n xs j lo hi)) (vec (part zs lo hi)) m)
-    → view n (columnBack n xs j lo hi ys) ≡ withColumn (view n xs) j lo hi (lessTimes (columnOf (view n xs) j) (vec zs) m)
-unfolding lessTimes columnOf
-less-lent n xs ys zs j lo hi m room u h ly e =
-    column-lent n xs ys j lo hi _ _ _ room u h ly e (λ t l. rw (column-at n xs j lo hi t h l, vec-part lo hi zs t l))
-
-pub less-two-lent : (n : ℕ) (xs ys zs ws : List Float) (j lo hi : ℕ) (m1 m2 : Float) → n + j * n ≤ length xs → lo ≤ hi → hi ≤ n
-    → length ys ≡ length (columnPart n xs j lo hi)
-    → vec ys ≡ withPart (vec (columnPart n xs j lo hi)) 0 (hi - lo) (lessTwo (vec (columnPart n xs j lo hi)) (vec (part zs lo hi)) (vec (part ws lo hi)) m1 m2)
-    → view n (columnBack n xs j lo hi ys) ≡ withColumn (view n xs) j lo hi (lessTwo (columnOf (view n xs) j) (vec zs) (vec ws) m1 m2)
-unfolding lessTwo columnOf
-less-two-lent n xs ys zs ws j lo hi m1 m2 room u h ly e =
-    column-lent n xs ys j lo hi _ _ _ room u h ly e (λ t l. rw (column-at n xs j lo hi t h l, vec-part lo hi zs t l, vec-part lo hi ws t l))
 
 -- columns j to j + 3, whose parts begin n apart
 pub plus-four-lent : (n : ℕ) (xs ys zs : List Float) (j lo hi : ℕ) (l0 l1 l2 l3 : Float) → lo ≤ hi → hi ≤ n → hi ≤ length xs
@@ -177,6 +153,194 @@ zero-lent xs ys lo hi u h e =
     vec-put lo hi xs ys u h (ap length e ∙ length-replicate (length (part xs lo hi)) zeroF ∙ m)
     ∙ part-same (vec xs) lo hi _ _ (λ a l g. ap (λ (zs : List Float). getD zs (a - lo) nan) e
     ∙ getD-replicate (length (part xs lo hi)) (a - lo) zeroF nan (omega arith))
+
+-- ---- the functions that lend from one column's row lo to a later column's row hi
+
+-- columns k and j, k first, do not overlap; nor do k, k + 1 and j
+pub later-room : (n k j lo hi len : ℕ) → LaterPre n k j lo hi len → k * n + n ≤ j * n
+later-room n k j lo hi len h = omega (arith, mul-le-mul-right n (h .past), suc-mul k n)
+
+pub later-room-two : (n k j lo hi len : ℕ) → LaterPre n (k + 1) j lo hi len → k * n + n + n ≤ j * n
+later-room-two n k j lo hi len h = omega (arith, later-room n (k + 1) j lo hi len h, add-mul k 1 n)
+
+pub later-ahead : (n : ℕ) (xs : List Float) (k j lo hi : ℕ) → LaterPre n k j lo hi (length xs)
+    → AheadPre (hi - lo) (lo + j * n - (lo + k * n)) (length (midOf (lo + k * n) (hi + j * n - (lo + k * n)) xs))
+later-ahead n xs k j lo hi h =
+    let room = later-room n k j lo hi (length xs) h in
+    let count = mid-count (lo + k * n) (hi + j * n) xs (omega arith) (omega arith) in
+    record { apart = omega arith; out = omega arith }
+
+pub later-two-ahead : (n : ℕ) (xs : List Float) (k j lo hi : ℕ) → LaterPre n (k + 1) j lo hi (length xs)
+    → TwoAheadPre (hi - lo) n (lo + j * n - (lo + k * n)) (length (midOf (lo + k * n) (hi + j * n - (lo + k * n)) xs))
+later-two-ahead n xs k j lo hi h =
+    let room = later-room-two n k j lo hi (length xs) h in
+    let count = mid-count (lo + k * n) (hi + j * n) xs (omega arith) (omega arith) in
+    record { first = omega arith; second = omega arith; out = omega arith }
+
+-- a run that ends with the lent part, written there and not before it
+run-back : (xs ys : List Float) (a x e : ℕ) (N′ : Row) → a ≤ x → x ≤ e → e ≤ length xs → length ys ≡ length (part xs a e)
+    → vec ys ≡ withPart (vec (part xs a e)) (x - a) (x - a + (e - x)) N′ → vec (back xs a e ys) ≡ withPart (vec xs) x e (behind a N′)
+unfolding withPart behind
+run-back xs ys a x e N′ h g l ly w =
+    vec-put a e xs ys (omega arith) l (ly ∙ mid-count a e xs (omega arith) l)
+    ∙ fun-ext λ t.
+    test (ltb t a)
+    (λ p. let u : t < a = ltb-true t a p in rw (lt-leb a t u, lt-leb x t (omega arith)))
+    (λ p. let u : a ≤ t = ltb-false t a p in
+    rw (le-leb a t u)
+    (test (ltb t e)
+    (λ q. let v : t < e = ltb-true t e q in
+    rw q (ap (λ (z : Row). z (t - a)) w ∙
+    test (ltb t x)
+    (λ r. let o : t < x = ltb-true t x r in
+    rw (lt-leb x t o, lt-leb (x - a) (t - a) (omega arith)) (vec-part a e xs (t - a) (omega arith) ∙ ap (vec xs) (omega arith)))
+    (λ r. let o : x ≤ t = ltb-false t x r in
+    rw (le-leb x t o, le-leb (x - a) (t - a) (omega arith), lt-ltb (t - a) (x - a + (e - x)) (omega arith)))))
+    (λ q. rw (q, no (leb x t)))))
+
+-- what is lent of column c, in a part that begins in row lo of column k
+later-at : (n : ℕ) (xs : List Float) (k c lo e a s : ℕ) → a < n → lo + k * n + s ≡ a + c * n → s < e - (lo + k * n)
+    → vec (part xs (lo + k * n) e) s ≡ view n xs a c
+unfolding vec view
+later-at n xs k c lo e a s h o l = rw (lt-ltb a n h) (vec-part (lo + k * n) e xs s l ∙ ap (λ (x : ℕ). getD xs x nan) o)
+
+later-lent : (n : ℕ) (xs ys : List Float) (k j lo hi : ℕ) (N′ N : Row) → n + j * n ≤ length xs → k * n ≤ j * n → lo ≤ hi → hi ≤ n
+    → length ys ≡ length (part xs (lo + k * n) (hi + j * n))
+    → vec ys ≡ withPart (vec (part xs (lo + k * n) (hi + j * n))) (lo + j * n - (lo + k * n)) (lo + j * n - (lo + k * n) + (hi - lo)) N′
+    → ((t : ℕ) → t < hi - lo → N′ (lo + j * n - (lo + k * n) + t) ≡ N (lo + t))
+    → view n (back xs (lo + k * n) (hi + j * n) ys) ≡ withColumn (view n xs) j lo hi N
+unfolding view vec behind
+later-lent n xs ys k j lo hi N′ N room past u h ly e same =
+    view-part n (vec xs) _ j lo hi _ N h
+    (run-back xs ys (lo + k * n) (lo + j * n) (hi + j * n) N′ (omega arith) (omega arith) (omega arith) ly
+    (e ∙ ap (λ (z : ℕ). withPart (vec (part xs (lo + k * n) (hi + j * n))) (lo + j * n - (lo + k * n)) (lo + j * n - (lo + k * n) + z) N′) (omega arith)))
+    (λ a l g. ap N′ (omega arith) ∙ same (a - lo) (omega arith) ∙ ap N (omega arith))
+
+pub less-lent : (n : ℕ) (xs ys : List Float) (k j lo hi : ℕ) (m : Float) → LaterPre n k j lo hi (length xs)
+    → length ys ≡ length (part xs (lo + k * n) (hi + j * n))
+    → vec ys ≡ withPart (vec (part xs (lo + k * n) (hi + j * n))) (lo + j * n - (lo + k * n)) (lo + j * n - (lo + k * n) + (hi - lo))
+    (lessTimes (vec (part xs (lo + k * n) (hi + j * n))) (behind (lo + j * n - (lo + k * n)) (vec (part xs (lo + k * n) (hi + j * n)))) m)
+    → view n (back xs (lo + k * n) (hi + j * n) ys) ≡ withColumn (view n xs) j lo hi (lessTimes (columnOf (view n xs) j) (columnOf (view n xs) k) m)
+unfolding lessTimes behind columnOf
+less-lent n xs ys k j lo hi m pre ly e =
+    let room = later-room n k j lo hi (length xs) pre in
+    later-lent n xs ys k j lo hi _ _ (pre .col) (omega arith) (pre .up) (pre .rows) ly e (λ t l. rw (
+      later-at n xs k j lo (hi + j * n) (lo + t) (lo + j * n - (lo + k * n) + t) (omega arith) (omega arith) (omega arith),
+      later-at n xs k k lo (hi + j * n) (lo + t) (lo + j * n - (lo + k * n) + t - (lo + j * n - (lo + k * n))) (omega arith) (omega arith) (omega arith),
+    ))
+
+pub less-two-lent : (n : ℕ) (xs ys : List Float) (k j lo hi : ℕ) (m1 m2 : Float) → LaterPre n (k + 1) j lo hi (length xs)
+    → length ys ≡ length (part xs (lo + k * n) (hi + j * n))
+    → vec ys ≡ withPart (vec (part xs (lo + k * n) (hi + j * n))) (lo + j * n - (lo + k * n)) (lo + j * n - (lo + k * n) + (hi - lo))
+    (lessTwo (vec (part xs (lo + k * n) (hi + j * n))) (behind (lo + j * n - (lo + k * n)) (vec (part xs (lo + k * n) (hi + j * n))))
+    (behind (lo + j * n - (lo + k * n) - n) (vec (part xs (lo + k * n) (hi + j * n)))) m1 m2)
+    → view n (back xs (lo + k * n) (hi + j * n) ys)
+    ≡ withColumn (view n xs) j lo hi (lessTwo (columnOf (view n xs) j) (columnOf (view n xs) k) (columnOf (view n xs) (k + 1)) m1 m2)
+unfolding lessTwo behind columnOf
+less-two-lent n xs ys k j lo hi m1 m2 pre ly e =
+    let room = later-room-two n k j lo hi (length xs) pre in
+    let next : (k + 1) * n ≡ k * n + n = omega (arith, add-mul k 1 n) in
+    later-lent n xs ys k j lo hi _ _ (pre .col) (omega arith) (pre .up) (pre .rows) ly e (λ t l. rw (
+      later-at n xs k j lo (hi + j * n) (lo + t) (lo + j * n - (lo + k * n) + t) (omega arith) (omega arith) (omega arith),
+      later-at n xs k k lo (hi + j * n) (lo + t) (lo + j * n - (lo + k * n) + t - (lo + j * n - (lo + k * n))) (omega arith) (omega arith) (omega arith),
+      later-at n xs k (k + 1) lo (hi + j * n) (lo + t) (lo + j * n - (lo + k * n) + t - (lo + j * n - (lo + k * n) - n)) (omega arith) (omega arith) (omega arith),
+    ))
+
+-- ---- the function that lends two columns, one after the other
+
+-- two runs, the lent part's first and its last, written there and not between them
+runs-back : (xs ys : List Float) (a b x e : ℕ) (N′ O′ : Row) → a ≤ b → b ≤ x → x ≤ e → e ≤ length xs → length ys ≡ length (part xs a e)
+    → vec ys ≡ withPart (withPart (vec (part xs a e)) 0 (b - a) N′) (x - a) (x - a + (e - x)) O′
+    → vec (back xs a e ys) ≡ withPart (withPart (vec xs) a b (behind a N′)) x e (behind a O′)
+unfolding withPart behind
+runs-back xs ys a b x e N′ O′ h g m l ly w =
+    vec-put a e xs ys (omega arith) l (ly ∙ mid-count a e xs (omega arith) l)
+    ∙ fun-ext λ t.
+    test (ltb t a)
+    (λ p. let u : t < a = ltb-true t a p in rw (lt-leb a t u, lt-leb x t (omega arith)))
+    (λ p. let u : a ≤ t = ltb-false t a p in
+    rw (le-leb a t u)
+    (test (ltb t e)
+    (λ q. let v : t < e = ltb-true t e q in
+    rw q (ap (λ (z : Row). z (t - a)) w ∙
+    test (ltb t x)
+    (λ r. let o : t < x = ltb-true t x r in
+    rw (lt-leb x t o, lt-leb (x - a) (t - a) (omega arith), le-leb 0 (t - a) (omega arith))
+    (test (ltb t b)
+    (λ z. rw (z, lt-ltb (t - a) (b - a) (omega (arith, ltb-true t b z))))
+    (λ z. rw (z, le-ltb (t - a) (b - a) (omega (arith, ltb-false t b z))) (vec-part a e xs (t - a) (omega arith) ∙ ap (vec xs) (omega arith)))))
+    (λ r. let o : x ≤ t = ltb-false t x r in
+    rw (le-leb x t o, le-leb (x - a) (t - a) (omega arith), lt-ltb (t - a) (x - a + (e - x)) (omega arith)))))
+    (λ q. let v : e ≤ t = ltb-false t e q in rw (q, le-ltb t b (omega arith), no (leb x t)))))
+
+-- their bounds by other names
+runs-same : (f N O : Row) (p q p′ q′ q″ : ℕ) → p ≡ p′ → q ≡ q′ → q ≡ q″ → withPart (withPart f 0 q N) p (p + q) O ≡ withPart (withPart f 0 q′ N) p′ (p′ + q″) O
+runs-same f N O p q p′ q′ q″ g h i = cc
+
+-- a run in column k and one in column k + 1
+view-two : (n : ℕ) (f g : Row) (k lo hi : ℕ) (W X N O : Row) → hi ≤ n
+    → g ≡ withPart (withPart f (lo + k * n) (hi + k * n) W) (lo + k * n + n) (hi + k * n + n) X
+    → ((a : ℕ) → lo ≤ a → a < hi → W (a + k * n) ≡ N a) → ((a : ℕ) → lo ≤ a → a < hi → X (a + k * n + n) ≡ O a)
+    → rowView n g ≡ withColumn (withColumn (rowView n f) k lo hi N) (k + 1) lo hi O
+view-two n f g k lo hi W X N O h e first second =
+    let next : (k + 1) * n ≡ k * n + n = omega (arith, add-mul k 1 n) in
+    let g′ : Row = withPart f (lo + k * n) (hi + k * n) W in
+    view-part n g′ g (k + 1) lo hi X O h
+    (e ∙ ap (λ (z : ℕ). withPart g′ z (hi + k * n + n) X) {y = lo + (k + 1) * n} (omega arith)
+    ∙ ap (λ (z : ℕ). withPart g′ (lo + (k + 1) * n) z X) (omega arith))
+    (λ a l u. ap X (omega arith) ∙ second a l u)
+    ∙ ap (λ (M : Mat). withColumn M (k + 1) lo hi O) (view-part n f g′ k lo hi W N h refl first)
+
+module _ (n : ℕ) (xs ys : List Float) (k lo hi : ℕ) (d11 d21 d22 r : Float) (pre : RowsPre n (k + 1) lo hi (length xs)) where
+  two-lent : Row
+  two-lent = vec (part xs (lo + k * n) (hi + k * n + n))
+
+  two-room : k * n + n + n ≤ length xs
+  two-room = omega (arith, pre .col, add-mul k 1 n)
+
+  first-at : (s a : ℕ) → lo ≤ a → a < hi → s ≡ a - lo → two-lent s ≡ view n xs a k
+  unfolding two-lent
+  first-at s a l u e = let room = two-room in later-at n xs k k lo (hi + k * n + n) a s (omega (arith, pre .rows)) (omega arith) (omega arith)
+
+  second-at : (s a : ℕ) → lo ≤ a → a < hi → s ≡ a - lo + n → two-lent s ≡ view n xs a (k + 1)
+  unfolding two-lent
+  second-at s a l u e =
+      let room = two-room in
+      later-at n xs k (k + 1) lo (hi + k * n + n) a s (omega (arith, pre .rows)) (omega (arith, add-mul k 1 n)) (omega arith)
+
+  first-seen : (a : ℕ) → lo ≤ a → a < hi
+      → behind (lo + k * n) (combined two-lent (ahead n two-lent) d22 d21 r) (a + k * n) ≡ combined (columnOf (view n xs) k) (columnOf (view n xs) (k + 1)) d22 d21 r a
+  unfolding behind ahead combined columnOf
+  first-seen a l u = rw (first-at (a + k * n - (lo + k * n)) a l u (omega arith), second-at (a + k * n - (lo + k * n) + n) a l u (omega arith))
+
+  second-seen : (a : ℕ) → lo ≤ a → a < hi
+      → behind (lo + k * n) (combined two-lent (behind n two-lent) d11 d21 r) (a + k * n + n)
+      ≡ combined (columnOf (view n xs) (k + 1)) (columnOf (view n xs) k) d11 d21 r a
+  unfolding behind combined columnOf
+  second-seen a l u = rw (second-at (a + k * n + n - (lo + k * n)) a l u (omega arith), first-at (a + k * n + n - (lo + k * n) - n) a l u (omega arith))
+
+  two-seen : vec (back xs (lo + k * n) (hi + k * n + n) ys)
+      ≡ withPart (withPart (vec xs) (lo + k * n) (hi + k * n) (behind (lo + k * n) (combined two-lent (ahead n two-lent) d22 d21 r)))
+      (lo + k * n + n) (hi + k * n + n) (behind (lo + k * n) (combined two-lent (behind n two-lent) d11 d21 r))
+      → view n (back xs (lo + k * n) (hi + k * n + n) ys)
+      ≡ withColumn (withColumn (view n xs) k lo hi (combined (columnOf (view n xs) k) (columnOf (view n xs) (k + 1)) d22 d21 r)) (k + 1) lo hi
+      (combined (columnOf (view n xs) (k + 1)) (columnOf (view n xs) k) d11 d21 r)
+  unfolding view vec
+  two-seen w = view-two n (vec xs) _ k lo hi _ _ _ _ (pre .rows) w first-seen second-seen
+
+  pub combine-lent : length ys ≡ length (part xs (lo + k * n) (hi + k * n + n))
+      → vec ys ≡ withPart (withPart (vec (part xs (lo + k * n) (hi + k * n + n))) 0 (hi - lo)
+      (combined (vec (part xs (lo + k * n) (hi + k * n + n))) (ahead n (vec (part xs (lo + k * n) (hi + k * n + n)))) d22 d21 r)) n (n + (hi - lo))
+      (combined (vec (part xs (lo + k * n) (hi + k * n + n))) (behind n (vec (part xs (lo + k * n) (hi + k * n + n)))) d11 d21 r)
+      → view n (back xs (lo + k * n) (hi + k * n + n) ys)
+      ≡ withColumn (withColumn (view n xs) k lo hi (combined (columnOf (view n xs) k) (columnOf (view n xs) (k + 1)) d22 d21 r)) (k + 1) lo hi
+      (combined (columnOf (view n xs) (k + 1)) (columnOf (view n xs) k) d11 d21 r)
+  unfolding two-lent
+  combine-lent ly e =
+      let room = two-room in
+      two-seen
+      (runs-back xs ys (lo + k * n) (hi + k * n) (lo + k * n + n) (hi + k * n + n) _ _ (omega arith) (omega arith) (omega arith) (omega arith) ly
+      (e ∙ runs-same _ _ _ n (hi - lo) _ _ _ (omega arith) (omega arith) (omega arith)))
 
 -- ---- zero multipliers
 

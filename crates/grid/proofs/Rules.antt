@@ -1,15 +1,17 @@
 -- Laws of the slice kernels: a turn of each loop is one place more by its rule. Assumes nothing.
-use Prim.Native.Nat.{ℕ, zero, suc, _+_, _<_, _≤_}
-use mathlib.Core.Path.{_≡_, refl, sym, _∙_, ap}
+use Prim.Native.Nat.{ℕ, zero, suc, _+_, _-_, _<_, _≤_}
+use mathlib.Core.Path.{_≡_, refl, sym, _∙_, ap, fun-ext}
 use mathlib.Core.List.{List, [], _∷_, _++_, append-nil}
 use native.Mathlib.Omega.{arith}
-use native.Mathlib.Nat.{not-suc-le-zero, le-of-suc-le-suc}
+use native.Mathlib.Nat.{not-suc-le-zero, le-of-suc-le-suc, le-antisymm}
 use native.Mathlib.Numerals.{add-one}
-use lib.ListN.{length, getD, set, drop, replicate, drop-of-length-le}
+use borrow.Author.Tests.{lt-leb, eqb-true}
+use lib.Dec.{eqb}
+use lib.ListN.{length, getD, set, drop, replicate, drop-of-length-le, length-set}
 use lib.Ieee.{Float, nan, binary64, add, sub, mul}
-use Rattle.model.specs.Matrix.{Row, vec, withPart}
-use Rattle.grid.specs.Rules.{lessTimes, lessTwo, lessEach, plusTimes, plusFour, times, combined, blended}
-use Rattle.grid.proofs.Laws.{vec-set, withPart-none, withPart-past, withPart-step}
+use Rattle.model.specs.Matrix.{Row, vec, put, withPart}
+use Rattle.grid.specs.Rules.{behind, ahead, lessTimes, lessTwo, lessEach, plusTimes, plusFour, times, combined, blended}
+use Rattle.grid.proofs.Laws.{test, vec-set, withPart-none, withPart-past, withPart-before, withPart-step}
 
 -- ---- any rule
 
@@ -26,6 +28,28 @@ store : (f : Row) (xs : List Float) (i n len : ℕ) (N : Row) (v : Float) → i 
     → vec (set xs i v) ≡ withPart f 0 (i + 1) N
 store f xs i n len N v l h r e w = withPart-step f (vec xs) _ 0 i N v (omega arith) e w (vec-set xs i v (omega arith))
 
+-- ---- a rule whose operands stand in the slice itself, before q
+
+pub from-none : (f N : Row) (q : ℕ) → f ≡ withPart f q (q + 0) N
+from-none f N q = sym (ap (λ (k : ℕ). withPart f q k N) (omega arith) ∙ withPart-none f q N)
+
+pub from-end : (f : Row) (xs : List Float) (q i n : ℕ) (N : Row) → i ≤ n → n ≤ i → vec xs ≡ withPart f q (q + i) N → vec xs ≡ withPart f q (q + n) N
+from-end f xs q i n N h l e = e ∙ ap (λ (k : ℕ). withPart f q (q + k) N) (le-antisymm h l)
+
+-- a place that is not yet reached, and one before all that are written
+reached-from : (f : Row) (xs : List Float) (q i : ℕ) (N : Row) → vec xs ≡ withPart f q (q + i) N → getD xs (q + i) nan ≡ f (q + i)
+unfolding vec
+reached-from f xs q i N e = ap (λ (g : Row). g (q + i)) e ∙ withPart-past f q (q + i) N (q + i) (omega arith)
+
+kept-before : (f : Row) (xs : List Float) (q hi a : ℕ) (N : Row) → vec xs ≡ withPart f q hi N → a < q → getD xs a nan ≡ f a
+unfolding vec
+kept-before f xs q hi a N e h = ap (λ (g : Row). g a) e ∙ withPart-before f q hi N a h
+
+store-from : (f : Row) (xs : List Float) (q i n len : ℕ) (N : Row) (v : Float) → i < n → q + n ≤ len → length xs ≡ len → vec xs ≡ withPart f q (q + i) N
+    → v ≡ N (q + i) → vec (set xs (q + i) v) ≡ withPart f q (q + (i + 1)) N
+store-from f xs q i n len N v l h r e w =
+    withPart-step f (vec xs) _ q (q + i) N v (omega arith) e w (vec-set xs (q + i) v (omega arith)) ∙ ap (λ (k : ℕ). withPart f q k N) (omega arith)
+
 -- ---- the kernels
 
 pub copy-step : (f : Row) (xs zs : List Float) (i n len : ℕ) → i < n → n ≤ len → length xs ≡ len → vec xs ≡ withPart f 0 i (vec zs)
@@ -33,17 +57,27 @@ pub copy-step : (f : Row) (xs zs : List Float) (i n len : ℕ) → i < n → n �
 unfolding vec
 copy-step f xs zs i n len l h r e = store f xs i n len _ _ l h r e refl
 
-pub less-step : (f : Row) (xs zs : List Float) (i n len : ℕ) (m : Float) → i < n → n ≤ len → length xs ≡ len → vec xs ≡ withPart f 0 i (lessTimes f (vec zs) m)
-    → vec (set xs i (sub binary64 (getD xs i nan) (mul binary64 (getD zs i nan) m))) ≡ withPart f 0 (i + 1) (lessTimes f (vec zs) m)
-unfolding lessTimes vec
-less-step f xs zs i n len m l h r e = store f xs i n len _ _ l h r e (rw (reached f xs i _ e))
+pub less-ahead-step : (f : Row) (xs : List Float) (q i n len : ℕ) (m : Float) → i < n → n ≤ q → q + n ≤ len → length xs ≡ len
+    → vec xs ≡ withPart f q (q + i) (lessTimes f (behind q f) m)
+    → vec (set xs (q + i) (sub binary64 (getD xs (q + i) nan) (mul binary64 (getD xs i nan) m))) ≡ withPart f q (q + (i + 1)) (lessTimes f (behind q f) m)
+unfolding lessTimes behind
+less-ahead-step f xs q i n len m l h r e u =
+    store-from f xs q i n len _ _ l r e u
+    (rw (reached-from f xs q i _ u, kept-before f xs q (q + i) i _ u (omega arith), ap f {x = q + i - q} {y = i} (omega arith)))
 
-pub less-two-step : (f : Row) (xs zs ws : List Float) (i n len : ℕ) (m1 m2 : Float) → i < n → n ≤ len → length xs ≡ len
-    → vec xs ≡ withPart f 0 i (lessTwo f (vec zs) (vec ws) m1 m2)
-    → vec (set xs i (sub binary64 (sub binary64 (getD xs i nan) (mul binary64 (getD zs i nan) m1)) (mul binary64 (getD ws i nan) m2)))
-    ≡ withPart f 0 (i + 1) (lessTwo f (vec zs) (vec ws) m1 m2)
-unfolding lessTwo vec
-less-two-step f xs zs ws i n len m1 m2 l h r e = store f xs i n len _ _ l h r e (rw (reached f xs i _ e))
+pub less-two-ahead-step : (f : Row) (xs : List Float) (p q i n len : ℕ) (m1 m2 : Float) → i < n → n ≤ p → p + n ≤ q → q + n ≤ len → length xs ≡ len
+    → vec xs ≡ withPart f q (q + i) (lessTwo f (behind q f) (behind (q - p) f) m1 m2)
+    → vec (set xs (q + i) (sub binary64 (sub binary64 (getD xs (q + i) nan) (mul binary64 (getD xs i nan) m1)) (mul binary64 (getD xs (p + i) nan) m2)))
+    ≡ withPart f q (q + (i + 1)) (lessTwo f (behind q f) (behind (q - p) f) m1 m2)
+unfolding lessTwo behind
+less-two-ahead-step f xs p q i n len m1 m2 l g h r e u =
+    store-from f xs q i n len _ _ l r e u (rw (
+      reached-from f xs q i _ u,
+      kept-before f xs q (q + i) i _ u (omega arith),
+      kept-before f xs q (q + i) (p + i) _ u (omega arith),
+      ap f {x = q + i - q} {y = i} (omega arith),
+      ap f {x = q + i - (q - p)} {y = p + i} (omega arith),
+    ))
 
 pub less-each-step : (f : Row) (xs zs : List Float) (i n len : ℕ) → i < n → n ≤ len → length xs ≡ len → vec xs ≡ withPart f 0 i (lessEach f (vec zs))
     → vec (set xs i (sub binary64 (getD xs i nan) (getD zs i nan))) ≡ withPart f 0 (i + 1) (lessEach f (vec zs))
@@ -69,12 +103,56 @@ pub times-step : (f : Row) (xs zs : List Float) (i n len : ℕ) (m : Float) → 
 unfolding times vec
 times-step f xs zs i n len m l h r e = store f xs i n len _ _ l h r e refl
 
+pub times-own-step : (f : Row) (xs : List Float) (i n len : ℕ) (m : Float) → i < n → n ≤ len → length xs ≡ len → vec xs ≡ withPart f 0 i (times f m)
+    → vec (set xs i (mul binary64 (getD xs i nan) m)) ≡ withPart f 0 (i + 1) (times f m)
+unfolding times
+times-own-step f xs i n len m l h r e = store f xs i n len _ _ l h r e (rw (reached f xs i _ e))
+
 pub combine-step : (f : Row) (xs zs ws : List Float) (i n len : ℕ) (p q r : Float) → i < n → n ≤ len → length xs ≡ len
     → vec xs ≡ withPart f 0 i (combined (vec zs) (vec ws) p q r)
     → vec (set xs i (mul binary64 (sub binary64 (mul binary64 p (getD zs i nan)) (mul binary64 q (getD ws i nan))) r))
     ≡ withPart f 0 (i + 1) (combined (vec zs) (vec ws) p q r)
 unfolding combined vec
 combine-step f xs zs ws i n len p q r l h o e = store f xs i n len _ _ l h o e refl
+
+-- the slice's first i numbers by one rule, and as many from p on by another
+both-none : (f N O : Row) (p : ℕ) → f ≡ withPart (withPart f 0 0 N) p (p + 0) O
+both-none f N O p = rule-none f N 0 ∙ from-none (withPart f 0 0 N) O p
+
+put-before : (f : Row) (i : ℕ) (v : Float) (lo hi : ℕ) (O : Row) → i < lo → put (withPart f lo hi O) i v ≡ withPart (put f i v) lo hi O
+unfolding put withPart
+put-before f i v lo hi O h =
+    fun-ext λ a. test (eqb a i) (λ p. rw (p, lt-leb lo a (omega (arith, eqb-true a i p)))) (λ p. rw p)
+
+both-step : (f : Row) (xs : List Float) (p i n len : ℕ) (N O : Row) (v w : Float) → i < n → n ≤ p → p + n ≤ len → length xs ≡ len
+    → vec xs ≡ withPart (withPart f 0 i N) p (p + i) O → v ≡ N i → w ≡ O (p + i)
+    → vec (set (set xs i v) (p + i) w) ≡ withPart (withPart f 0 (i + 1) N) p (p + (i + 1)) O
+both-step f xs p i n len N O v w l g h r e ev ew =
+    store-from (withPart f 0 (i + 1) N) (set xs i v) p i n len O w l h (length-set xs i v ∙ r)
+    (vec-set xs i v (omega arith) ∙ ap (λ (z : Row). put z i v) e ∙ put-before (withPart f 0 i N) i v p (p + i) O (omega arith)
+    ∙ ap (λ (z : Row). withPart z p (p + i) O) (withPart-step f (withPart f 0 i N) _ 0 i N v (omega arith) refl ev refl))
+    ew
+
+pub combine-own-none : (f : Row) (p : ℕ) (d11 d21 d22 r : Float)
+    → f ≡ withPart (withPart f 0 0 (combined f (ahead p f) d22 d21 r)) p (p + 0) (combined f (behind p f) d11 d21 r)
+combine-own-none f p d11 d21 d22 r = both-none f _ _ p
+
+pub combine-own-step : (f : Row) (xs : List Float) (p i n len : ℕ) (d11 d21 d22 r : Float) → i < n → n ≤ p → p + n ≤ len → length xs ≡ len
+    → vec xs ≡ withPart (withPart f 0 i (combined f (ahead p f) d22 d21 r)) p (p + i) (combined f (behind p f) d11 d21 r)
+    → vec (set (set xs i (mul binary64 (sub binary64 (mul binary64 d22 (getD xs i nan)) (mul binary64 d21 (getD xs (p + i) nan))) r)) (p + i)
+    (mul binary64 (sub binary64 (mul binary64 d11 (getD xs (p + i) nan)) (mul binary64 d21 (getD xs i nan))) r))
+    ≡ withPart (withPart f 0 (i + 1) (combined f (ahead p f) d22 d21 r)) p (p + (i + 1)) (combined f (behind p f) d11 d21 r)
+unfolding combined ahead behind
+combine-own-step f xs p i n len d11 d21 d22 r l g h o e =
+    let s : getD xs i nan ≡ f i = kept-before _ xs p (p + i) i _ e (omega arith) ∙ withPart-past f 0 i _ i (omega arith) in
+    let t : getD xs (p + i) nan ≡ f (p + i) = reached-from _ xs p i _ e ∙ withPart-past f 0 i _ (p + i) (omega arith) in
+    both-step f xs p i n len _ _ _ _ l g h o e
+    (rw (s, t, ap f {x = i + p} {y = p + i} (omega arith)))
+    (rw (s, t, ap f {x = p + i - p} {y = i} (omega arith)))
+
+pub combine-own-end : (f : Row) (xs : List Float) (p i n : ℕ) (N O : Row) → i ≤ n → n ≤ i → vec xs ≡ withPart (withPart f 0 i N) p (p + i) O
+    → vec xs ≡ withPart (withPart f 0 n N) p (p + n) O
+combine-own-end f xs p i n N O h l e = e ∙ ap (λ (k : ℕ). withPart (withPart f 0 k N) p (p + k) O) (le-antisymm h l)
 
 pub blend-step : (f : Row) (xs zs ws : List Float) (i n len : ℕ) (p q : Float) → i < n → n ≤ len → length xs ≡ len
     → vec xs ≡ withPart f 0 i (blended (vec zs) (vec ws) p q)

@@ -1,7 +1,7 @@
 -- What the slice kernels make of place a from the numbers at place a of their operands, each operation rounded, in the order written.
 -- A kernel puts its rule at the first n places, a function over a part at places lo up to hi, a function over a column at rows lo up to hi.
 -- Definitions only. Assumes nothing.
-use Prim.Native.Nat.{ℕ, _+_, _*_, _≤_}
+use Prim.Native.Nat.{ℕ, _+_, _-_, _*_, _<_, _≤_}
 use mathlib.Core.Bool.{cond}
 use lib.Ieee.{Float}
 use Rattle.model.specs.Scalar.{_⊕_, _⊖_, _⊗_, zeroF}
@@ -11,6 +11,13 @@ use Rattle.model.specs.Step.{lessMultiple}
 -- a column as the rows see it
 unfoldable pub columnOf : Mat → ℕ → Row
 columnOf M j = λ a. M a j
+
+-- what stands q places before, and q places on
+unfoldable pub behind : ℕ → Row → Row
+behind q f = λ a. f (a - q)
+
+unfoldable pub ahead : ℕ → Row → Row
+ahead q f = λ a. f (a + q)
 
 -- +0.0
 unfoldable pub zeroed : Row
@@ -73,6 +80,17 @@ pub record FivePre (n x s t u v : ℕ) : Type 0 where
   pub third : n ≤ u
   pub fourth : n ≤ v
 
+-- and of one slice: n numbers from q on, past its first n
+pub record AheadPre (n q x : ℕ) : Type 0 where
+  pub apart : n ≤ q
+  pub out : q + n ≤ x
+
+-- n numbers from q on, past n from p on, past its first n
+pub record TwoAheadPre (n p q x : ℕ) : Type 0 where
+  pub first : n ≤ p
+  pub second : p + n ≤ q
+  pub out : q + n ≤ x
+
 -- ---- what the functions over a part ask
 
 pub record PartPre (lo hi len : ℕ) : Type 0 where
@@ -87,19 +105,25 @@ pub record ColumnPre (n j lo hi len slen : ℕ) : Type 0 where
   pub rows : hi ≤ n
   pub places : hi ≤ slen
 
-pub record ColumnTwoPre (n j lo hi len slen tlen : ℕ) : Type 0 where
-  pub col : n + j * n ≤ len
-  pub up : lo ≤ hi
-  pub rows : hi ≤ n
-  pub first : hi ≤ slen
-  pub second : hi ≤ tlen
-
 -- columns j to j + 3 are there
 pub record ColumnFourPre (n j lo hi len slen : ℕ) : Type 0 where
   pub cols : j * n + 4 * n ≤ len
   pub up : lo ≤ hi
   pub rows : hi ≤ n
   pub places : hi ≤ slen
+
+-- columns k and, past it, j
+pub record LaterPre (n k j lo hi len : ℕ) : Type 0 where
+  pub col : n + j * n ≤ len
+  pub past : k < j
+  pub up : lo ≤ hi
+  pub rows : hi ≤ n
+
+-- rows lo up to hi of column j
+pub record RowsPre (n j lo hi len : ℕ) : Type 0 where
+  pub col : n + j * n ≤ len
+  pub up : lo ≤ hi
+  pub rows : hi ≤ n
 
 pub record ExchangePre (n p q lo hi len : ℕ) : Type 0 where
   pub one : n + p * n ≤ len

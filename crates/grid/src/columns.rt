@@ -1,5 +1,5 @@
-// Rows lo up to hi of a column of a column-major panel, lent to a kernel as a part of the panel. A vector that goes
-// with it holds number i for row i. A reader may rely on the contracts: nothing else of the panel or of the vector
+// Rows lo up to hi of columns of a column-major panel, lent to a kernel as a part of the panel. A vector that goes with
+// them holds number i for row i. A reader may rely on the contracts: nothing else of the panel or of the vector
 // changes.
 use super::kernels;
 ghost use mathlib.Core.Path.{_≡_};
@@ -8,7 +8,7 @@ ghost use lib.ListN.{length};
 ghost use Rattle.model.specs.Matrix.{view, vec, withColumn, withPart};
 ghost use Rattle.grid.specs.Rules.{columnOf, zeroed, lessTimes, lessTimesIf, lessTwo, lessEach, plusTimes};
 ghost use Rattle.grid.specs.Rules.{plusFour, times, combined, columnsExchanged};
-ghost use Rattle.grid.specs.Rules.{PartPre, ColumnPre, ColumnTwoPre, ColumnFourPre, ExchangePre};
+ghost use Rattle.grid.specs.Rules.{PartPre, ColumnPre, ColumnFourPre, LaterPre, RowsPre, ExchangePre};
 
 // Numbers lo up to hi of x become +0.0.
 pub fn zero(x: &mut [f64], lo: usize, hi: usize)
@@ -16,17 +16,6 @@ pub fn zero(x: &mut [f64], lo: usize, hi: usize)
     ensures { λ _. ⌜ vec (now (x .exit)) ≡ withPart (vec (now (x .entry))) lo hi zeroed ⌝ }
 {
     kernels::zero(&mut x[lo..hi]);
-}
-
-// Numbers lo up to hi of x become those rows of column j.
-pub fn copy(x: &mut [f64], panel: &[f64], nrow: usize, j: usize, lo: usize, hi: usize)
-    requires { ⌜ ColumnPre nrow j lo hi (length (now panel)) (length (now x)) ⌝ }
-    ensures { λ _. ⌜ vec (now (x .exit))
-        ≡ withPart (vec (now (x .entry))) lo hi (columnOf (view nrow (now (panel .entry))) j) ⌝ }
-{
-    let a = lo + j * nrow;
-    let b = hi + j * nrow;
-    kernels::copy(&mut x[lo..hi], &panel[a..b], hi - lo);
 }
 
 // Numbers lo up to hi of x gain those rows of column j times l.
@@ -83,38 +72,42 @@ pub fn plus_four(
     );
 }
 
-// Rows lo up to hi of column j become s times r.
-pub fn scale(panel: &mut [f64], nrow: usize, j: usize, lo: usize, hi: usize, s: &[f64], r: f64)
-    requires { ⌜ ColumnPre nrow j lo hi (length (now panel)) (length (now s)) ⌝ }
+// Rows lo up to hi of column j become r times as large.
+pub fn scale(panel: &mut [f64], nrow: usize, j: usize, lo: usize, hi: usize, r: f64)
+    requires { ⌜ RowsPre nrow j lo hi (length (now panel)) ⌝ }
     ensures { λ _. ⌜ view nrow (now (panel .exit))
-        ≡ withColumn (view nrow (now (panel .entry))) j lo hi (times (vec (now (s .entry))) r) ⌝ }
+        ≡ withColumn (view nrow (now (panel .entry))) j lo hi
+        (times (columnOf (view nrow (now (panel .entry))) j) r) ⌝ }
 {
     let a = lo + j * nrow;
     let b = hi + j * nrow;
-    kernels::scale(&mut panel[a..b], &s[lo..hi], hi - lo, r);
+    kernels::scale_own(&mut panel[a..b], hi - lo, r);
 }
 
-// Rows lo up to hi of column j become (p·s − q·t)·r.
+// Rows lo up to hi of columns k and k + 1, s and t, become (d22·s − d21·t)·r and (d11·t − d21·s)·r.
 pub fn combine(
     panel: &mut [f64],
     nrow: usize,
-    j: usize,
+    k: usize,
     lo: usize,
     hi: usize,
-    s: &[f64],
-    t: &[f64],
-    p: f64,
-    q: f64,
+    d11: f64,
+    d21: f64,
+    d22: f64,
     r: f64,
 )
-    requires { ⌜ ColumnTwoPre nrow j lo hi (length (now panel)) (length (now s)) (length (now t)) ⌝ }
+    requires { ⌜ RowsPre nrow (k + 1) lo hi (length (now panel)) ⌝ }
     ensures { λ _. ⌜ view nrow (now (panel .exit))
-        ≡ withColumn (view nrow (now (panel .entry))) j lo hi
-        (combined (vec (now (s .entry))) (vec (now (t .entry))) p q r) ⌝ }
+        ≡ withColumn
+        (withColumn (view nrow (now (panel .entry))) k lo hi
+        (combined (columnOf (view nrow (now (panel .entry))) k) (columnOf (view nrow (now (panel .entry))) (k + 1))
+        d22 d21 r)) (k + 1) lo hi
+        (combined (columnOf (view nrow (now (panel .entry))) (k + 1)) (columnOf (view nrow (now (panel .entry))) k)
+        d11 d21 r) ⌝ }
 {
-    let a = lo + j * nrow;
-    let b = hi + j * nrow;
-    kernels::combine(&mut panel[a..b], &s[lo..hi], &t[lo..hi], hi - lo, p, q, r);
+    let a = lo + k * nrow;
+    let b = hi + k * nrow + nrow;
+    kernels::combine_own(&mut panel[a..b], nrow, hi - lo, d11, d21, d22, r);
 }
 
 // Rows lo up to hi of column j lose s.
@@ -129,50 +122,53 @@ pub fn less_each(panel: &mut [f64], nrow: usize, j: usize, lo: usize, hi: usize,
     kernels::less_each(&mut panel[a..b], &s[lo..hi], hi - lo);
 }
 
-// Rows lo up to hi of column j lose s times m.
-fn less(panel: &mut [f64], nrow: usize, j: usize, lo: usize, hi: usize, s: &[f64], m: f64)
-    requires { ⌜ ColumnPre nrow j lo hi (length (now panel)) (length (now s)) ⌝ }
+// Rows lo up to hi of column j lose those of column k, which stands before it, times m. What is lent begins with them:
+// the part of the panel from lo + k·nrow on.
+fn less(panel: &mut [f64], nrow: usize, k: usize, j: usize, lo: usize, hi: usize, m: f64)
+    requires { ⌜ LaterPre nrow k j lo hi (length (now panel)) ⌝ }
     ensures { λ _. ⌜ view nrow (now (panel .exit))
         ≡ withColumn (view nrow (now (panel .entry))) j lo hi
-        (lessTimes (columnOf (view nrow (now (panel .entry))) j) (vec (now (s .entry))) m) ⌝ }
+        (lessTimes (columnOf (view nrow (now (panel .entry))) j) (columnOf (view nrow (now (panel .entry))) k) m) ⌝ }
 {
-    let a = lo + j * nrow;
-    let b = hi + j * nrow;
-    kernels::less(&mut panel[a..b], &s[lo..hi], hi - lo, m);
+    let a = lo + k * nrow;
+    let x = lo + j * nrow;
+    let e = hi + j * nrow;
+    kernels::less_ahead(&mut panel[a..e], x - a, hi - lo, m);
 }
 
 // The same, and nothing where m is a zero of either sign.
-pub fn less_if(panel: &mut [f64], nrow: usize, j: usize, lo: usize, hi: usize, s: &[f64], m: f64)
-    requires { ⌜ ColumnPre nrow j lo hi (length (now panel)) (length (now s)) ⌝ }
+pub fn less_if(panel: &mut [f64], nrow: usize, k: usize, j: usize, lo: usize, hi: usize, m: f64)
+    requires { ⌜ LaterPre nrow k j lo hi (length (now panel)) ⌝ }
     ensures { λ _. ⌜ view nrow (now (panel .exit))
         ≡ withColumn (view nrow (now (panel .entry))) j lo hi
-        (lessTimesIf (columnOf (view nrow (now (panel .entry))) j) (vec (now (s .entry))) m) ⌝ }
+        (lessTimesIf (columnOf (view nrow (now (panel .entry))) j) (columnOf (view nrow (now (panel .entry))) k) m) ⌝ }
 {
     if m != 0.0 {
-        less(panel, nrow, j, lo, hi, s, m);
+        less(panel, nrow, k, j, lo, hi, m);
     }
 }
 
-// Rows lo up to hi of column j lose s times m1, then t times m2.
+// Rows lo up to hi of column j lose those of column k times m1, then those of column k + 1 times m2; both stand before j.
 pub fn less_two(
     panel: &mut [f64],
     nrow: usize,
+    k: usize,
     j: usize,
     lo: usize,
     hi: usize,
-    s: &[f64],
-    t: &[f64],
     m1: f64,
     m2: f64,
 )
-    requires { ⌜ ColumnTwoPre nrow j lo hi (length (now panel)) (length (now s)) (length (now t)) ⌝ }
+    requires { ⌜ LaterPre nrow (k + 1) j lo hi (length (now panel)) ⌝ }
     ensures { λ _. ⌜ view nrow (now (panel .exit))
         ≡ withColumn (view nrow (now (panel .entry))) j lo hi
-        (lessTwo (columnOf (view nrow (now (panel .entry))) j) (vec (now (s .entry))) (vec (now (t .entry))) m1 m2) ⌝ }
+        (lessTwo (columnOf (view nrow (now (panel .entry))) j) (columnOf (view nrow (now (panel .entry))) k)
+        (columnOf (view nrow (now (panel .entry))) (k + 1)) m1 m2) ⌝ }
 {
-    let a = lo + j * nrow;
-    let b = hi + j * nrow;
-    kernels::less_two(&mut panel[a..b], &s[lo..hi], &t[lo..hi], hi - lo, m1, m2);
+    let a = lo + k * nrow;
+    let x = lo + j * nrow;
+    let e = hi + j * nrow;
+    kernels::less_two_ahead(&mut panel[a..e], nrow, x - a, hi - lo, m1, m2);
 }
 
 // Rows lo up to hi of columns p and q, one for the other; nothing where they are the same column.

@@ -1,12 +1,13 @@
-// Loops over the first n numbers of separate slices, which vectorise: no branch, no call, and at each place the
-// operations of its rule alone, in their order. A reader may rely on the contracts: what is not among the first n
-// stays.
+// Loops over n numbers, which vectorise: no branch, no call, and at each place the operations of its rule alone, in
+// their order. The operands are separate slices, or stand in the slice that is written: its first numbers, with what
+// is written further on. A reader may rely on the contracts: what is not among the n numbers stays.
 ghost use mathlib.Core.Path.{_≡_};
+ghost use Prim.Native.Nat.{_+_, _-_, _≤_};
 ghost use lib.ListN.{length, replicate};
 ghost use Rattle.model.specs.Scalar.{zeroF};
 ghost use Rattle.model.specs.Matrix.{vec, withPart};
 ghost use Rattle.grid.specs.Rules.{lessTimes, lessTwo, lessEach, plusTimes, plusFour, times, combined, blended};
-ghost use Rattle.grid.specs.Rules.{TwoPre, ThreePre, FivePre};
+ghost use Rattle.grid.specs.Rules.{behind, ahead, TwoPre, ThreePre, FivePre, AheadPre, TwoAheadPre};
 
 // All numbers become +0.0.
 pub fn zero(x: &mut [f64])
@@ -45,26 +46,28 @@ pub fn copy(x: &mut [f64], s: &[f64], n: usize)
     }
 }
 
-// x − s·m.
-pub fn less(x: &mut [f64], s: &[f64], n: usize, m: f64)
-    requires { ⌜ TwoPre n (length (now x)) (length (now s)) ⌝ }
+// x − s·m, where the n numbers x begin at q and s are the slice's first.
+pub fn less_ahead(x: &mut [f64], q: usize, n: usize, m: f64)
+    requires { ⌜ AheadPre n q (length (now x)) ⌝ }
     ensures { λ _. ⌜ vec (now (x .exit))
-        ≡ withPart (vec (now (x .entry))) 0 n (lessTimes (vec (now (x .entry))) (vec (now (s .entry))) m) ⌝ }
+        ≡ withPart (vec (now (x .entry))) q (q + n)
+        (lessTimes (vec (now (x .entry))) (behind q (vec (now (x .entry)))) m) ⌝ }
 {
     for i in 0..n {
-        x[i] = x[i] - s[i] * m;
+        x[q + i] = x[q + i] - x[i] * m;
     }
 }
 
-// (x − s·m1) − t·m2.
-pub fn less_two(x: &mut [f64], s: &[f64], t: &[f64], n: usize, m1: f64, m2: f64)
-    requires { ⌜ ThreePre n (length (now x)) (length (now s)) (length (now t)) ⌝ }
+// (x − s·m1) − t·m2, where the n numbers x begin at q, s are the slice's first, and t begin at p.
+pub fn less_two_ahead(x: &mut [f64], p: usize, q: usize, n: usize, m1: f64, m2: f64)
+    requires { ⌜ TwoAheadPre n p q (length (now x)) ⌝ }
     ensures { λ _. ⌜ vec (now (x .exit))
-        ≡ withPart (vec (now (x .entry))) 0 n
-        (lessTwo (vec (now (x .entry))) (vec (now (s .entry))) (vec (now (t .entry))) m1 m2) ⌝ }
+        ≡ withPart (vec (now (x .entry))) q (q + n)
+        (lessTwo (vec (now (x .entry))) (behind q (vec (now (x .entry)))) (behind (q - p) (vec (now (x .entry))))
+        m1 m2) ⌝ }
 {
     for i in 0..n {
-        x[i] = x[i] - s[i] * m1 - t[i] * m2;
+        x[q + i] = x[q + i] - x[i] * m1 - x[p + i] * m2;
     }
 }
 
@@ -124,6 +127,16 @@ pub fn scale(x: &mut [f64], s: &[f64], n: usize, r: f64)
     }
 }
 
+// x·r.
+pub fn scale_own(x: &mut [f64], n: usize, r: f64)
+    requires { ⌜ n ≤ length (now x) ⌝ }
+    ensures { λ _. ⌜ vec (now (x .exit)) ≡ withPart (vec (now (x .entry))) 0 n (times (vec (now (x .entry))) r) ⌝ }
+{
+    for i in 0..n {
+        x[i] = x[i] * r;
+    }
+}
+
 // (p·s − q·t)·r: twice, with s and t exchanged, a block's two multipliers.
 pub fn combine(x: &mut [f64], s: &[f64], t: &[f64], n: usize, p: f64, q: f64, r: f64)
     requires { ⌜ ThreePre n (length (now x)) (length (now s)) (length (now t)) ⌝ }
@@ -132,6 +145,23 @@ pub fn combine(x: &mut [f64], s: &[f64], t: &[f64], n: usize, p: f64, q: f64, r:
 {
     for i in 0..n {
         x[i] = (p * s[i] - q * t[i]) * r;
+    }
+}
+
+// Of the slice's first n numbers s and the n numbers t from p on: (d22·s − d21·t)·r and (d11·t − d21·s)·r.
+pub fn combine_own(x: &mut [f64], p: usize, n: usize, d11: f64, d21: f64, d22: f64, r: f64)
+    requires { ⌜ AheadPre n p (length (now x)) ⌝ }
+    ensures { λ _. ⌜ vec (now (x .exit))
+        ≡ withPart
+        (withPart (vec (now (x .entry))) 0 n
+        (combined (vec (now (x .entry))) (ahead p (vec (now (x .entry)))) d22 d21 r)) p (p + n)
+        (combined (vec (now (x .entry))) (behind p (vec (now (x .entry)))) d11 d21 r) ⌝ }
+{
+    for i in 0..n {
+        let s = x[i];
+        let t = x[p + i];
+        x[i] = (d22 * s - d21 * t) * r;
+        x[p + i] = (d11 * t - d21 * s) * r;
     }
 }
 

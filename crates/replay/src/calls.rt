@@ -11,7 +11,7 @@ use model::Applied;
 use model::Mode;
 use model::Settings;
 
-// Room for the lists of a case: of columns, entries or pivots; of rows; of the numbers of a panel or a working buffer.
+// Room for the lists of a case: of pivots or entries; of rows; of the numbers of a panel or a working buffer.
 const COLUMNS: usize = 130;
 
 const ROWS: usize = 1026;
@@ -230,13 +230,13 @@ pub fn update_case(fd: i32) -> bool {
     file::counts(fd, 4, &mut n);
     file::global_rows(fd, 1, &mut first);
     file::counts(fd, 7, &mut m);
-    let mut of_rows = [0u32; ROWS];
+    let mut of_rows = [0u32; file::GLOBAL_ROWS];
     let mut of_panel = room(0.0);
     let mut of_kpanel = room(0.0);
     let mut of_kd = [0.0; COLUMNS];
     let mut of_ksub = [0.0; COLUMNS];
     let mut of_kblocks = [0u8; COLUMNS];
-    let mut of_krows = [0u32; ROWS];
+    let mut of_krows = [0u32; file::GLOBAL_ROWS];
     let rows = file::global_rows(fd, m[0], &mut of_rows);
     let panel = file::numbers(fd, m[1], &mut of_panel);
     let kpanel = file::numbers(fd, m[2], &mut of_kpanel);

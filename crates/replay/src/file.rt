@@ -7,7 +7,7 @@ ghost use lib.ListN.{length};
 // The most numbers, global rows, counts and bytes of a chunk.
 const NUMBERS: usize = 512;
 
-const GLOBAL_ROWS: usize = 1024;
+pub const GLOBAL_ROWS: usize = 1024;
 
 const COUNTS: usize = 2048;
 

@@ -64,7 +64,7 @@ past-one bs k h = rw (ne-eqb (getD bs k 0) 1 h)
 
 -- ---- what a step asks
 
-module _ (nrow ncol nb kb ke k len lenM ld ls lb lp l1 l2 : ℕ) (bs ps : List ℕ) (sizes : TailPre nrow ncol nb kb ke len lenM ld ls lb lp l1 l2)
+module _ (nrow ncol nb kb ke k len lenM ld ls lb lp : ℕ) (bs ps : List ℕ) (sizes : TailPre nrow ncol nb kb ke len lenM ld ls lb lp)
     (steps : StepsPre ke (bytes bs) (bytes ps)) (here : k < ke) where
   pair-in : getD bs k 0 ≡ 1 → k + 1 < ke
   unfolding bytes
@@ -80,7 +80,7 @@ module _ (nrow ncol nb kb ke k len lenM ld ls lb lp l1 l2 : ℕ) (bs ps : List �
   pub past-fits : getD bs k 0 ≡ 1 → Fits w64 ke → Fits w64 (k + 2)
   past-fits e h = record { fits = omega (arith, pair-in e, h .fits) }
 
-  pub two-in : kb ≤ k → getD bs k 0 ≡ 1 → TwoPre nrow ncol nb kb ke k len lenM l1 l2
+  pub two-in : kb ≤ k → getD bs k 0 ≡ 1 → TwoPre nrow ncol nb kb ke k len lenM
   two-in f e =
       record {
         size = sizes .size;
@@ -90,8 +90,6 @@ module _ (nrow ncol nb kb ke k len lenM ld ls lb lp l1 l2 : ℕ) (bs ps : List �
         width = sizes .width;
         from = f;
         here = pair-in e;
-        first = sizes .first;
-        second = sizes .second;
       }
 
 -- ---- the loop
@@ -148,6 +146,6 @@ pub tail-from : (bs : List ℕ) (kb k l : ℕ) → kb ≤ k → l ≡ pastOf (by
 tail-from bs kb k l h e = omega (arith, past-more (bytes bs) k)
 
 -- a turn keeps the lengths
-pub sizes-kept : (nrow ncol nb kb ke len lenM ld ls lb lp l1 l2 len′ l1′ l2′ : ℕ) → TailPre nrow ncol nb kb ke len lenM ld ls lb lp l1 l2
-    → len′ ≡ len → l1′ ≡ l1 → l2′ ≡ l2 → TailPre nrow ncol nb kb ke len′ lenM ld ls lb lp l1′ l2′
-sizes-kept nrow ncol nb kb ke len lenM ld ls lb lp l1 l2 len′ l1′ l2′ sizes a b c = rw (a, b, c) sizes
+pub sizes-kept : (nrow ncol nb kb ke len lenM ld ls lb lp len′ : ℕ) → TailPre nrow ncol nb kb ke len lenM ld ls lb lp → len′ ≡ len
+    → TailPre nrow ncol nb kb ke len′ lenM ld ls lb lp
+sizes-kept nrow ncol nb kb ke len lenM ld ls lb lp len′ sizes a = rw a sizes

@@ -13,8 +13,8 @@ unfoldable pub pivotsOf : List Float → List Float → List ℕ → List ℕ �
 pivotsOf d sub blocks partners =
     record { d = vec d; sub = vec sub; amounts = λ i. zeroF; blocks = bytes blocks; lifts = λ i. 0; order = λ i. i; partners = bytes partners }
 
--- the sizes: the panel, the multipliers' buffer, the four arrays by column, two scratches
-pub record TailPre (nrow ncol nb kb ke len lenM ld ls lb lp l1 l2 : ℕ) : Type 0 where
+-- the sizes: the panel, the multipliers' buffer, the four arrays by column
+pub record TailPre (nrow ncol nb kb ke len lenM ld ls lb lp : ℕ) : Type 0 where
   pub size : len ≡ nrow * ncol
   pub square : lenM ≡ nb * nb
   pub head : ncol ≤ nrow
@@ -24,8 +24,6 @@ pub record TailPre (nrow ncol nb kb ke len lenM ld ls lb lp l1 l2 : ℕ) : Type 
   pub inSub : ke ≤ ls
   pub inBlocks : ke ≤ lb
   pub inPartners : ke ≤ lp
-  pub first : nrow ≤ l1
-  pub second : nrow ≤ l2
 
 -- every block that begins before ke ends before ke, and every partner stands before ke
 pub record StepsPre (ke : ℕ) (blocks partners : ℕ → ℕ) : Type 0 where

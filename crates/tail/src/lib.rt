@@ -29,8 +29,7 @@ fn block_at(d: &[f64], sub: &[f64], k: usize) -> Block
     }
 }
 
-// The step at column k on the rows from ke down, each column lent from `ke + j·nrow` on. The answer is the column after
-// the pivot.
+// The step at column k on the rows from ke down, lent from `ke + k·nrow` on. The answer is the column after the pivot.
 fn tail_step(
     panel: &mut [f64],
     mult: &[f64],
@@ -38,8 +37,6 @@ fn tail_step(
     sub: &[f64],
     blocks: &[u8],
     partners: &[usize],
-    s: &mut [f64],
-    t: &mut [f64],
     nrow: usize,
     ncol: usize,
     nb: usize,
@@ -48,7 +45,7 @@ fn tail_step(
     k: usize,
 ) -> usize
     requires { ⌜ TailPre nrow ncol nb kb ke (length (now panel)) (length (now mult)) (length (now d))
-        (length (now sub)) (length (now blocks)) (length (now partners)) (length (now s)) (length (now t)) ⌝ }
+        (length (now sub)) (length (now blocks)) (length (now partners)) ⌝ }
     requires { ⌜ StepsPre ke (bytes (now blocks)) (bytes (now partners)) ⌝ }
     requires { ⌜ (kb ≤ k) × (k < ke) ⌝ }
     ensures { λ _. ⌜ view nrow (now (panel .exit))
@@ -60,16 +57,15 @@ fn tail_step(
     let kp = partners[k];
     if blocks[k] == 1 {
         let b = block_at(d, sub, k);
-        below_two(panel, mult, s, t, nrow, ncol, nb, kb, ke, k, kp, b);
+        below_two(panel, mult, nrow, ncol, nb, kb, ke, k, kp, b);
         return k + 2;
     }
-    below_one(panel, mult, s, nrow, ncol, nb, kb, ke, k, kp, d[k]);
+    below_one(panel, mult, nrow, ncol, nb, kb, ke, k, kp, d[k]);
     k + 1
 }
 
 // The rows from ke down after the panel of columns kb to ke.
-// in: mult, the panel's multipliers; d, sub, blocks and partners by column / in and out: panel / work: s and t, nrow
-// numbers each, any on entry
+// in: mult, the panel's multipliers; d, sub, blocks and partners by column / in and out: panel
 // origin: src/numeric/ldlt/bunch_kaufman.rs, fn apply_bk_panel_trailing
 pub fn apply_bk_panel_trailing(
     panel: &mut [f64],
@@ -78,8 +74,6 @@ pub fn apply_bk_panel_trailing(
     sub: &[f64],
     blocks: &[u8],
     partners: &[usize],
-    s: &mut [f64],
-    t: &mut [f64],
     nrow: usize,
     ncol: usize,
     nb: usize,
@@ -87,7 +81,7 @@ pub fn apply_bk_panel_trailing(
     ke: usize,
 )
     requires { ⌜ TailPre nrow ncol nb kb ke (length (now panel)) (length (now mult)) (length (now d))
-        (length (now sub)) (length (now blocks)) (length (now partners)) (length (now s)) (length (now t)) ⌝ }
+        (length (now sub)) (length (now blocks)) (length (now partners)) ⌝ }
     requires { ⌜ StepsPre ke (bytes (now blocks)) (bytes (now partners)) ⌝ }
     ensures { λ _. ⌜ view nrow (now (panel .exit))
         ≡ below ke nrow (rowAfterSteps
@@ -103,8 +97,6 @@ pub fn apply_bk_panel_trailing(
             sub,
             blocks,
             partners,
-            s,
-            t,
             nrow,
             ncol,
             nb,

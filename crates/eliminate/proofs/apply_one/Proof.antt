@@ -1,6 +1,6 @@
 -- `eliminate::apply_one` meets its contract: the sweep, then the pivot's column. Assumes nothing.
 use borrow.Author.Needs.{needs}
-use Rattle.eliminate.proofs.Calls.{scale-pre}
+use Rattle.eliminate.proofs.Calls.{own-pre}
 use Rattle.eliminate.proofs.Rows.{one-applied}
 use Rattle.eliminate.proofs.apply_one.Statement.{statement}
 use Rattle.eliminate.proofs.apply_one.Tie as tie
@@ -12,7 +12,7 @@ reciprocal-requires : tie.Need-reciprocal-requires
 reciprocal-requires c κs = search needs
 
 scale-requires : tie.Need-scale-requires
-scale-requires c κs = search (needs, scale-pre)
+scale-requires c κs = search (needs, own-pre)
 
 same-length : tie.Need-same-length
 same-length c = search needs

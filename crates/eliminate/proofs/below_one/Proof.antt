@@ -1,6 +1,6 @@
 -- `eliminate::below_one` meets its contract: columns make the model's rows. Assumes nothing.
 use borrow.Author.Needs.{needs}
-use Rattle.eliminate.proofs.Calls.{exchange-pre, below-copy-pre}
+use Rattle.eliminate.proofs.Calls.{exchange-pre}
 use Rattle.eliminate.proofs.Rows.{one-below}
 use Rattle.eliminate.proofs.below_one.Statement.{statement}
 use Rattle.eliminate.proofs.below_one.Tie as tie
@@ -8,22 +8,14 @@ use Rattle.eliminate.proofs.below_one.Tie as tie
 exchange-requires : tie.Need-exchange-requires
 exchange-requires c κs = search (needs, exchange-pre)
 
-copy-requires : tie.Need-copy-requires
-copy-requires c κs = search (needs, below-copy-pre)
-
 apply-one-requires : tie.Need-apply-one-requires
 apply-one-requires c κs = search needs
 
 same-length : tie.Need-same-length
 same-length c = search needs
 
-same-length-2 : tie.Need-same-length-2
-same-length-2 c = search needs
-
 returns : tie.Need-returns
 returns c = search (needs, one-below)
 
 pub below-one-spec : {M : Type 1} → statement M
-below-one-spec =
-    tie.close
-    (tie.spec exchange-requires copy-requires apply-one-requires same-length same-length-2 returns)
+below-one-spec = tie.close (tie.spec exchange-requires apply-one-requires same-length returns)

@@ -1,15 +1,9 @@
 -- `eliminate::head_one` meets its contract: columns make the model's rows. Assumes nothing.
 use borrow.Author.Needs.{needs}
-use Rattle.eliminate.proofs.Calls.{one-copy-pre, one-keep-pre, diagonal-in}
+use Rattle.eliminate.proofs.Calls.{one-keep-pre, source-pre, diagonal-in}
 use Rattle.eliminate.proofs.Rows.{one-head, one-kept}
 use Rattle.eliminate.proofs.head_one.Statement.{statement}
 use Rattle.eliminate.proofs.head_one.Tie as tie
-
-add-copy : tie.Need-add-copy
-add-copy c = search needs
-
-copy-requires : tie.Need-copy-requires
-copy-requires c κs = search (needs, one-copy-pre)
 
 add-keep-one : tie.Need-add-keep-one
 add-keep-one c = search needs
@@ -18,7 +12,7 @@ reciprocal-requires : tie.Need-reciprocal-requires
 reciprocal-requires c κs = search needs
 
 keep-one-requires : tie.Need-keep-one-requires
-keep-one-requires c κs = search (needs, one-keep-pre)
+keep-one-requires c κs = (search (needs, one-keep-pre), search (needs, source-pre))
 
 add-apply-one : tie.Need-add-apply-one
 add-apply-one c = search needs
@@ -35,18 +29,19 @@ same-length c = search needs
 same-length-2 : tie.Need-same-length-2
 same-length-2 c = search needs
 
-same-length-3 : tie.Need-same-length-3
-same-length-3 c = search needs
-
 returns : tie.Need-returns
-returns c = (search (needs, one-head), search (needs, one-kept))
+returns c =
+    let put = c .before .before in
+    let swept = put .before .before .before .before in
+    let kept = swept .before .before .before .before .before in
+    let r = kept .before .reciprocal .ensures in
+    let e = kept .keep-one .ensures in
+    (one-head _ _ _ _ _ _ _ r e _ _ (swept .apply-one .ensures) (put .put .ensures), one-kept _ _ _ _ _ _ _ r e)
 
 pub head-one-spec : {M : Type 1} → statement M
 head-one-spec =
     tie.close
     (tie.spec
-    add-copy
-    copy-requires
     add-keep-one
     reciprocal-requires
     keep-one-requires
@@ -55,5 +50,4 @@ head-one-spec =
     put-requires
     same-length
     same-length-2
-    same-length-3
     returns)

@@ -4,8 +4,8 @@ use Rattle.eliminate.proofs.Rows.{two-head}
 use Rattle.eliminate.proofs.head_two.Statement.{statement}
 use Rattle.eliminate.proofs.head_two.Tie as tie
 
-prepare-two-requires : tie.Need-prepare-two-requires
-prepare-two-requires c κs = search needs
+keep-block-requires : tie.Need-keep-block-requires
+keep-block-requires c κs = search needs
 
 add-apply-two : tie.Need-add-apply-two
 add-apply-two c = search needs
@@ -19,12 +19,6 @@ same-length c = search needs
 same-length-2 : tie.Need-same-length-2
 same-length-2 c = search needs
 
-same-length-3 : tie.Need-same-length-3
-same-length-3 c = search needs
-
-same-length-4 : tie.Need-same-length-4
-same-length-4 c = search needs
-
 returns : tie.Need-returns
 returns c = (search (needs, two-head), search needs)
 
@@ -32,11 +26,9 @@ pub head-two-spec : {M : Type 1} → statement M
 head-two-spec =
     tie.close
     (tie.spec
-    prepare-two-requires
+    keep-block-requires
     add-apply-two
     apply-two-requires
     same-length
     same-length-2
-    same-length-3
-    same-length-4
     returns)

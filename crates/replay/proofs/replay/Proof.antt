@@ -1,4 +1,5 @@
--- `replay::replay` is safe and ends. The invariant: at most as many cases differ as were replayed. The measure is the number of cases left. Assumes nothing.
+-- `replay::replay` is safe and ends.
+-- The invariant: at most as many cases differ as were replayed. The measure is the number of cases left. Assumes nothing.
 use Prim.Native.Nat.{_-_, _≤_}
 use mathlib.Core.Logic.{⊎-elim}
 use native.Mathlib.Omega.{arith}

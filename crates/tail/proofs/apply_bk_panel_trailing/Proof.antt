@@ -14,50 +14,42 @@ use Rattle.tail.proofs.apply_bk_panel_trailing.Statement.{statement}
 use Rattle.tail.proofs.apply_bk_panel_trailing.Tie as tie
 
 abbrev Inv-loop : tie.InvT-loop
-Inv-loop panel₀ mult d sub blocks partners s₀ t₀ nrow ncol nb kb ke k₀ panel s t k =
-    (kb ≤ k) × (length panel ≡ length panel₀) × (length s ≡ length s₀) × (length t ≡ length t₀)
+Inv-loop panel₀ mult d sub blocks partners nrow ncol nb kb ke k₀ panel k =
+    (kb ≤ k) × (length panel ≡ length panel₀)
     × (below ke nrow (rowAfterSteps (pivotsOf d sub blocks partners) (inPanel kb ke (view nb mult)) ke (ke - k) k) (view nrow panel)
     ≡ below ke nrow (rowAfterSteps (pivotsOf d sub blocks partners) (inPanel kb ke (view nb mult)) ke (ke - kb) kb) (view nrow panel₀))
 
 abbrev μ-loop : tie.MeasureT-loop
-μ-loop panel₀ mult d sub blocks partners s₀ t₀ nrow ncol nb kb ke k₀ panel s t k = ke - k
+μ-loop panel₀ mult d sub blocks partners nrow ncol nb kb ke k₀ panel k = ke - k
 
 loop-holds : tie.Need-loop-holds Inv-loop μ-loop
-loop-holds c = (search needs, refl, refl, refl, refl)
+loop-holds c = (search needs, refl, refl)
 
 tail-step-requires : tie.Need-tail-step-requires Inv-loop μ-loop
 tail-step-requires c κs =
-    let turn = c .before .before .before in
-    let start = turn .before .before .before .before .before .before .before .before .before .before in
+    let turn = c .before in
+    let start = turn .before .before .before .before .before .before .before .before in
     let inv = turn .before .loop .inv in
-    (sizes-kept _ _ _ _ _ _ _ _ _ _ _ _ _ _ _ _ (start .pre .0) (inv .1) (inv .2) (inv .3), (start .pre .1, (inv .0, turn .loop-test .taken)))
+    (sizes-kept _ _ _ _ _ _ _ _ _ _ _ _ (start .pre .0) (inv .1), (start .pre .1, (inv .0, turn .loop-test .taken)))
 
 loop-less : tie.Need-loop-less Inv-loop μ-loop
 loop-less c =
-    let called = c .before .before .before .before .before .before in
-    let turn = called .before .before .before .before in
+    let called = c .before .before in
+    let turn = called .before .before in
     tail-less _ _ _ _ (turn .loop-test .taken) (called .tail-step .ensures .1)
 
 loop-again : tie.Need-loop-again Inv-loop μ-loop
 loop-again c =
-    let called = c .before .before .before .before .before .before in
-    let turn = called .before .before .before .before in
+    let called = c .before .before in
+    let turn = called .before .before in
     let inv = turn .before .loop .inv in (
       tail-from _ _ _ _ (inv .0) (called .tail-step .ensures .1),
       search needs,
-      search needs,
-      search needs,
-      tail-step _ _ _ _ _ _ _ _ _ _ _ _ (turn .loop-test .taken) (inv .4) (called .tail-step .ensures .0) (called .tail-step .ensures .1),
+      tail-step _ _ _ _ _ _ _ _ _ _ _ _ (turn .loop-test .taken) (inv .2) (called .tail-step .ensures .0) (called .tail-step .ensures .1),
     )
 
 same-length : tie.Need-same-length Inv-loop μ-loop
 same-length c = search needs
-
-same-length-2 : tie.Need-same-length-2 Inv-loop μ-loop
-same-length-2 c = search needs
-
-same-length-3 : tie.Need-same-length-3 Inv-loop μ-loop
-same-length-3 c = search needs
 
 returns : tie.Need-returns Inv-loop μ-loop
 returns c = search tail-end
@@ -73,6 +65,4 @@ apply-bk-panel-trailing-spec =
     loop-less
     loop-again
     same-length
-    same-length-2
-    same-length-3
     returns)

@@ -15,26 +15,20 @@ shared-slice-read-if1 c = search needs
 
 block-at-requires : tie.Need-block-at-requires
 block-at-requires c κs =
-    let start = c .before .before .before .before .before .before .before .before .before .before .before in
-    block-in _ _ _ _ _ _ _ _ _ _ _ _ _ _ _ _ (start .pre .0) (start .pre .1 .0) (start .pre .1 .1 .1) (c .if1 .taken)
+    let start = c .before .before .before .before .before .before .before .before .before in
+    block-in _ _ _ _ _ _ _ _ _ _ _ _ _ _ (start .pre .0) (start .pre .1 .0) (start .pre .1 .1 .1) (c .if1 .taken)
 
 below-two-requires : tie.Need-below-two-requires
 below-two-requires c κs = (search (needs, two-in), search partner-in)
 
 add-result : tie.Need-add-result
 add-result c =
-    let then = c .before .before .before .before .before .before .before .before .before .before .before in
-    let start = then .before .before .before .before .before .before .before .before .before .before .before in
-    past-fits _ _ _ _ _ _ _ _ _ _ _ _ _ _ _ _ (start .pre .0) (start .pre .1 .0) (start .pre .1 .1 .1) (then .if1 .taken) (start .fits .ke)
+    let then = c .before .before .before .before .before in
+    let start = then .before .before .before .before .before .before .before .before .before in
+    past-fits _ _ _ _ _ _ _ _ _ _ _ _ _ _ (start .pre .0) (start .pre .1 .0) (start .pre .1 .1 .1) (then .if1 .taken) (start .fits .ke)
 
 same-length : tie.Need-same-length
 same-length c = search needs
-
-same-length-2 : tie.Need-same-length-2
-same-length-2 c = search needs
-
-same-length-3 : tie.Need-same-length-3
-same-length-3 c = search needs
 
 returns : tie.Need-returns
 returns c = (search (needs, step-two), search (needs, past-two))
@@ -51,11 +45,8 @@ below-one-requires c κs = (search needs, search partner-in)
 add-result-2 : tie.Need-add-result-2
 add-result-2 c = search needs
 
-same-length-4 : tie.Need-same-length-4
-same-length-4 c = search needs
-
-same-length-5 : tie.Need-same-length-5
-same-length-5 c = search needs
+same-length-2 : tie.Need-same-length-2
+same-length-2 c = search needs
 
 returns-2 : tie.Need-returns-2
 returns-2 c = (search (needs, step-one), search (needs, past-one))
@@ -71,13 +62,10 @@ tail-step-spec =
     below-two-requires
     add-result
     same-length
-    same-length-2
-    same-length-3
     returns
     mul-below-one
     shared-slice-read-below-one
     below-one-requires
     add-result-2
-    same-length-4
-    same-length-5
+    same-length-2
     returns-2)

@@ -26,8 +26,8 @@ enum-told-2 c = search needs
 enum-known-settled : tie.Need-enum-known-settled
 enum-known-settled c = search needs
 
-eliminate-pair-requires : tie.Need-eliminate-pair-requires
-eliminate-pair-requires c κs = search needs
+head-two-requires : tie.Need-head-two-requires
+head-two-requires c κs = search needs
 
 same-length : tie.Need-same-length
 same-length c = search needs
@@ -54,7 +54,7 @@ returns-3 c =
     let settled = told .before .before in
     let read = settled .before in (
       pair-took _ _ _ _ _ _ _ _ _ _ _ _ _ _ _ _ (read .before .before .before .before .exchange-if .ensures) (read .block-at .ensures)
-          (settled .settle-two .ensures) (told .settled .given .1) (done .eliminate-pair .ensures .0) (done .eliminate-pair .ensures .1),
+          (settled .settle-two .ensures) (told .settled .given .1) (done .head-two .ensures .0) (done .head-two .ensures .1),
       tt,
     )
 
@@ -69,7 +69,7 @@ pair-spec =
     enum-told
     enum-told-2
     enum-known-settled
-    eliminate-pair-requires
+    head-two-requires
     same-length
     returns
     same-length-2

@@ -26,8 +26,8 @@ returns c = (search single-stop, refl)
 exchange-if-requires : tie.Need-exchange-if-requires
 exchange-if-requires c κs = search needs
 
-eliminate-single-requires : tie.Need-eliminate-single-requires
-eliminate-single-requires c κs = search needs
+head-one-requires : tie.Need-head-one-requires
+head-one-requires c κs = search needs
 
 same-length-2 : tie.Need-same-length-2
 same-length-2 c = search needs
@@ -42,7 +42,7 @@ returns-2 c =
     let told = moved .before .before .before in
     let settled = told .before .before in (
       single-took _ _ _ _ _ _ _ _ _ _ _ _ _ _ (settled .before .get .ensures) (settled .settle-one .ensures) (told .settled .given .1)
-          (moved .exchange-if .ensures) (done .eliminate-single .ensures .0) (done .eliminate-single .ensures .1),
+          (moved .exchange-if .ensures) (done .head-one .ensures .0) (done .head-one .ensures .1),
       tt,
     )
 
@@ -57,7 +57,7 @@ single-spec =
     same-length
     returns
     exchange-if-requires
-    eliminate-single-requires
+    head-one-requires
     same-length-2
     same-length-3
     returns-2)

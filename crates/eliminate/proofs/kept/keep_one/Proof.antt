@@ -28,6 +28,18 @@ mul-b c = search needs
 add-b : tie.Need-add-b
 add-b c = search needs
 
+mul-x : tie.Need-mul-x
+mul-x c = search needs
+
+add-x : tie.Need-add-x
+add-x c = search needs
+
+mul-y : tie.Need-mul-y
+mul-y c = search needs
+
+add-y : tie.Need-add-y
+add-y c = search needs
+
 mul-scale : tie.Need-mul-scale
 mul-scale c = search needs
 
@@ -76,6 +88,10 @@ keep-one-spec =
     sub-b
     mul-b
     add-b
+    mul-x
+    add-x
+    mul-y
+    add-y
     mul-scale
     sub-scale
     part-scale-start

@@ -1,6 +1,6 @@
 -- `eliminate::kept::keep_two` meets its contract: the lent part of the buffer is a part of the panel's column of multipliers. Assumes nothing.
 use borrow.Author.Needs.{needs}
-use Rattle.eliminate.proofs.Buffer.{keep-two-lent}
+use Rattle.eliminate.proofs.Buffer.{keep-parts, keep-two-lent}
 use Rattle.eliminate.proofs.kept.keep_two.Statement.{statement}
 use Rattle.eliminate.proofs.kept.keep_two.Tie as tie
 
@@ -27,6 +27,30 @@ mul-b c = search needs
 
 add-b : tie.Need-add-b
 add-b c = search needs
+
+mul-x : tie.Need-mul-x
+mul-x c = search needs
+
+add-x : tie.Need-add-x
+add-x c = search needs
+
+mul-y : tie.Need-mul-y
+mul-y c = search needs
+
+add-y : tie.Need-add-y
+add-y c = search needs
+
+mul-u : tie.Need-mul-u
+mul-u c = search needs
+
+add-u : tie.Need-add-u
+add-u c = search needs
+
+mul-v : tie.Need-mul-v
+mul-v c = search needs
+
+add-v : tie.Need-add-v
+add-v c = search needs
 
 mul-combine : tie.Need-mul-combine
 mul-combine c = search needs
@@ -68,7 +92,9 @@ sub-combine-4 : tie.Need-sub-combine-4
 sub-combine-4 c = search needs
 
 combine-requires : tie.Need-combine-requires
-combine-requires c κs = search needs
+combine-requires c κs =
+    let pre = c .before .before .before .before .before .pre in
+    keep-parts _ _ _ _ _ _ _ _ _ (pre .0) (pre .1 .0) (pre .1 .1)
 
 same-length : tie.Need-same-length
 same-length c = search needs
@@ -88,6 +114,14 @@ keep-two-spec =
     sub-b
     mul-b
     add-b
+    mul-x
+    add-x
+    mul-y
+    add-y
+    mul-u
+    add-u
+    mul-v
+    add-v
     mul-combine
     sub-combine
     part-combine-start

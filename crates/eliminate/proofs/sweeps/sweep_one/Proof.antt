@@ -3,20 +3,20 @@ use Prim.Native.Nat.{_+_, _≤_, _-_}
 use mathlib.Core.Path.{_≡_}
 use lib.ListN.{length}
 use borrow.Author.Needs.{needs}
-use Rattle.model.specs.Matrix.{view, vec}
+use Rattle.model.specs.Matrix.{view}
 use Rattle.grid.specs.Rules.{columnOf}
 use Rattle.eliminate.specs.Eliminate.{inPanel, sweptOne}
-use Rattle.eliminate.proofs.Region.{sweep-one-none, sweep-one-step, sweep-one-end, sweep-one-pre, multiplier-in}
+use Rattle.eliminate.proofs.Region.{sweep-one-none, sweep-one-step, sweep-one-end, later-pre, multiplier-in}
 use Rattle.eliminate.proofs.sweeps.sweep_one.Statement.{statement}
 use Rattle.eliminate.proofs.sweeps.sweep_one.Tie as tie
 
 abbrev Inv-loop : tie.InvT-loop
-Inv-loop panel₀ mult s nrow ncol nb kb ke k lo hi j₀ panel j =
+Inv-loop panel₀ mult nrow ncol nb kb ke k lo hi j₀ panel j =
     (k + 1 ≤ j) × (j ≤ ke) × (length panel ≡ length panel₀) ×
-    (view nrow panel ≡ sweptOne (view nrow panel₀) (vec s) (columnOf (inPanel kb ke (view nb mult)) k) k j lo hi)
+    (view nrow panel ≡ sweptOne (view nrow panel₀) (columnOf (inPanel kb ke (view nb mult)) k) k j lo hi)
 
 abbrev μ-loop : tie.MeasureT-loop
-μ-loop panel₀ mult s nrow ncol nb kb ke k lo hi j₀ panel j = ke - j
+μ-loop panel₀ mult nrow ncol nb kb ke k lo hi j₀ panel j = ke - j
 
 add-j : tie.Need-add-j Inv-loop μ-loop
 add-j c = search needs
@@ -37,7 +37,7 @@ get-requires : tie.Need-get-requires Inv-loop μ-loop
 get-requires c κs = search (needs, multiplier-in)
 
 less-if-requires : tie.Need-less-if-requires Inv-loop μ-loop
-less-if-requires c κs = search (needs, sweep-one-pre)
+less-if-requires c κs = search (needs, later-pre)
 
 add-j-2 : tie.Need-add-j-2 Inv-loop μ-loop
 add-j-2 c = search needs

@@ -3,21 +3,21 @@ use Prim.Native.Nat.{_+_, _≤_, _-_}
 use mathlib.Core.Path.{_≡_}
 use lib.ListN.{length}
 use borrow.Author.Needs.{needs}
-use Rattle.model.specs.Matrix.{view, vec}
+use Rattle.model.specs.Matrix.{view}
 use Rattle.grid.specs.Rules.{columnOf}
 use Rattle.eliminate.specs.Eliminate.{inPanel, sweptTwo}
-use Rattle.eliminate.proofs.Region.{sweep-two-none, sweep-two-step, sweep-two-end, sweep-two-pre, multiplier-in, multiplier-in-next}
+use Rattle.eliminate.proofs.Region.{sweep-two-none, sweep-two-step, sweep-two-end, later-pre-next, multiplier-in, multiplier-in-next}
 use Rattle.eliminate.proofs.sweeps.sweep_two.Statement.{statement}
 use Rattle.eliminate.proofs.sweeps.sweep_two.Tie as tie
 
 abbrev Inv-loop : tie.InvT-loop
-Inv-loop panel₀ mult s t nrow ncol nb kb ke k lo hi j₀ panel j =
+Inv-loop panel₀ mult nrow ncol nb kb ke k lo hi j₀ panel j =
     (k + 2 ≤ j) × (j ≤ ke) × (length panel ≡ length panel₀) ×
-    (view nrow panel ≡ sweptTwo (view nrow panel₀) (vec s) (vec t) (columnOf (inPanel kb ke (view nb mult)) k)
+    (view nrow panel ≡ sweptTwo (view nrow panel₀) (columnOf (inPanel kb ke (view nb mult)) k)
     (columnOf (inPanel kb ke (view nb mult)) (k + 1)) k j lo hi)
 
 abbrev μ-loop : tie.MeasureT-loop
-μ-loop panel₀ mult s t nrow ncol nb kb ke k lo hi j₀ panel j = ke - j
+μ-loop panel₀ mult nrow ncol nb kb ke k lo hi j₀ panel j = ke - j
 
 add-j : tie.Need-add-j Inv-loop μ-loop
 add-j c = search needs
@@ -50,7 +50,7 @@ get-requires-2 : tie.Need-get-requires-2 Inv-loop μ-loop
 get-requires-2 c κs = search (needs, multiplier-in-next)
 
 less-two-requires : tie.Need-less-two-requires Inv-loop μ-loop
-less-two-requires c κs = search (needs, sweep-two-pre)
+less-two-requires c κs = search (needs, later-pre-next)
 
 add-j-2 : tie.Need-add-j-2 Inv-loop μ-loop
 add-j-2 c = search needs
@@ -62,12 +62,12 @@ loop-again : tie.Need-loop-again Inv-loop μ-loop
 loop-again c =
     let got = c .before .before .before .before in
     let turn = got .before .before .before in
-    let start = turn .before .before .before .before .before .before in
+    let start = turn .before .before .before .before in
     let inv = turn .before .loop .inv in (
       search needs,
       search needs,
       search needs,
-      sweep-two-step _ _ _ _ _ _ _ _ _ _ _ _ _ _ _ (inv .0) (turn .loop-test .taken) (start .pre .0 .from) (inv .3) (got .before .before .later .ensures)
+      sweep-two-step _ _ _ _ _ _ _ _ _ _ _ _ _ (inv .0) (turn .loop-test .taken) (start .pre .from) (inv .3) (got .before .before .later .ensures)
           (got .before .get .ensures) (got .get2 .ensures) (c .before .before .less-two .ensures),
     )
 

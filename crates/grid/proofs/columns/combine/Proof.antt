@@ -16,47 +16,26 @@ mul-b c = search needs
 add-b : tie.Need-add-b
 add-b c = search needs
 
-mul-combine : tie.Need-mul-combine
-mul-combine c = search needs
+add-b-2 : tie.Need-add-b-2
+add-b-2 c = search needs
 
-sub-combine : tie.Need-sub-combine
-sub-combine c = search needs
+mul-combine-own : tie.Need-mul-combine-own
+mul-combine-own c = search needs
 
-part-combine-start : tie.Need-part-combine-start
-part-combine-start c = search needs
+sub-combine-own : tie.Need-sub-combine-own
+sub-combine-own c = search needs
 
-part-combine-end : tie.Need-part-combine-end
-part-combine-end c = search needs
+part-combine-own-start : tie.Need-part-combine-own-start
+part-combine-own-start c = search needs
 
-mul-combine-2 : tie.Need-mul-combine-2
-mul-combine-2 c = search needs
+part-combine-own-end : tie.Need-part-combine-own-end
+part-combine-own-end c = search needs
 
-sub-combine-2 : tie.Need-sub-combine-2
-sub-combine-2 c = search needs
+sub-combine-own-2 : tie.Need-sub-combine-own-2
+sub-combine-own-2 c = search needs
 
-part-combine-start-2 : tie.Need-part-combine-start-2
-part-combine-start-2 c = search needs
-
-part-combine-end-2 : tie.Need-part-combine-end-2
-part-combine-end-2 c = search needs
-
-mul-combine-3 : tie.Need-mul-combine-3
-mul-combine-3 c = search needs
-
-sub-combine-3 : tie.Need-sub-combine-3
-sub-combine-3 c = search needs
-
-part-combine-start-3 : tie.Need-part-combine-start-3
-part-combine-start-3 c = search needs
-
-part-combine-end-3 : tie.Need-part-combine-end-3
-part-combine-end-3 c = search needs
-
-sub-combine-4 : tie.Need-sub-combine-4
-sub-combine-4 c = search needs
-
-combine-requires : tie.Need-combine-requires
-combine-requires c κs = search needs
+combine-own-requires : tie.Need-combine-own-requires
+combine-own-requires c κs = search needs
 
 same-length : tie.Need-same-length
 same-length c = search needs
@@ -72,19 +51,12 @@ combine-spec =
     add-a
     mul-b
     add-b
-    mul-combine
-    sub-combine
-    part-combine-start
-    part-combine-end
-    mul-combine-2
-    sub-combine-2
-    part-combine-start-2
-    part-combine-end-2
-    mul-combine-3
-    sub-combine-3
-    part-combine-start-3
-    part-combine-end-3
-    sub-combine-4
-    combine-requires
+    add-b-2
+    mul-combine-own
+    sub-combine-own
+    part-combine-own-start
+    part-combine-own-end
+    sub-combine-own-2
+    combine-own-requires
     same-length
     returns)

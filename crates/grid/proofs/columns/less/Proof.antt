@@ -1,50 +1,47 @@
 -- `grid::columns::less` meets its contract: what the kernel makes of the lent part is made of the whole. Assumes nothing.
 use borrow.Author.Needs.{needs}
-use Rattle.grid.proofs.Parts.{less-lent}
+use Rattle.grid.proofs.Parts.{later-room, later-ahead, less-lent}
 use Rattle.grid.proofs.columns.less.Statement.{statement}
 use Rattle.grid.proofs.columns.less.Tie as tie
 
 mul-a : tie.Need-mul-a
-mul-a c = search needs
+mul-a c = let room = later-room _ _ _ _ _ _ (c .before .pre) in search needs
 
 add-a : tie.Need-add-a
-add-a c = search needs
+add-a c = let room = later-room _ _ _ _ _ _ (c .before .pre) in search needs
 
-mul-b : tie.Need-mul-b
-mul-b c = search needs
+mul-x : tie.Need-mul-x
+mul-x c = search needs
 
-add-b : tie.Need-add-b
-add-b c = search needs
+add-x : tie.Need-add-x
+add-x c = search needs
 
-mul-less : tie.Need-mul-less
-mul-less c = search needs
+mul-e : tie.Need-mul-e
+mul-e c = search needs
 
-sub-less : tie.Need-sub-less
-sub-less c = search needs
+add-e : tie.Need-add-e
+add-e c = search needs
 
-part-less-start : tie.Need-part-less-start
-part-less-start c = search needs
+mul-less-ahead : tie.Need-mul-less-ahead
+mul-less-ahead c = let room = later-room _ _ _ _ _ _ (c .before .pre) in search needs
 
-part-less-end : tie.Need-part-less-end
-part-less-end c = search needs
+sub-less-ahead : tie.Need-sub-less-ahead
+sub-less-ahead c = let room = later-room _ _ _ _ _ _ (c .before .pre) in search needs
 
-mul-less-2 : tie.Need-mul-less-2
-mul-less-2 c = search needs
+part-less-ahead-start : tie.Need-part-less-ahead-start
+part-less-ahead-start c = let room = later-room _ _ _ _ _ _ (c .before .pre) in search needs
 
-sub-less-2 : tie.Need-sub-less-2
-sub-less-2 c = search needs
+part-less-ahead-end : tie.Need-part-less-ahead-end
+part-less-ahead-end c = search needs
 
-part-less-start-2 : tie.Need-part-less-start-2
-part-less-start-2 c = search needs
+sub-less-ahead-2 : tie.Need-sub-less-ahead-2
+sub-less-ahead-2 c = let room = later-room _ _ _ _ _ _ (c .before .before .pre) in search needs
 
-part-less-end-2 : tie.Need-part-less-end-2
-part-less-end-2 c = search needs
+sub-less-ahead-3 : tie.Need-sub-less-ahead-3
+sub-less-ahead-3 c = search needs
 
-sub-less-3 : tie.Need-sub-less-3
-sub-less-3 c = search needs
-
-less-requires : tie.Need-less-requires
-less-requires c κs = search needs
+less-ahead-requires : tie.Need-less-ahead-requires
+less-ahead-requires c κs = search (needs, later-ahead)
 
 same-length : tie.Need-same-length
 same-length c = search needs
@@ -58,17 +55,16 @@ less-spec =
     (tie.spec
     mul-a
     add-a
-    mul-b
-    add-b
-    mul-less
-    sub-less
-    part-less-start
-    part-less-end
-    mul-less-2
-    sub-less-2
-    part-less-start-2
-    part-less-end-2
-    sub-less-3
-    less-requires
+    mul-x
+    add-x
+    mul-e
+    add-e
+    mul-less-ahead
+    sub-less-ahead
+    part-less-ahead-start
+    part-less-ahead-end
+    sub-less-ahead-2
+    sub-less-ahead-3
+    less-ahead-requires
     same-length
     returns)

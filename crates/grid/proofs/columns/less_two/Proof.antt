@@ -1,62 +1,47 @@
 -- `grid::columns::less_two` meets its contract: what the kernel makes of the lent part is made of the whole. Assumes nothing.
 use borrow.Author.Needs.{needs}
-use Rattle.grid.proofs.Parts.{less-two-lent}
+use Rattle.grid.proofs.Parts.{later-room-two, later-two-ahead, less-two-lent}
 use Rattle.grid.proofs.columns.less_two.Statement.{statement}
 use Rattle.grid.proofs.columns.less_two.Tie as tie
 
 mul-a : tie.Need-mul-a
-mul-a c = search needs
+mul-a c = let room = later-room-two _ _ _ _ _ _ (c .before .pre) in search needs
 
 add-a : tie.Need-add-a
-add-a c = search needs
+add-a c = let room = later-room-two _ _ _ _ _ _ (c .before .pre) in search needs
 
-mul-b : tie.Need-mul-b
-mul-b c = search needs
+mul-x : tie.Need-mul-x
+mul-x c = search needs
 
-add-b : tie.Need-add-b
-add-b c = search needs
+add-x : tie.Need-add-x
+add-x c = search needs
 
-mul-less-two : tie.Need-mul-less-two
-mul-less-two c = search needs
+mul-e : tie.Need-mul-e
+mul-e c = search needs
 
-sub-less-two : tie.Need-sub-less-two
-sub-less-two c = search needs
+add-e : tie.Need-add-e
+add-e c = search needs
 
-part-less-two-start : tie.Need-part-less-two-start
-part-less-two-start c = search needs
+mul-less-two-ahead : tie.Need-mul-less-two-ahead
+mul-less-two-ahead c = let room = later-room-two _ _ _ _ _ _ (c .before .pre) in search needs
 
-part-less-two-end : tie.Need-part-less-two-end
-part-less-two-end c = search needs
+sub-less-two-ahead : tie.Need-sub-less-two-ahead
+sub-less-two-ahead c = let room = later-room-two _ _ _ _ _ _ (c .before .pre) in search needs
 
-mul-less-two-2 : tie.Need-mul-less-two-2
-mul-less-two-2 c = search needs
+part-less-two-ahead-start : tie.Need-part-less-two-ahead-start
+part-less-two-ahead-start c = let room = later-room-two _ _ _ _ _ _ (c .before .pre) in search needs
 
-sub-less-two-2 : tie.Need-sub-less-two-2
-sub-less-two-2 c = search needs
+part-less-two-ahead-end : tie.Need-part-less-two-ahead-end
+part-less-two-ahead-end c = search needs
 
-part-less-two-start-2 : tie.Need-part-less-two-start-2
-part-less-two-start-2 c = search needs
+sub-less-two-ahead-2 : tie.Need-sub-less-two-ahead-2
+sub-less-two-ahead-2 c = let room = later-room-two _ _ _ _ _ _ (c .before .before .pre) in search needs
 
-part-less-two-end-2 : tie.Need-part-less-two-end-2
-part-less-two-end-2 c = search needs
+sub-less-two-ahead-3 : tie.Need-sub-less-two-ahead-3
+sub-less-two-ahead-3 c = search needs
 
-mul-less-two-3 : tie.Need-mul-less-two-3
-mul-less-two-3 c = search needs
-
-sub-less-two-3 : tie.Need-sub-less-two-3
-sub-less-two-3 c = search needs
-
-part-less-two-start-3 : tie.Need-part-less-two-start-3
-part-less-two-start-3 c = search needs
-
-part-less-two-end-3 : tie.Need-part-less-two-end-3
-part-less-two-end-3 c = search needs
-
-sub-less-two-4 : tie.Need-sub-less-two-4
-sub-less-two-4 c = search needs
-
-less-two-requires : tie.Need-less-two-requires
-less-two-requires c κs = search needs
+less-two-ahead-requires : tie.Need-less-two-ahead-requires
+less-two-ahead-requires c κs = search (needs, later-two-ahead)
 
 same-length : tie.Need-same-length
 same-length c = search needs
@@ -70,21 +55,16 @@ less-two-spec =
     (tie.spec
     mul-a
     add-a
-    mul-b
-    add-b
-    mul-less-two
-    sub-less-two
-    part-less-two-start
-    part-less-two-end
-    mul-less-two-2
-    sub-less-two-2
-    part-less-two-start-2
-    part-less-two-end-2
-    mul-less-two-3
-    sub-less-two-3
-    part-less-two-start-3
-    part-less-two-end-3
-    sub-less-two-4
-    less-two-requires
+    mul-x
+    add-x
+    mul-e
+    add-e
+    mul-less-two-ahead
+    sub-less-two-ahead
+    part-less-two-ahead-start
+    part-less-two-ahead-end
+    sub-less-two-ahead-2
+    sub-less-two-ahead-3
+    less-two-ahead-requires
     same-length
     returns)

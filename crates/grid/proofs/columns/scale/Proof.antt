@@ -16,35 +16,23 @@ mul-b c = search needs
 add-b : tie.Need-add-b
 add-b c = search needs
 
-mul-scale : tie.Need-mul-scale
-mul-scale c = search needs
+mul-scale-own : tie.Need-mul-scale-own
+mul-scale-own c = search needs
 
-sub-scale : tie.Need-sub-scale
-sub-scale c = search needs
+sub-scale-own : tie.Need-sub-scale-own
+sub-scale-own c = search needs
 
-part-scale-start : tie.Need-part-scale-start
-part-scale-start c = search needs
+part-scale-own-start : tie.Need-part-scale-own-start
+part-scale-own-start c = search needs
 
-part-scale-end : tie.Need-part-scale-end
-part-scale-end c = search needs
+part-scale-own-end : tie.Need-part-scale-own-end
+part-scale-own-end c = search needs
 
-mul-scale-2 : tie.Need-mul-scale-2
-mul-scale-2 c = search needs
+sub-scale-own-2 : tie.Need-sub-scale-own-2
+sub-scale-own-2 c = search needs
 
-sub-scale-2 : tie.Need-sub-scale-2
-sub-scale-2 c = search needs
-
-part-scale-start-2 : tie.Need-part-scale-start-2
-part-scale-start-2 c = search needs
-
-part-scale-end-2 : tie.Need-part-scale-end-2
-part-scale-end-2 c = search needs
-
-sub-scale-3 : tie.Need-sub-scale-3
-sub-scale-3 c = search needs
-
-scale-requires : tie.Need-scale-requires
-scale-requires c κs = search needs
+scale-own-requires : tie.Need-scale-own-requires
+scale-own-requires c κs = search needs
 
 same-length : tie.Need-same-length
 same-length c = search needs
@@ -60,15 +48,11 @@ scale-spec =
     add-a
     mul-b
     add-b
-    mul-scale
-    sub-scale
-    part-scale-start
-    part-scale-end
-    mul-scale-2
-    sub-scale-2
-    part-scale-start-2
-    part-scale-end-2
-    sub-scale-3
-    scale-requires
+    mul-scale-own
+    sub-scale-own
+    part-scale-own-start
+    part-scale-own-end
+    sub-scale-own-2
+    scale-own-requires
     same-length
     returns)

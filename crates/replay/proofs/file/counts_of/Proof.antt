@@ -1,4 +1,5 @@
--- `replay::file::counts_of` is safe and ends. The invariant: the list keeps its length, and the loop stays within it. The measure is what is left of it. Assumes nothing.
+-- `replay::file::counts_of` is safe and ends.
+-- The invariant: the list keeps its length, and the loop stays within it. The measure is what is left of it. Assumes nothing.
 use Prim.Native.Nat.{_-_, _≤_}
 use mathlib.Core.Path.{_≡_}
 use lib.ListN.{length}

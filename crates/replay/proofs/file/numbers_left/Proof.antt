@@ -1,4 +1,5 @@
--- `replay::file::numbers_left` is safe and ends. The invariant: the place is at most the length. The measure is what is left. Assumes nothing.
+-- `replay::file::numbers_left` is safe and ends.
+-- The invariant: the place is at most the length. The measure is what is left. Assumes nothing.
 use Prim.Native.Nat.{_-_, _≤_}
 use lib.ListN.{length}
 use borrow.Author.Needs.{needs}

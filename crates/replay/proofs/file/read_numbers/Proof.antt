@@ -1,4 +1,5 @@
--- `replay::file::read_numbers` is safe and ends. The invariant: the list keeps its length, and the place is at most that. The measure is what is left. Assumes nothing.
+-- `replay::file::read_numbers` is safe and ends.
+-- The invariant: the list keeps its length, and the place is at most that. The measure is what is left. Assumes nothing.
 use Prim.Native.Nat.{_-_, _≤_}
 use mathlib.Core.Path.{_≡_}
 use lib.ListN.{length}

@@ -1,4 +1,5 @@
--- `replay::file::same_numbers` is safe and ends. The invariant: the loop stays within the list. The measure is what is left of it. Assumes nothing.
+-- `replay::file::same_numbers` is safe and ends.
+-- The invariant: the loop stays within the list. The measure is what is left of it. Assumes nothing.
 use Prim.Native.Nat.{_-_, _≤_}
 use mathlib.Core.Path.{_≡_}
 use lib.ListN.{length}

@@ -1,4 +1,5 @@
--- `replay::sum::sum_rest` is safe and ends. Nothing has to hold from turn to turn. The measure is the number of turns left. Assumes nothing.
+-- `replay::sum::sum_rest` is safe and ends.
+-- Nothing has to hold from turn to turn. The measure is the number of turns left. Assumes nothing.
 use borrow.Author.Needs.{needs}
 use Rattle.replay.proofs.sum.sum_rest.Statement.{statement}
 use Rattle.replay.proofs.sum.sum_rest.Tie as tie

@@ -1,4 +1,5 @@
--- `replay::sum::summed` is safe and ends. The invariant: the loop stays within the bytes, and both sums are below the modulus. The measure is what is left of the bytes. Assumes nothing.
+-- `replay::sum::summed` is safe and ends.
+-- The invariant: the loop stays within the bytes, and both sums are below the modulus. The measure is what is left of the bytes. Assumes nothing.
 use Prim.Native.Nat.{_-_, _≤_, _<_}
 use mathlib.Core.Path.{_≡_}
 use lib.ListN.{length}

@@ -1,23 +1,25 @@
--- `grid::kernels::less` meets its contract. The invariant: the places before i are done by the rule; the measure is what is left. Assumes nothing.
-use Prim.Native.Nat.{_≤_, _-_}
+-- `grid::kernels::less_ahead` meets its contract. The invariant: i places from q on are done by the rule; the measure is what is left. Assumes nothing.
+use Prim.Native.Nat.{_+_, _≤_, _-_}
 use mathlib.Core.Path.{_≡_}
 use lib.ListN.{length}
 use borrow.Author.Needs.{needs}
 use Rattle.model.specs.Matrix.{vec, withPart}
-use Rattle.grid.specs.Rules.{lessTimes}
-use Rattle.grid.proofs.Laws.{withPart-end}
-use Rattle.grid.proofs.Rules.{rule-none, less-step}
-use Rattle.grid.proofs.kernels.less.Statement.{statement}
-use Rattle.grid.proofs.kernels.less.Tie as tie
+use Rattle.grid.specs.Rules.{behind, lessTimes}
+use Rattle.grid.proofs.Rules.{from-none, less-ahead-step, from-end}
+use Rattle.grid.proofs.kernels.less_ahead.Statement.{statement}
+use Rattle.grid.proofs.kernels.less_ahead.Tie as tie
 
 abbrev Inv-loop : tie.InvT-loop
-Inv-loop x₀ s n m i₀ x i = (i ≤ n) × (length x ≡ length x₀) × (vec x ≡ withPart (vec x₀) 0 i (lessTimes (vec x₀) (vec s) m))
+Inv-loop x₀ q n m i₀ x i = (i ≤ n) × (length x ≡ length x₀) × (vec x ≡ withPart (vec x₀) q (q + i) (lessTimes (vec x₀) (behind q (vec x₀)) m))
 
 abbrev μ-loop : tie.MeasureT-loop
-μ-loop x₀ s n m i₀ x i = n - i
+μ-loop x₀ q n m i₀ x i = n - i
 
 loop-holds : tie.Need-loop-holds Inv-loop μ-loop
-loop-holds c = search (needs, rule-none)
+loop-holds c = search (needs, from-none)
+
+add-x : tie.Need-add-x Inv-loop μ-loop
+add-x c = search needs
 
 mul-x : tie.Need-mul-x Inv-loop μ-loop
 mul-x c = search needs
@@ -28,8 +30,11 @@ slice-read-x c = search needs
 mul-x-2 : tie.Need-mul-x-2 Inv-loop μ-loop
 mul-x-2 c = search needs
 
-shared-slice-read-x : tie.Need-shared-slice-read-x Inv-loop μ-loop
-shared-slice-read-x c = search needs
+slice-read-x-2 : tie.Need-slice-read-x-2 Inv-loop μ-loop
+slice-read-x-2 c = search needs
+
+add-x-2 : tie.Need-add-x-2 Inv-loop μ-loop
+add-x-2 c = search needs
 
 mul-x-3 : tie.Need-mul-x-3 Inv-loop μ-loop
 mul-x-3 c = search needs
@@ -44,25 +49,27 @@ loop-less : tie.Need-loop-less Inv-loop μ-loop
 loop-less c = search needs
 
 loop-again : tie.Need-loop-again Inv-loop μ-loop
-loop-again c = search (needs, less-step)
+loop-again c = search (needs, less-ahead-step)
 
 same-length : tie.Need-same-length Inv-loop μ-loop
 same-length c = search needs
 
 returns : tie.Need-returns Inv-loop μ-loop
-returns c = search (needs, withPart-end)
+returns c = search (needs, from-end)
 
-pub less-spec : {M : Type 1} → statement M
-less-spec =
+pub less-ahead-spec : {M : Type 1} → statement M
+less-ahead-spec =
     tie.close
     (tie.spec
     Inv-loop
     μ-loop
     loop-holds
+    add-x
     mul-x
     slice-read-x
     mul-x-2
-    shared-slice-read-x
+    slice-read-x-2
+    add-x-2
     mul-x-3
     slice-write-x
     add-i
