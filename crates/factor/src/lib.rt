@@ -65,9 +65,14 @@ fn steps(
     before: usize,
 ) -> Ran
     requires { ⌜ TurnPre nrow ncol nb kb ke mode limit (length (now panel)) (length (now work)) ⌝ }
-    requires { ⌜ TurnHolds nrow ncol (length (now d)) (length (now sub)) (length (now amounts)) (length (now blocks)) (length (now lifts)) (length (now order)) (length (now partners)) ⌝ }
+    requires { ⌜ TurnHolds nrow ncol (length (now d)) (length (now sub)) (length (now amounts)) (length (now blocks))
+        (length (now lifts)) (length (now order)) (length (now partners)) ⌝ }
     requires { ⌜ NotedTo kb ke before (bytes (now blocks)) (bytes (now partners)) ⌝ }
-    ensures { λ r. ⌜ progress r ke (state nrow nb kb ke (now (panel .exit)) (take (nb * nb) (now (work .exit))) (now (d .exit)) (now (sub .exit)) (now (amounts .exit)) (now (blocks .exit)) (now (lifts .exit)) (now (order .exit)) (now (partners .exit))) ≡ panelOf ke mode limit (ke - kb) kb (between nrow (now (panel .entry)) (now (d .entry)) (now (sub .entry)) (now (amounts .entry)) (now (blocks .entry)) (now (lifts .entry)) (now (order .entry)) (now (partners .entry)) before) ⌝ }
+    ensures { λ r. ⌜ progress r ke (state nrow nb kb ke (now (panel .exit)) (take (nb * nb) (now (work .exit)))
+        (now (d .exit)) (now (sub .exit)) (now (amounts .exit)) (now (blocks .exit)) (now (lifts .exit))
+        (now (order .exit)) (now (partners .exit))) ≡ panelOf ke mode limit (ke - kb) kb (between nrow
+        (now (panel .entry)) (now (d .entry)) (now (sub .entry)) (now (amounts .entry)) (now (blocks .entry))
+        (now (lifts .entry)) (now (order .entry)) (now (partners .entry)) before) ⌝ }
     ensures { λ r. ⌜ RanTo ke r (bytes (now (blocks .exit))) (bytes (now (partners .exit))) ⌝ }
 {
     let square = nb * nb;
@@ -107,9 +112,12 @@ fn rows_below(
     kb: usize,
     ke: usize,
 )
-    requires { ⌜ AfterPre nrow ncol nb kb ke (length (now panel)) (length (now work)) (length (now d)) (length (now sub)) (length (now blocks)) (length (now partners)) ⌝ }
+    requires { ⌜ AfterPre nrow ncol nb kb ke (length (now panel)) (length (now work)) (length (now d))
+        (length (now sub)) (length (now blocks)) (length (now partners)) ⌝ }
     requires { ⌜ StepsPre ke (bytes (now blocks)) (bytes (now partners)) ⌝ }
-    ensures { λ _. ⌜ view nrow (now (panel .exit)) ≡ below ke nrow (rowAfterSteps (pivotsOf (now (d .entry)) (now (sub .entry)) (now (blocks .entry)) (now (partners .entry))) (inPanel kb ke (view nb (take (nb * nb) (now (work .entry))))) ke (ke - kb) kb) (view nrow (now (panel .entry))) ⌝ }
+    ensures { λ _. ⌜ view nrow (now (panel .exit)) ≡ below ke nrow (rowAfterSteps (pivotsOf (now (d .entry))
+        (now (sub .entry)) (now (blocks .entry)) (now (partners .entry))) (inPanel kb ke (view nb
+        (take (nb * nb) (now (work .entry))))) ke (ke - kb) kb) (view nrow (now (panel .entry))) ⌝ }
 {
     let square = nb * nb;
     tail::apply_bk_panel_trailing(
@@ -141,9 +149,11 @@ fn later_columns(
     kb: usize,
     ke: usize,
 )
-    requires { ⌜ AfterPre nrow ncol nb kb ke (length (now panel)) (length (now work)) (length (now d)) (length (now sub)) (length (now blocks)) (length (now partners)) ⌝ }
+    requires { ⌜ AfterPre nrow ncol nb kb ke (length (now panel)) (length (now work)) (length (now d))
+        (length (now sub)) (length (now blocks)) (length (now partners)) ⌝ }
     requires { ⌜ StepsPre ke (bytes (now blocks)) (bytes (now partners)) ⌝ }
-    ensures { λ _. ⌜ view nrow (now (panel .exit)) ≡ deferred nrow ncol kb ke (vec (now (d .entry))) (vec (now (sub .entry))) (bytes (now (blocks .entry))) (view nrow (now (panel .entry))) ⌝ }
+    ensures { λ _. ⌜ view nrow (now (panel .exit)) ≡ deferred nrow ncol kb ke (vec (now (d .entry)))
+        (vec (now (sub .entry))) (bytes (now (blocks .entry))) (view nrow (now (panel .entry))) ⌝ }
 {
     if ke == ncol {
         return;
@@ -185,9 +195,14 @@ fn turn(
     before: usize,
 ) -> Ran
     requires { ⌜ TurnPre nrow ncol nb kb ke mode limit (length (now panel)) (length (now work)) ⌝ }
-    requires { ⌜ TurnHolds nrow ncol (length (now d)) (length (now sub)) (length (now amounts)) (length (now blocks)) (length (now lifts)) (length (now order)) (length (now partners)) ⌝ }
+    requires { ⌜ TurnHolds nrow ncol (length (now d)) (length (now sub)) (length (now amounts)) (length (now blocks))
+        (length (now lifts)) (length (now order)) (length (now partners)) ⌝ }
     requires { ⌜ NotedTo kb ke before (bytes (now blocks)) (bytes (now partners)) ⌝ }
-    ensures { λ r. ⌜ progress r ke (between nrow (now (panel .exit)) (now (d .exit)) (now (sub .exit)) (now (amounts .exit)) (now (blocks .exit)) (now (lifts .exit)) (now (order .exit)) (now (partners .exit))) ≡ turnOf mode limit nrow ncol kb ke (between nrow (now (panel .entry)) (now (d .entry)) (now (sub .entry)) (now (amounts .entry)) (now (blocks .entry)) (now (lifts .entry)) (now (order .entry)) (now (partners .entry)) before) ⌝ }
+    ensures { λ r. ⌜ progress r ke (between nrow (now (panel .exit)) (now (d .exit)) (now (sub .exit))
+        (now (amounts .exit)) (now (blocks .exit)) (now (lifts .exit)) (now (order .exit)) (now (partners .exit))) ≡
+        turnOf mode limit nrow ncol kb ke (between nrow (now (panel .entry)) (now (d .entry)) (now (sub .entry))
+        (now (amounts .entry)) (now (blocks .entry)) (now (lifts .entry)) (now (order .entry)) (now (partners .entry))
+        before) ⌝ }
     ensures { λ r. ⌜ RanTo ke r (bytes (now (blocks .exit))) (bytes (now (partners .exit))) ⌝ }
 {
     let ran = steps(
@@ -260,9 +275,14 @@ fn panels(
     limit: usize,
 ) -> Ran
     requires { ⌜ RunPre nrow ncol nb mode limit (length (now panel)) (length (now work)) ⌝ }
-    requires { ⌜ TurnHolds nrow ncol (length (now d)) (length (now sub)) (length (now amounts)) (length (now blocks)) (length (now lifts)) (length (now order)) (length (now partners)) ⌝ }
+    requires { ⌜ TurnHolds nrow ncol (length (now d)) (length (now sub)) (length (now amounts)) (length (now blocks))
+        (length (now lifts)) (length (now order)) (length (now partners)) ⌝ }
     requires { ⌜ NotedTo 0 1 0 (bytes (now blocks)) (bytes (now partners)) ⌝ }
-    ensures { λ r. ⌜ runOf r (between nrow (now (panel .exit)) (now (d .exit)) (now (sub .exit)) (now (amounts .exit)) (now (blocks .exit)) (now (lifts .exit)) (now (order .exit)) (now (partners .exit))) ≡ wholePanelsOf mode limit nrow ncol nb ncol 0 (between nrow (now (panel .entry)) (now (d .entry)) (now (sub .entry)) (now (amounts .entry)) (now (blocks .entry)) (now (lifts .entry)) (now (order .entry)) (now (partners .entry)) 0) ⌝ }
+    ensures { λ r. ⌜ runOf r (between nrow (now (panel .exit)) (now (d .exit)) (now (sub .exit)) (now (amounts .exit))
+        (now (blocks .exit)) (now (lifts .exit)) (now (order .exit)) (now (partners .exit))) ≡ wholePanelsOf mode
+        limit nrow ncol nb ncol 0 (between nrow (now (panel .entry)) (now (d .entry)) (now (sub .entry))
+        (now (amounts .entry)) (now (blocks .entry)) (now (lifts .entry)) (now (order .entry)) (now (partners .entry))
+        0) ⌝ }
     ensures { λ r. ⌜ RunLeaves ncol r (bytes (now (blocks .exit))) (bytes (now (partners .exit))) ⌝ }
 {
     let mut kb = 0;
@@ -327,8 +347,10 @@ fn eliminate(
     marks: &[u8],
     work: &mut [f64],
 ) -> Ran
-    requires { ⌜ entryCheck c (now input) (buffersOf (now panel) (now d) (now sub) (now blocks) (now lifts) (now amounts) (now order) (now marks) (now work)) ≡ sound ⌝ }
-    ensures { λ r. ⌜ Eliminated c (now (input .entry)) r (now (panel .exit)) (now (d .exit)) (now (sub .exit)) (now (amounts .exit)) (now (blocks .exit)) (now (lifts .exit)) (now (order .exit)) ⌝ }
+    requires { ⌜ entryCheck c (now input) (buffersOf (now panel) (now d) (now sub) (now blocks) (now lifts)
+        (now amounts) (now order) (now marks) (now work)) ≡ sound ⌝ }
+    ensures { λ r. ⌜ Eliminated c (now (input .entry)) r (now (panel .exit)) (now (d .exit)) (now (sub .exit))
+        (now (amounts .exit)) (now (blocks .exit)) (now (lifts .exit)) (now (order .exit)) ⌝ }
 {
     finish::begin(input, panel, d, sub, blocks, lifts, amounts, order);
     let mut partners = [0; 128];
@@ -366,9 +388,14 @@ fn accept(
     marks: &mut [u8],
     work: &mut [f64],
 ) -> Factored
-    requires { ⌜ JudgePre (c .nrow) (c .ncol) (length (now panel)) (length (now d)) (length (now sub)) (length (now marks)) (now blocks) ⌝ }
-    ensures { λ r. ⌜ outcomeOf r (buffersOf (now (panel .entry)) (now (d .entry)) (now (sub .entry)) (now (blocks .entry)) (now (lifts .entry)) (now (amounts .entry)) (now (order .entry)) (now (marks .exit)) (now (work .exit)))
-        ≡ acceptOf (c .nrow) (c .ncol) rounds (buffersOf (now (panel .entry)) (now (d .entry)) (now (sub .entry)) (now (blocks .entry)) (now (lifts .entry)) (now (amounts .entry)) (now (order .entry)) (now (marks .entry)) (now (work .entry))) ⌝ }
+    requires { ⌜ JudgePre (c .nrow) (c .ncol) (length (now panel)) (length (now d)) (length (now sub))
+        (length (now marks)) (now blocks) ⌝ }
+    ensures { λ r. ⌜ outcomeOf r (buffersOf (now (panel .entry)) (now (d .entry)) (now (sub .entry))
+        (now (blocks .entry)) (now (lifts .entry)) (now (amounts .entry)) (now (order .entry)) (now (marks .exit))
+        (now (work .exit)))
+        ≡ acceptOf (c .nrow) (c .ncol) rounds (buffersOf (now (panel .entry)) (now (d .entry)) (now (sub .entry))
+        (now (blocks .entry)) (now (lifts .entry)) (now (amounts .entry)) (now (order .entry)) (now (marks .entry))
+        (now (work .entry))) ⌝ }
 {
     scan::marks_of(panel, marks, c.ncol, c.nrow);
     grid::kernels::zero(work);
@@ -390,9 +417,13 @@ fn judge(
     marks: &mut [u8],
     work: &mut [f64],
 ) -> Factored
-    requires { ⌜ JudgePre (c .nrow) (c .ncol) (length (now panel)) (length (now d)) (length (now sub)) (length (now marks)) (now blocks) ⌝ }
-    ensures { λ r. ⌜ outcomeOf r (buffersOf (now (panel .exit)) (now (d .exit)) (now (sub .exit)) (now (blocks .exit)) (now (lifts .exit)) (now (amounts .exit)) (now (order .exit)) (now (marks .exit)) (now (work .exit)))
-        ≡ judgeOf (c .nrow) (c .ncol) rounds (buffersOf (now (panel .entry)) (now (d .entry)) (now (sub .entry)) (now (blocks .entry)) (now (lifts .entry)) (now (amounts .entry)) (now (order .entry)) (now (marks .entry)) (now (work .entry))) ⌝ }
+    requires { ⌜ JudgePre (c .nrow) (c .ncol) (length (now panel)) (length (now d)) (length (now sub))
+        (length (now marks)) (now blocks) ⌝ }
+    ensures { λ r. ⌜ outcomeOf r (buffersOf (now (panel .exit)) (now (d .exit)) (now (sub .exit)) (now (blocks .exit))
+        (now (lifts .exit)) (now (amounts .exit)) (now (order .exit)) (now (marks .exit)) (now (work .exit)))
+        ≡ judgeOf (c .nrow) (c .ncol) rounds (buffersOf (now (panel .entry)) (now (d .entry)) (now (sub .entry))
+        (now (blocks .entry)) (now (lifts .entry)) (now (amounts .entry)) (now (order .entry)) (now (marks .entry))
+        (now (work .entry))) ⌝ }
 {
     let found = finish::first_unsound(panel, d, sub, blocks, c.nrow, c.ncol);
     if let Found::At(k) = found {
@@ -445,9 +476,13 @@ fn run(
     marks: &mut [u8],
     work: &mut [f64],
 ) -> Factored
-    requires { ⌜ entryCheck c (now input) (buffersOf (now panel) (now d) (now sub) (now blocks) (now lifts) (now amounts) (now order) (now marks) (now work)) ≡ sound ⌝ }
-    ensures { λ r. ⌜ outcomeOf r (buffersOf (now (panel .exit)) (now (d .exit)) (now (sub .exit)) (now (blocks .exit)) (now (lifts .exit)) (now (amounts .exit)) (now (order .exit)) (now (marks .exit)) (now (work .exit)))
-        ≡ factorOf c (now (input .entry)) (buffersOf (now (panel .entry)) (now (d .entry)) (now (sub .entry)) (now (blocks .entry)) (now (lifts .entry)) (now (amounts .entry)) (now (order .entry)) (now (marks .entry)) (now (work .entry))) ⌝ }
+    requires { ⌜ entryCheck c (now input) (buffersOf (now panel) (now d) (now sub) (now blocks) (now lifts)
+        (now amounts) (now order) (now marks) (now work)) ≡ sound ⌝ }
+    ensures { λ r. ⌜ outcomeOf r (buffersOf (now (panel .exit)) (now (d .exit)) (now (sub .exit)) (now (blocks .exit))
+        (now (lifts .exit)) (now (amounts .exit)) (now (order .exit)) (now (marks .exit)) (now (work .exit)))
+        ≡ factorOf c (now (input .entry)) (buffersOf (now (panel .entry)) (now (d .entry)) (now (sub .entry))
+        (now (blocks .entry)) (now (lifts .entry)) (now (amounts .entry)) (now (order .entry)) (now (marks .entry))
+        (now (work .entry))) ⌝ }
 {
     let ran = eliminate(
         c,
@@ -501,8 +536,11 @@ pub fn factor(
     marks: &mut [u8],
     work: &mut [f64],
 ) -> Factored
-    ensures { λ r. ⌜ outcomeOf r (buffersOf (now (panel .exit)) (now (d .exit)) (now (sub .exit)) (now (blocks .exit)) (now (lifts .exit)) (now (amounts .exit)) (now (order .exit)) (now (marks .exit)) (now (work .exit)))
-        ≡ factorOf c (now (input .entry)) (buffersOf (now (panel .entry)) (now (d .entry)) (now (sub .entry)) (now (blocks .entry)) (now (lifts .entry)) (now (amounts .entry)) (now (order .entry)) (now (marks .entry)) (now (work .entry))) ⌝ }
+    ensures { λ r. ⌜ outcomeOf r (buffersOf (now (panel .exit)) (now (d .exit)) (now (sub .exit)) (now (blocks .exit))
+        (now (lifts .exit)) (now (amounts .exit)) (now (order .exit)) (now (marks .exit)) (now (work .exit)))
+        ≡ factorOf c (now (input .entry)) (buffersOf (now (panel .entry)) (now (d .entry)) (now (sub .entry))
+        (now (blocks .entry)) (now (lifts .entry)) (now (amounts .entry)) (now (order .entry)) (now (marks .entry))
+        (now (work .entry))) ⌝ }
 {
     let n = Lengths {
         input: input.len(),
