@@ -1,3 +1,4 @@
+-- `factor::accept` meets its contract: marks and counts, then the working buffer zeroed. Assumes nothing.
 use borrow.Author.Needs.{needs}
 use Rattle.finish.specs.Buffers.{buffersOf}
 use Rattle.factor.proofs.Outcome.{accept-is}
@@ -9,27 +10,21 @@ use Rattle.grid.proofs.kernels.zero.Reads as zero-reads
 use Rattle.inertia.proofs.tally.Reads as tally-reads
 use Rattle.scan.proofs.marks_of.Reads as marks-of-reads
 
--- src/lib.rt:169:5
 marks-of-requires : tie.Need-marks-of-requires
 marks-of-requires c κs = search needs
 
--- src/lib.rt:170:5
 zero-requires : tie.Need-zero-requires
 zero-requires c κs = search needs
 
--- src/lib.rt:171:9
 tally-requires : tie.Need-tally-requires
 tally-requires c κs = search needs
 
--- src/lib.rt:152:1
 same-length : tie.Need-same-length
 same-length c = search needs
 
--- src/lib.rt:152:1
 same-length-2 : tie.Need-same-length-2
 same-length-2 c = search needs
 
--- src/lib.rt:152:1
 returns : tie.Need-returns
 returns c =
     let a = c .before .before .before .before .before .before .before .before .before .before .before .before .before .before .before .before .before .before .args in

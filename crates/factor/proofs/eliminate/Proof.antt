@@ -1,3 +1,4 @@
+-- `factor::eliminate` meets its contract: the buffers as they begin are the start of the run, and the panels are its rest. Assumes nothing.
 use mathlib.Core.Path.{refl, _∙_}
 use lib.ListN.{length}
 use borrow.Author.Needs.{needs}
@@ -10,19 +11,15 @@ use Rattle.factor.proofs.panels.Reads as panels-reads
 use Rattle.factor.proofs.width.Reads as width-reads
 use Rattle.finish.proofs.begin.Reads as begin-reads
 
--- src/lib.rt:144:5
 begin-requires : tie.Need-begin-requires
 begin-requires c κs = copy-pre _ _ _ (c .before .before .before .before .before .before .before .before .before .before .before .before .before .before .before .before .before .pre)
 
--- src/lib.rt:146:9
 width-requires : tie.Need-width-requires
 width-requires c κs = search needs
 
--- src/lib.rt:148:58
 slice-aggregate-panels : tie.Need-slice-aggregate-panels
 slice-aggregate-panels c = search needs
 
--- src/lib.rt:148:5
 panels-requires : tie.Need-panels-requires
 panels-requires c κs =
     let begun = c .before .before .before .before .before .before .before .before .before .before .before .before .before .before .before .before .before .before .before .before .before .before .before .before in
@@ -35,39 +32,30 @@ panels-requires c κs =
       ),
     )
 
--- src/lib.rt:128:1
 same-length : tie.Need-same-length
 same-length c = c .before .before .before .before .before .before .before .before .before .before .before .before .before .before .before .before .before .panels .kept .0 ∙ c .before .before .before .before .before .before .before .before .before .before .before .before .before .before .before .before .before .before .before .before .before .before .before .before .before .before .before .before .before .before .before .before .before .before .before .before .before .before .before .before .before .before .begin .kept .1 .0
 
--- src/lib.rt:128:1
 same-length-2 : tie.Need-same-length-2
 same-length-2 c = search needs
 
--- src/lib.rt:128:1
 same-length-3 : tie.Need-same-length-3
 same-length-3 c = search needs
 
--- src/lib.rt:128:1
 same-length-4 : tie.Need-same-length-4
 same-length-4 c = search needs
 
--- src/lib.rt:128:1
 same-length-5 : tie.Need-same-length-5
 same-length-5 c = search needs
 
--- src/lib.rt:128:1
 same-length-6 : tie.Need-same-length-6
 same-length-6 c = search needs
 
--- src/lib.rt:128:1
 same-length-7 : tie.Need-same-length-7
 same-length-7 c = search needs
 
--- src/lib.rt:128:1
 same-length-8 : tie.Need-same-length-8
 same-length-8 c = search needs
 
--- src/lib.rt:128:1
 returns : tie.Need-returns
 returns c =
     let called = c .before .before .before .before .before .before .before .before .before .before .before .before .before .before .before .before .before in

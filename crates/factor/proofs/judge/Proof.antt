@@ -1,3 +1,4 @@
+-- `factor::judge` meets its contract: refusal 9 leaves zeros, else the call is accepted. Assumes nothing.
 use Rattle.finish.specs.Buffers.{buffersOf}
 use Rattle.factor.proofs.Judged.{result-pre, judge-refused, judge-accepted}
 use borrow.Author.Needs.{needs}
@@ -9,55 +10,42 @@ use Rattle.factor.proofs.accept.Reads as accept-reads
 use Rattle.finish.proofs.first_unsound.Reads as first-unsound-reads
 use Rattle.finish.proofs.zero_all.Reads as zero-all-reads
 
--- src/lib.rt:193:9
 first-unsound-requires : tie.Need-first-unsound-requires
 first-unsound-requires c κs = result-pre _ _ _ _ _ _ _ (c .before .before .before .before .before .before .before .before .before .before .before .before .before .pre)
 
--- src/lib.rt:194:22
 enum-known-found : tie.Need-enum-known-found
 enum-known-found c = search needs
 
--- src/lib.rt:195:9
 zero-all-requires : tie.Need-zero-all-requires
 zero-all-requires c κs = search needs
 
--- src/lib.rt:196:9
 same-length : tie.Need-same-length
 same-length c = search needs
 
--- src/lib.rt:196:9
 same-length-2 : tie.Need-same-length-2
 same-length-2 c = search needs
 
--- src/lib.rt:196:9
 same-length-3 : tie.Need-same-length-3
 same-length-3 c = search needs
 
--- src/lib.rt:196:9
 same-length-4 : tie.Need-same-length-4
 same-length-4 c = search needs
 
--- src/lib.rt:196:9
 same-length-5 : tie.Need-same-length-5
 same-length-5 c = search needs
 
--- src/lib.rt:196:9
 same-length-6 : tie.Need-same-length-6
 same-length-6 c = search needs
 
--- src/lib.rt:196:9
 same-length-7 : tie.Need-same-length-7
 same-length-7 c = search needs
 
--- src/lib.rt:196:9
 same-length-8 : tie.Need-same-length-8
 same-length-8 c = search needs
 
--- src/lib.rt:196:9
 same-length-9 : tie.Need-same-length-9
 same-length-9 c = search needs
 
--- src/lib.rt:196:9
 returns : tie.Need-returns
 returns c =
     let a = c .before .before .before .before .before .before .before .before .before .before .before .before .before .before .before .before .before .before .before .before .before .before .before .before .before .before .before .before .before .before .before .before .before .before .before .before .before .before .before .before .before .before .before .before .before .args in
@@ -66,47 +54,36 @@ returns c =
 enum-told : tie.Need-enum-told
 enum-told c = search needs
 
--- src/lib.rt:198:5
 accept-requires : tie.Need-accept-requires
 accept-requires c κs = search needs
 
--- src/lib.rt:176:1
 same-length-10 : tie.Need-same-length-10
 same-length-10 c = search needs
 
--- src/lib.rt:176:1
 same-length-11 : tie.Need-same-length-11
 same-length-11 c = search needs
 
--- src/lib.rt:176:1
 same-length-12 : tie.Need-same-length-12
 same-length-12 c = search needs
 
--- src/lib.rt:176:1
 same-length-13 : tie.Need-same-length-13
 same-length-13 c = search needs
 
--- src/lib.rt:176:1
 same-length-14 : tie.Need-same-length-14
 same-length-14 c = search needs
 
--- src/lib.rt:176:1
 same-length-15 : tie.Need-same-length-15
 same-length-15 c = search needs
 
--- src/lib.rt:176:1
 same-length-16 : tie.Need-same-length-16
 same-length-16 c = search needs
 
--- src/lib.rt:176:1
 same-length-17 : tie.Need-same-length-17
 same-length-17 c = search needs
 
--- src/lib.rt:176:1
 same-length-18 : tie.Need-same-length-18
 same-length-18 c = search needs
 
--- src/lib.rt:176:1
 returns-2 : tie.Need-returns-2
 returns-2 c =
     let a = c .before .before .before .before .before .before .before .before .before .before .before .before .before .before .before .before .before .before .before .before .before .before .before .before .before .before .before .before .before .before .args in

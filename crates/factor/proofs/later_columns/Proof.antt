@@ -1,3 +1,4 @@
+-- `factor::later_columns` meets its contract: past the last column there is nothing to update. Assumes nothing.
 use mathlib.Core.Path.{refl}
 use Rattle.factor.proofs.Work.{deferred-none, deferred-pre}
 use borrow.Author.Needs.{needs}
@@ -7,45 +8,35 @@ use Rattle.factor.proofs.later_columns.Reads as reads
 use Rattle.factor.proofs.later_columns.Lts as lts
 use Rattle.deferred.proofs.deferred_update.Reads as deferred-update-reads
 
--- src/lib.rt:181:9
 returns : tie.Need-returns
 returns c = deferred-none _ _ _ _ _ _ _ _ (c .if1 .taken)
 
--- src/lib.rt:184:16
 mul-size : tie.Need-mul-size
 mul-size c = search needs
 
--- src/lib.rt:185:44
 sub-deferred-update : tie.Need-sub-deferred-update
 sub-deferred-update c = search needs
 
--- src/lib.rt:185:44
 part-deferred-update-start : tie.Need-part-deferred-update-start
 part-deferred-update-start c = search needs
 
--- src/lib.rt:185:44
 part-deferred-update-end : tie.Need-part-deferred-update-end
 part-deferred-update-end c = search needs
 
--- src/lib.rt:185:64
 slice-aggregate-deferred-update : tie.Need-slice-aggregate-deferred-update
 slice-aggregate-deferred-update c = search needs
 
--- src/lib.rt:185:5
 deferred-update-requires : tie.Need-deferred-update-requires
 deferred-update-requires c κs =
     let pre = c .before .before .before .before .before .before .before .before .before .before .pre in
     deferred-pre _ _ _ _ _ _ _ _ _ _ _ _ _ _ _ (pre .0) refl refl refl (pre .1)
 
--- src/lib.rt:163:1
 same-length : tie.Need-same-length
 same-length c = search needs
 
--- src/lib.rt:163:1
 same-length-2 : tie.Need-same-length-2
 same-length-2 c = search needs
 
--- src/lib.rt:163:1
 returns-2 : tie.Need-returns-2
 returns-2 c = search needs
 

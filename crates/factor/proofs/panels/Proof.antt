@@ -1,3 +1,5 @@
+-- `factor::panels` meets its contract. Invariant: the lengths stay, the run from kb on of what the slices hold is the run from 0 on of what they held,
+-- and the pivots before kb are noted. Measure: the columns that are left. Assumes nothing.
 use Prim.Native.Nat.{ℕ, _+_, _*_, _<_, _≤_, _-_}
 use mathlib.Core.Path.{_≡_, refl, sym, _∙_, ap}
 use native.Mathlib.Omega.{arith}
@@ -25,7 +27,6 @@ abbrev μ-loop : tie.MeasureT-loop
 μ-loop panel₀ d₀ sub₀ amounts₀ blocks₀ lifts₀ order₀ partners₀ work₀ nrow ncol nb mode limit kb₀ rounds₀ panel d sub amounts blocks lifts order partners work kb rounds =
     ncol - kb
 
--- src/lib.rt:89:5
 loop-holds : tie.Need-loop-holds Inv-loop μ-loop
 loop-holds c =
     let start = c .before .before .before .before .before .before .before .before .before in
@@ -44,11 +45,9 @@ loop-holds c =
       pre .1 .1,
     )
 
--- src/lib.rt:90:13
 panel-end-requires : tie.Need-panel-end-requires Inv-loop μ-loop
 panel-end-requires c κs = search needs
 
--- src/lib.rt:91:13
 turn-requires : tie.Need-turn-requires Inv-loop μ-loop
 turn-requires c κs =
     let looped = c .before .before .before .before .before .before .before .before .before .before .before in
@@ -61,51 +60,39 @@ turn-requires c κs =
       ),
     )
 
--- src/lib.rt:94:23
 enum-known-ran : tie.Need-enum-known-ran Inv-loop μ-loop
 enum-known-ran c = search needs
 
--- src/lib.rt:95:13
 enum-told : tie.Need-enum-told Inv-loop μ-loop
 enum-told c = search needs
 
--- src/lib.rt:95:13
 same-length : tie.Need-same-length Inv-loop μ-loop
 same-length c = search needs
 
--- src/lib.rt:95:13
 same-length-2 : tie.Need-same-length-2 Inv-loop μ-loop
 same-length-2 c = search needs
 
--- src/lib.rt:95:13
 same-length-3 : tie.Need-same-length-3 Inv-loop μ-loop
 same-length-3 c = search needs
 
--- src/lib.rt:95:13
 same-length-4 : tie.Need-same-length-4 Inv-loop μ-loop
 same-length-4 c = search needs
 
--- src/lib.rt:95:13
 same-length-5 : tie.Need-same-length-5 Inv-loop μ-loop
 same-length-5 c = search needs
 
--- src/lib.rt:95:13
 same-length-6 : tie.Need-same-length-6 Inv-loop μ-loop
 same-length-6 c = search needs
 
--- src/lib.rt:95:13
 same-length-7 : tie.Need-same-length-7 Inv-loop μ-loop
 same-length-7 c = search needs
 
--- src/lib.rt:95:13
 same-length-8 : tie.Need-same-length-8 Inv-loop μ-loop
 same-length-8 c = search needs
 
--- src/lib.rt:95:13
 same-length-9 : tie.Need-same-length-9 Inv-loop μ-loop
 same-length-9 c = search needs
 
--- src/lib.rt:95:13
 returns : tie.Need-returns Inv-loop μ-loop
 returns c =
     let called = c .before .before .before .before .before .before .before .before .before .before .before .before .before .before .before .before .before .before .before .before in
@@ -117,14 +104,12 @@ returns c =
       stopped-leaves _ _ _ _ _ _ (called .turn .ensures .1) told,
     )
 
--- src/lib.rt:89:5
 loop-less : tie.Need-loop-less Inv-loop μ-loop
 loop-less c =
     let called = c .before .before .before .before .before .before .before .before .before .before .before .before .before .before .before .before .before .before .before .before .before in
     let looped = called .before .before .before .before .before .before .before .before .before .before .before .before in
     further _ _ _ _ (looped .before .before .before .before .before .before .before .before .before .before .pre .0 .some) (called .before .before .before .before .before .before .before .before .before .before .before .loop-test .taken) (called .before .before .before .before .before .before .before .before .before .before .panel-end .ensures)
 
--- src/lib.rt:89:5
 loop-again : tie.Need-loop-again Inv-loop μ-loop
 loop-again c =
     let called = c .before .before .before .before .before .before .before .before .before .before .before .before .before .before .before .before .before .before .before .before .before in
@@ -147,43 +132,33 @@ loop-again c =
       done-leaves _ _ _ _ _ (called .turn .ensures .1) told,
     )
 
--- src/lib.rt:65:1
 same-length-10 : tie.Need-same-length-10 Inv-loop μ-loop
 same-length-10 c = search needs
 
--- src/lib.rt:65:1
 same-length-11 : tie.Need-same-length-11 Inv-loop μ-loop
 same-length-11 c = search needs
 
--- src/lib.rt:65:1
 same-length-12 : tie.Need-same-length-12 Inv-loop μ-loop
 same-length-12 c = search needs
 
--- src/lib.rt:65:1
 same-length-13 : tie.Need-same-length-13 Inv-loop μ-loop
 same-length-13 c = search needs
 
--- src/lib.rt:65:1
 same-length-14 : tie.Need-same-length-14 Inv-loop μ-loop
 same-length-14 c = search needs
 
--- src/lib.rt:65:1
 same-length-15 : tie.Need-same-length-15 Inv-loop μ-loop
 same-length-15 c = search needs
 
--- src/lib.rt:65:1
 same-length-16 : tie.Need-same-length-16 Inv-loop μ-loop
 same-length-16 c = search needs
 
--- src/lib.rt:65:1
 same-length-17 : tie.Need-same-length-17 Inv-loop μ-loop
 same-length-17 c = search needs
 
--- src/lib.rt:65:1
 same-length-18 : tie.Need-same-length-18 Inv-loop μ-loop
 same-length-18 c = search needs
 
--- src/lib.rt:65:1
 returns-2 : tie.Need-returns-2 Inv-loop μ-loop
 returns-2 c =
     let inv = c .before .loop .inv in

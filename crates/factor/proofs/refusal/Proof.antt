@@ -1,3 +1,4 @@
+-- `factor::refusal` meets its contract, case by case of how the run stopped. Assumes nothing.
 use mathlib.Core.Path.{sym, ap}
 use Rattle.factor.specs.Judge.{refusalOf}
 use borrow.Author.Needs.{needs}
@@ -6,19 +7,15 @@ use Rattle.factor.proofs.refusal.Tie as tie
 use Rattle.factor.proofs.refusal.Reads as reads
 use Rattle.factor.proofs.refusal.Lts as lts
 
--- src/lib.rt:206:22
 enum-known-ran : tie.Need-enum-known-ran
 enum-known-ran c = search needs
 
--- src/lib.rt:207:19
 enum-known-ran-2 : tie.Need-enum-known-ran-2
 enum-known-ran-2 c = search needs
 
--- src/lib.rt:202:1
 returns : tie.Need-returns
 returns c = sym (ap refusalOf (c .before .ran .given .1))
 
--- src/lib.rt:202:1
 returns-2 : tie.Need-returns-2
 returns-2 c = sym (ap refusalOf (c .before .ran2 .given .1))
 

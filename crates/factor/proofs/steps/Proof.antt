@@ -1,3 +1,4 @@
+-- `factor::steps` meets its contract: the multipliers stand in the first nb·nb numbers of the working buffer. Assumes nothing.
 use Prim.Native.Nat.{_*_, _-_}
 use lib.ListN.{take}
 use borrow.Rule.Slice.PartMut.{midOf, putMid}
@@ -11,27 +12,21 @@ use Rattle.factor.proofs.steps.Lts as lts
 use Rattle.bunch_kaufman.proofs.ll_bk_panel_step.Reads as ll-bk-panel-step-reads
 use Rattle.grid.proofs.columns.zero.Reads as zero-reads
 
--- src/lib.rt:131:18
 mul-square : tie.Need-mul-square
 mul-square c = search needs
 
--- src/lib.rt:132:5
 zero-requires : tie.Need-zero-requires
 zero-requires c κs = search needs
 
--- src/lib.rt:134:16
 sub-ll-bk-panel-step : tie.Need-sub-ll-bk-panel-step
 sub-ll-bk-panel-step c = search needs
 
--- src/lib.rt:134:16
 part-ll-bk-panel-step-start : tie.Need-part-ll-bk-panel-step-start
 part-ll-bk-panel-step-start c = search needs
 
--- src/lib.rt:134:16
 part-ll-bk-panel-step-end : tie.Need-part-ll-bk-panel-step-end
 part-ll-bk-panel-step-end c = search needs
 
--- src/lib.rt:133:5
 ll-bk-panel-step-requires : tie.Need-ll-bk-panel-step-requires
 ll-bk-panel-step-requires c κs =
     let zeroed = c .before .before .before .before .before .before .before .before .before .before .before in
@@ -40,43 +35,33 @@ ll-bk-panel-step-requires c κs =
       (holds-ke _ _ _ _ _ _ _ _ _ _ _ _ _ _ _ _ (pre .0) (pre .1 .0), (pre .0 .run .rounds, pre .1 .1)),
     )
 
--- src/lib.rt:106:1
 same-length : tie.Need-same-length
 same-length c = search needs
 
--- src/lib.rt:106:1
 same-length-2 : tie.Need-same-length-2
 same-length-2 c = search needs
 
--- src/lib.rt:106:1
 same-length-3 : tie.Need-same-length-3
 same-length-3 c = search needs
 
--- src/lib.rt:106:1
 same-length-4 : tie.Need-same-length-4
 same-length-4 c = search needs
 
--- src/lib.rt:106:1
 same-length-5 : tie.Need-same-length-5
 same-length-5 c = search needs
 
--- src/lib.rt:106:1
 same-length-6 : tie.Need-same-length-6
 same-length-6 c = search needs
 
--- src/lib.rt:106:1
 same-length-7 : tie.Need-same-length-7
 same-length-7 c = search needs
 
--- src/lib.rt:106:1
 same-length-8 : tie.Need-same-length-8
 same-length-8 c = search needs
 
--- src/lib.rt:106:1
 same-length-9 : tie.Need-same-length-9
 same-length-9 c = search needs
 
--- src/lib.rt:106:1
 returns : tie.Need-returns
 returns c =
     let called = c .before .before .before .before .before .before .before .before .before .before .before .before .before .before .before .before .before .before in
