@@ -16,11 +16,11 @@ use Rattle.eliminate.proofs.Buffer.{kept-at}
 
 -- ---- a region
 
-region-none : (M : Mat) (c lo hi : ℕ) (F : ℕ → ℕ → Float → Float) → M ≡ region M c c lo hi F
+pub region-none : (M : Mat) (c lo hi : ℕ) (F : ℕ → ℕ → Float → Float) → M ≡ region M c c lo hi F
 unfolding region
 region-none M c lo hi F = fun-ext λ a. fun-ext λ b. test (leb c b) (λ p. rw (p, le-ltb b c (leb-true c b p))) (λ p. rw p)
 
-region-step : (M P Q : Mat) (c j lo hi top : ℕ) (F : ℕ → ℕ → Float → Float) → c ≤ j → P ≡ region M c j lo hi F → top ≡ max j lo
+pub region-step : (M P Q : Mat) (c j lo hi top : ℕ) (F : ℕ → ℕ → Float → Float) → c ≤ j → P ≡ region M c j lo hi F → top ≡ max j lo
     → Q ≡ withColumn P j top hi (λ a. F a j (P a j)) → Q ≡ region M c (j + 1) lo hi F
 unfolding region withColumn
 region-step M P Q c j lo hi top F h p t q =
@@ -42,7 +42,7 @@ unfolding region
 region-row M c ke lo hi F a b end h g w = rw (le-leb lo a h, lt-ltb a hi g, ← w) (test (leb b a) (λ z. rw z) (λ z. rw z))
 
 -- a column before all that are swept
-region-before : (M P : Mat) (c j lo hi : ℕ) (F : ℕ → ℕ → Float → Float) (b : ℕ) → b < c → P ≡ region M c j lo hi F → columnOf P b ≡ columnOf M b
+pub region-before : (M P : Mat) (c j lo hi : ℕ) (F : ℕ → ℕ → Float → Float) (b : ℕ) → b < c → P ≡ region M c j lo hi F → columnOf P b ≡ columnOf M b
 unfolding region columnOf
 region-before M P c j lo hi F b h e = fun-ext λ a. ap (λ (X : Mat). X a b) e ∙ rw (lt-leb c b h)
 

@@ -13,8 +13,8 @@ use borrow.Rule.Slice.PartMut.{midOf, putMid}
 use lib.Ieee.{Float, nan, eq, ne}
 use Rattle.model.specs.Scalar.{zeroF}
 use Rattle.model.specs.Matrix.{Row, Mat, view, vec, putAt, withColumn, withPart}
-use Rattle.grid.specs.Rules.{columnOf, behind, ahead, zeroed, lessTimes, lessTimesIf, lessTwo, lessEach, plusTimes, plusFour, times, combined}
-use Rattle.grid.specs.Rules.{columnsExchanged, AheadPre, TwoAheadPre, LaterPre, RowsPre}
+use Rattle.grid.specs.Rules.{columnOf, behind, ahead, zeroed, lessTimes, lessTimesIf, lessTwo, lessThree, lessFour, lessEach, plusTimes, plusFour}
+use Rattle.grid.specs.Rules.{times, combined, columnsExchanged, AheadPre, MoreAheadPre, LaterPre, RowsPre}
 use Rattle.grid.proofs.Laws.{test, cmp, no, vec-put, vec-part, view-set, view-at}
 
 -- ---- any rule
@@ -156,12 +156,12 @@ zero-lent xs ys lo hi u h e =
 
 -- ---- the functions that lend from one column's row lo to a later column's row hi
 
--- columns k and j, k first, do not overlap; nor do k, k + 1 and j
+-- columns k and j, k first, do not overlap; nor do k, k + c and j
 pub later-room : (n k j lo hi len : ℕ) → LaterPre n k j lo hi len → k * n + n ≤ j * n
 later-room n k j lo hi len h = omega (arith, mul-le-mul-right n (h .past), suc-mul k n)
 
-pub later-room-two : (n k j lo hi len : ℕ) → LaterPre n (k + 1) j lo hi len → k * n + n + n ≤ j * n
-later-room-two n k j lo hi len h = omega (arith, later-room n (k + 1) j lo hi len h, add-mul k 1 n)
+pub later-room-more : (n k c j lo hi len : ℕ) → LaterPre n (k + c) j lo hi len → k * n + c * n + n ≤ j * n
+later-room-more n k c j lo hi len h = omega (arith, later-room n (k + c) j lo hi len h, add-mul k c n)
 
 pub later-ahead : (n : ℕ) (xs : List Float) (k j lo hi : ℕ) → LaterPre n k j lo hi (length xs)
     → AheadPre (hi - lo) (lo + j * n - (lo + k * n)) (length (midOf (lo + k * n) (hi + j * n - (lo + k * n)) xs))
@@ -170,12 +170,24 @@ later-ahead n xs k j lo hi h =
     let count = mid-count (lo + k * n) (hi + j * n) xs (omega arith) (omega arith) in
     record { apart = omega arith; out = omega arith }
 
-pub later-two-ahead : (n : ℕ) (xs : List Float) (k j lo hi : ℕ) → LaterPre n (k + 1) j lo hi (length xs)
-    → TwoAheadPre (hi - lo) n (lo + j * n - (lo + k * n)) (length (midOf (lo + k * n) (hi + j * n - (lo + k * n)) xs))
-later-two-ahead n xs k j lo hi h =
-    let room = later-room-two n k j lo hi (length xs) h in
+later-more-ahead : (n : ℕ) (xs : List Float) (k c r j lo hi : ℕ) → LaterPre n (k + c) j lo hi (length xs) → r ≡ c * n
+    → MoreAheadPre (hi - lo) n r (lo + j * n - (lo + k * n)) (length (midOf (lo + k * n) (hi + j * n - (lo + k * n)) xs))
+later-more-ahead n xs k c r j lo hi h e =
+    let room = later-room-more n k c j lo hi (length xs) h in
     let count = mid-count (lo + k * n) (hi + j * n) xs (omega arith) (omega arith) in
-    record { first = omega arith; second = omega arith; out = omega arith }
+    record { apart = omega arith; last = omega arith; out = omega arith }
+
+pub later-two-ahead : (n : ℕ) (xs : List Float) (k j lo hi : ℕ) → LaterPre n (k + 1) j lo hi (length xs)
+    → MoreAheadPre (hi - lo) n n (lo + j * n - (lo + k * n)) (length (midOf (lo + k * n) (hi + j * n - (lo + k * n)) xs))
+later-two-ahead n xs k j lo hi h = later-more-ahead n xs k 1 n j lo hi h (omega arith)
+
+pub later-three-ahead : (n : ℕ) (xs : List Float) (k j lo hi : ℕ) → LaterPre n (k + 2) j lo hi (length xs)
+    → MoreAheadPre (hi - lo) n (n + n) (lo + j * n - (lo + k * n)) (length (midOf (lo + k * n) (hi + j * n - (lo + k * n)) xs))
+later-three-ahead n xs k j lo hi h = later-more-ahead n xs k 2 (n + n) j lo hi h (omega arith)
+
+pub later-four-ahead : (n : ℕ) (xs : List Float) (k j lo hi : ℕ) → LaterPre n (k + 3) j lo hi (length xs)
+    → MoreAheadPre (hi - lo) n (n + n + n) (lo + j * n - (lo + k * n)) (length (midOf (lo + k * n) (hi + j * n - (lo + k * n)) xs))
+later-four-ahead n xs k j lo hi h = later-more-ahead n xs k 3 (n + n + n) j lo hi h (omega arith)
 
 -- a run that ends with the lent part, written there and not before it
 run-back : (xs ys : List Float) (a x e : ℕ) (N′ : Row) → a ≤ x → x ≤ e → e ≤ length xs → length ys ≡ length (part xs a e)
@@ -216,34 +228,91 @@ later-lent n xs ys k j lo hi N′ N room past u h ly e same =
     (e ∙ ap (λ (z : ℕ). withPart (vec (part xs (lo + k * n) (hi + j * n))) (lo + j * n - (lo + k * n)) (lo + j * n - (lo + k * n) + z) N′) (omega arith)))
     (λ a l g. ap N′ (omega arith) ∙ same (a - lo) (omega arith) ∙ ap N (omega arith))
 
+-- as the kernels read them, t rows past lo: column j itself, column k, and a later one, r places past column k
+module _ (n : ℕ) (xs : List Float) (k j lo hi : ℕ) (room : n + j * n ≤ length xs) (past : k * n + n ≤ j * n) (h : hi ≤ n) (t : ℕ) (l : t < hi - lo) where
+  own-read : vec (part xs (lo + k * n) (hi + j * n)) (lo + j * n - (lo + k * n) + t) ≡ view n xs (lo + t) j
+  own-read = later-at n xs k j lo (hi + j * n) (lo + t) _ (omega arith) (omega arith) (omega arith)
+
+  first-read : vec (part xs (lo + k * n) (hi + j * n)) (lo + j * n - (lo + k * n) + t - (lo + j * n - (lo + k * n))) ≡ view n xs (lo + t) k
+  first-read = later-at n xs k k lo (hi + j * n) (lo + t) _ (omega arith) (omega arith) (omega arith)
+
+  next-read : (c r : ℕ) → r ≡ c * n → k * n + c * n + n ≤ j * n
+      → vec (part xs (lo + k * n) (hi + j * n)) (lo + j * n - (lo + k * n) + t - (lo + j * n - (lo + k * n) - r)) ≡ view n xs (lo + t) (k + c)
+  next-read c r e g = later-at n xs k (k + c) lo (hi + j * n) (lo + t) _ (omega arith) (omega (arith, add-mul k c n)) (omega arith)
+
 pub less-lent : (n : ℕ) (xs ys : List Float) (k j lo hi : ℕ) (m : Float) → LaterPre n k j lo hi (length xs)
     → length ys ≡ length (part xs (lo + k * n) (hi + j * n))
     → vec ys ≡ withPart (vec (part xs (lo + k * n) (hi + j * n))) (lo + j * n - (lo + k * n)) (lo + j * n - (lo + k * n) + (hi - lo))
-    (lessTimes (vec (part xs (lo + k * n) (hi + j * n))) (behind (lo + j * n - (lo + k * n)) (vec (part xs (lo + k * n) (hi + j * n)))) m)
-    → view n (back xs (lo + k * n) (hi + j * n) ys) ≡ withColumn (view n xs) j lo hi (lessTimes (columnOf (view n xs) j) (columnOf (view n xs) k) m)
+    (lessTimes (vec (part xs (lo + k * n) (hi + j * n)))
+    (behind (lo + j * n - (lo + k * n)) (vec (part xs (lo + k * n) (hi + j * n)))) m)
+    → view n (back xs (lo + k * n) (hi + j * n) ys)
+    ≡ withColumn (view n xs) j lo hi (lessTimes (columnOf (view n xs) j) (columnOf (view n xs) k) m)
 unfolding lessTimes behind columnOf
 less-lent n xs ys k j lo hi m pre ly e =
     let room = later-room n k j lo hi (length xs) pre in
     later-lent n xs ys k j lo hi _ _ (pre .col) (omega arith) (pre .up) (pre .rows) ly e (λ t l. rw (
-      later-at n xs k j lo (hi + j * n) (lo + t) (lo + j * n - (lo + k * n) + t) (omega arith) (omega arith) (omega arith),
-      later-at n xs k k lo (hi + j * n) (lo + t) (lo + j * n - (lo + k * n) + t - (lo + j * n - (lo + k * n))) (omega arith) (omega arith) (omega arith),
+      own-read n xs k j lo hi (pre .col) (omega arith) (pre .rows) t l,
+      first-read n xs k j lo hi (pre .col) (omega arith) (pre .rows) t l,
     ))
 
 pub less-two-lent : (n : ℕ) (xs ys : List Float) (k j lo hi : ℕ) (m1 m2 : Float) → LaterPre n (k + 1) j lo hi (length xs)
     → length ys ≡ length (part xs (lo + k * n) (hi + j * n))
     → vec ys ≡ withPart (vec (part xs (lo + k * n) (hi + j * n))) (lo + j * n - (lo + k * n)) (lo + j * n - (lo + k * n) + (hi - lo))
-    (lessTwo (vec (part xs (lo + k * n) (hi + j * n))) (behind (lo + j * n - (lo + k * n)) (vec (part xs (lo + k * n) (hi + j * n))))
+    (lessTwo (vec (part xs (lo + k * n) (hi + j * n)))
+    (behind (lo + j * n - (lo + k * n)) (vec (part xs (lo + k * n) (hi + j * n))))
     (behind (lo + j * n - (lo + k * n) - n) (vec (part xs (lo + k * n) (hi + j * n)))) m1 m2)
     → view n (back xs (lo + k * n) (hi + j * n) ys)
     ≡ withColumn (view n xs) j lo hi (lessTwo (columnOf (view n xs) j) (columnOf (view n xs) k) (columnOf (view n xs) (k + 1)) m1 m2)
 unfolding lessTwo behind columnOf
 less-two-lent n xs ys k j lo hi m1 m2 pre ly e =
-    let room = later-room-two n k j lo hi (length xs) pre in
-    let next : (k + 1) * n ≡ k * n + n = omega (arith, add-mul k 1 n) in
+    let room = later-room-more n k 1 j lo hi (length xs) pre in
     later-lent n xs ys k j lo hi _ _ (pre .col) (omega arith) (pre .up) (pre .rows) ly e (λ t l. rw (
-      later-at n xs k j lo (hi + j * n) (lo + t) (lo + j * n - (lo + k * n) + t) (omega arith) (omega arith) (omega arith),
-      later-at n xs k k lo (hi + j * n) (lo + t) (lo + j * n - (lo + k * n) + t - (lo + j * n - (lo + k * n))) (omega arith) (omega arith) (omega arith),
-      later-at n xs k (k + 1) lo (hi + j * n) (lo + t) (lo + j * n - (lo + k * n) + t - (lo + j * n - (lo + k * n) - n)) (omega arith) (omega arith) (omega arith),
+      own-read n xs k j lo hi (pre .col) (omega arith) (pre .rows) t l,
+      first-read n xs k j lo hi (pre .col) (omega arith) (pre .rows) t l,
+      next-read n xs k j lo hi (pre .col) (omega arith) (pre .rows) t l 1 n (omega arith) (omega arith),
+    ))
+
+pub less-three-lent : (n : ℕ) (xs ys : List Float) (k j lo hi : ℕ) (m1 m2 m3 : Float) → LaterPre n (k + 2) j lo hi (length xs)
+    → length ys ≡ length (part xs (lo + k * n) (hi + j * n))
+    → vec ys ≡ withPart (vec (part xs (lo + k * n) (hi + j * n))) (lo + j * n - (lo + k * n)) (lo + j * n - (lo + k * n) + (hi - lo))
+    (lessThree (vec (part xs (lo + k * n) (hi + j * n)))
+    (behind (lo + j * n - (lo + k * n)) (vec (part xs (lo + k * n) (hi + j * n))))
+    (behind (lo + j * n - (lo + k * n) - n) (vec (part xs (lo + k * n) (hi + j * n))))
+    (behind (lo + j * n - (lo + k * n) - (n + n)) (vec (part xs (lo + k * n) (hi + j * n)))) m1 m2 m3)
+    → view n (back xs (lo + k * n) (hi + j * n) ys)
+    ≡ withColumn (view n xs) j lo hi
+    (lessThree (columnOf (view n xs) j) (columnOf (view n xs) k) (columnOf (view n xs) (k + 1)) (columnOf (view n xs) (k + 2)) m1 m2 m3)
+unfolding lessThree lessTwo lessTimes behind columnOf
+less-three-lent n xs ys k j lo hi m1 m2 m3 pre ly e =
+    let room = later-room-more n k 2 j lo hi (length xs) pre in
+    later-lent n xs ys k j lo hi _ _ (pre .col) (omega arith) (pre .up) (pre .rows) ly e (λ t l. rw (
+      own-read n xs k j lo hi (pre .col) (omega arith) (pre .rows) t l,
+      first-read n xs k j lo hi (pre .col) (omega arith) (pre .rows) t l,
+      next-read n xs k j lo hi (pre .col) (omega arith) (pre .rows) t l 1 n (omega arith) (omega arith),
+      next-read n xs k j lo hi (pre .col) (omega arith) (pre .rows) t l 2 (n + n) (omega arith) (omega arith),
+    ))
+
+pub less-four-lent : (n : ℕ) (xs ys : List Float) (k j lo hi : ℕ) (m1 m2 m3 m4 : Float) → LaterPre n (k + 3) j lo hi (length xs)
+    → length ys ≡ length (part xs (lo + k * n) (hi + j * n))
+    → vec ys ≡ withPart (vec (part xs (lo + k * n) (hi + j * n))) (lo + j * n - (lo + k * n)) (lo + j * n - (lo + k * n) + (hi - lo))
+    (lessFour (vec (part xs (lo + k * n) (hi + j * n)))
+    (behind (lo + j * n - (lo + k * n)) (vec (part xs (lo + k * n) (hi + j * n))))
+    (behind (lo + j * n - (lo + k * n) - n) (vec (part xs (lo + k * n) (hi + j * n))))
+    (behind (lo + j * n - (lo + k * n) - (n + n)) (vec (part xs (lo + k * n) (hi + j * n))))
+    (behind (lo + j * n - (lo + k * n) - (n + n + n)) (vec (part xs (lo + k * n) (hi + j * n)))) m1 m2 m3 m4)
+    → view n (back xs (lo + k * n) (hi + j * n) ys)
+    ≡ withColumn (view n xs) j lo hi
+    (lessFour (columnOf (view n xs) j) (columnOf (view n xs) k) (columnOf (view n xs) (k + 1)) (columnOf (view n xs) (k + 2)) (columnOf (view n xs) (k + 3))
+    m1 m2 m3 m4)
+unfolding lessFour lessTwo behind columnOf
+less-four-lent n xs ys k j lo hi m1 m2 m3 m4 pre ly e =
+    let room = later-room-more n k 3 j lo hi (length xs) pre in
+    later-lent n xs ys k j lo hi _ _ (pre .col) (omega arith) (pre .up) (pre .rows) ly e (λ t l. rw (
+      own-read n xs k j lo hi (pre .col) (omega arith) (pre .rows) t l,
+      first-read n xs k j lo hi (pre .col) (omega arith) (pre .rows) t l,
+      next-read n xs k j lo hi (pre .col) (omega arith) (pre .rows) t l 1 n (omega arith) (omega arith),
+      next-read n xs k j lo hi (pre .col) (omega arith) (pre .rows) t l 2 (n + n) (omega arith) (omega arith),
+      next-read n xs k j lo hi (pre .col) (omega arith) (pre .rows) t l 3 (n + n + n) (omega arith) (omega arith),
     ))
 
 -- ---- the function that lends two columns, one after the other
@@ -309,7 +378,8 @@ module _ (n : ℕ) (xs ys : List Float) (k lo hi : ℕ) (d11 d21 d22 r : Float) 
       later-at n xs k (k + 1) lo (hi + k * n + n) a s (omega (arith, pre .rows)) (omega (arith, add-mul k 1 n)) (omega arith)
 
   first-seen : (a : ℕ) → lo ≤ a → a < hi
-      → behind (lo + k * n) (combined two-lent (ahead n two-lent) d22 d21 r) (a + k * n) ≡ combined (columnOf (view n xs) k) (columnOf (view n xs) (k + 1)) d22 d21 r a
+      → behind (lo + k * n) (combined two-lent (ahead n two-lent) d22 d21 r) (a + k * n)
+      ≡ combined (columnOf (view n xs) k) (columnOf (view n xs) (k + 1)) d22 d21 r a
   unfolding behind ahead combined columnOf
   first-seen a l u = rw (first-at (a + k * n - (lo + k * n)) a l u (omega arith), second-at (a + k * n - (lo + k * n) + n) a l u (omega arith))
 

@@ -10,7 +10,7 @@ use lib.Dec.{eqb}
 use lib.ListN.{length, getD, set, drop, replicate, drop-of-length-le, length-set}
 use lib.Ieee.{Float, nan, binary64, add, sub, mul}
 use Rattle.model.specs.Matrix.{Row, vec, put, withPart}
-use Rattle.grid.specs.Rules.{behind, ahead, lessTimes, lessTwo, lessEach, plusTimes, plusFour, times, combined, blended}
+use Rattle.grid.specs.Rules.{behind, ahead, lessTimes, lessTwo, lessThree, lessFour, lessEach, plusTimes, plusFour, times, combined, blended}
 use Rattle.grid.proofs.Laws.{test, vec-set, withPart-none, withPart-past, withPart-before, withPart-step}
 
 -- ---- any rule
@@ -57,27 +57,63 @@ pub copy-step : (f : Row) (xs zs : List Float) (i n len : ℕ) → i < n → n �
 unfolding vec
 copy-step f xs zs i n len l h r e = store f xs i n len _ _ l h r e refl
 
+-- the operands: the slice's first, and those that begin r before q on
+first-read : (f : Row) (xs : List Float) (q i n : ℕ) (N : Row) → i < n → n ≤ q → vec xs ≡ withPart f q (q + i) N → getD xs i nan ≡ f (q + i - q)
+first-read f xs q i n N l h u = kept-before f xs q (q + i) i N u (omega arith) ∙ ap f (omega arith)
+
+later-read : (f : Row) (xs : List Float) (q r i n : ℕ) (N : Row) → i < n → r + n ≤ q → vec xs ≡ withPart f q (q + i) N
+    → getD xs (r + i) nan ≡ f (q + i - (q - r))
+later-read f xs q r i n N l h u = kept-before f xs q (q + i) (r + i) N u (omega arith) ∙ ap f (omega arith)
+
 pub less-ahead-step : (f : Row) (xs : List Float) (q i n len : ℕ) (m : Float) → i < n → n ≤ q → q + n ≤ len → length xs ≡ len
     → vec xs ≡ withPart f q (q + i) (lessTimes f (behind q f) m)
     → vec (set xs (q + i) (sub binary64 (getD xs (q + i) nan) (mul binary64 (getD xs i nan) m))) ≡ withPart f q (q + (i + 1)) (lessTimes f (behind q f) m)
 unfolding lessTimes behind
-less-ahead-step f xs q i n len m l h r e u =
-    store-from f xs q i n len _ _ l r e u
-    (rw (reached-from f xs q i _ u, kept-before f xs q (q + i) i _ u (omega arith), ap f {x = q + i - q} {y = i} (omega arith)))
+less-ahead-step f xs q i n len m l h r e u = store-from f xs q i n len _ _ l r e u (rw (reached-from f xs q i _ u, first-read f xs q i n _ l h u))
 
-pub less-two-ahead-step : (f : Row) (xs : List Float) (p q i n len : ℕ) (m1 m2 : Float) → i < n → n ≤ p → p + n ≤ q → q + n ≤ len → length xs ≡ len
-    → vec xs ≡ withPart f q (q + i) (lessTwo f (behind q f) (behind (q - p) f) m1 m2)
-    → vec (set xs (q + i) (sub binary64 (sub binary64 (getD xs (q + i) nan) (mul binary64 (getD xs i nan) m1)) (mul binary64 (getD xs (p + i) nan) m2)))
-    ≡ withPart f q (q + (i + 1)) (lessTwo f (behind q f) (behind (q - p) f) m1 m2)
-unfolding lessTwo behind
-less-two-ahead-step f xs p q i n len m1 m2 l g h r e u =
-    store-from f xs q i n len _ _ l r e u (rw (
-      reached-from f xs q i _ u,
-      kept-before f xs q (q + i) i _ u (omega arith),
-      kept-before f xs q (q + i) (p + i) _ u (omega arith),
-      ap f {x = q + i - q} {y = i} (omega arith),
-      ap f {x = q + i - (q - p)} {y = p + i} (omega arith),
-    ))
+module _ (f : Row) (xs : List Float) (p q i n len : ℕ) (m1 m2 : Float) (l : i < n) (g : n ≤ p) where
+  pub less-two-ahead-step : p + n ≤ q → q + n ≤ len → length xs ≡ len
+      → vec xs ≡ withPart f q (q + i) (lessTwo f (behind q f) (behind (q - p) f) m1 m2)
+      → vec (set xs (q + i) (sub binary64 (sub binary64 (getD xs (q + i) nan) (mul binary64 (getD xs i nan) m1)) (mul binary64 (getD xs (p + i) nan) m2)))
+      ≡ withPart f q (q + (i + 1)) (lessTwo f (behind q f) (behind (q - p) f) m1 m2)
+  unfolding lessTwo behind
+  less-two-ahead-step h r e u =
+      store-from f xs q i n len _ _ l r e u (rw (
+        reached-from f xs q i _ u,
+        first-read f xs q i n _ l (omega arith) u,
+        later-read f xs q p i n _ l h u,
+      ))
+
+  pub less-three-ahead-step : (m3 : Float) → p + p + n ≤ q → q + n ≤ len → length xs ≡ len
+      → vec xs ≡ withPart f q (q + i) (lessThree f (behind q f) (behind (q - p) f) (behind (q - (p + p)) f) m1 m2 m3)
+      → vec (set xs (q + i) (sub binary64
+      (sub binary64 (sub binary64 (getD xs (q + i) nan) (mul binary64 (getD xs i nan) m1)) (mul binary64 (getD xs (p + i) nan) m2))
+      (mul binary64 (getD xs (p + p + i) nan) m3)))
+      ≡ withPart f q (q + (i + 1)) (lessThree f (behind q f) (behind (q - p) f) (behind (q - (p + p)) f) m1 m2 m3)
+  unfolding lessThree lessTwo lessTimes behind
+  less-three-ahead-step m3 h r e u =
+      store-from f xs q i n len _ _ l r e u (rw (
+        reached-from f xs q i _ u,
+        first-read f xs q i n _ l (omega arith) u,
+        later-read f xs q p i n _ l (omega arith) u,
+        later-read f xs q (p + p) i n _ l h u,
+      ))
+
+  pub less-four-ahead-step : (m3 m4 : Float) → p + p + p + n ≤ q → q + n ≤ len → length xs ≡ len
+      → vec xs ≡ withPart f q (q + i) (lessFour f (behind q f) (behind (q - p) f) (behind (q - (p + p)) f) (behind (q - (p + p + p)) f) m1 m2 m3 m4)
+      → vec (set xs (q + i) (sub binary64 (sub binary64
+      (sub binary64 (sub binary64 (getD xs (q + i) nan) (mul binary64 (getD xs i nan) m1)) (mul binary64 (getD xs (p + i) nan) m2))
+      (mul binary64 (getD xs (p + p + i) nan) m3)) (mul binary64 (getD xs (p + p + p + i) nan) m4)))
+      ≡ withPart f q (q + (i + 1)) (lessFour f (behind q f) (behind (q - p) f) (behind (q - (p + p)) f) (behind (q - (p + p + p)) f) m1 m2 m3 m4)
+  unfolding lessFour lessTwo behind
+  less-four-ahead-step m3 m4 h r e u =
+      store-from f xs q i n len _ _ l r e u (rw (
+        reached-from f xs q i _ u,
+        first-read f xs q i n _ l (omega arith) u,
+        later-read f xs q p i n _ l (omega arith) u,
+        later-read f xs q (p + p) i n _ l (omega arith) u,
+        later-read f xs q (p + p + p) i n _ l h u,
+      ))
 
 pub less-each-step : (f : Row) (xs zs : List Float) (i n len : ℕ) → i < n → n ≤ len → length xs ≡ len → vec xs ≡ withPart f 0 i (lessEach f (vec zs))
     → vec (set xs i (sub binary64 (getD xs i nan) (getD zs i nan))) ≡ withPart f 0 (i + 1) (lessEach f (vec zs))

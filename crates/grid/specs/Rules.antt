@@ -34,6 +34,13 @@ lessTimesIf f s m = λ a. lessMultiple (f a) (s a) m
 unfoldable pub lessTwo : Row → Row → Row → Float → Float → Row
 lessTwo f s t m1 m2 = λ a. (f a ⊖ s a ⊗ m1) ⊖ t a ⊗ m2
 
+-- ((x − a·m1) − b·m2) − c·m3, and less d·m4
+unfoldable pub lessThree : Row → Row → Row → Row → Float → Float → Float → Row
+lessThree f s t u m1 m2 m3 = lessTimes (lessTwo f s t m1 m2) u m3
+
+unfoldable pub lessFour : Row → Row → Row → Row → Row → Float → Float → Float → Float → Row
+lessFour f s t u v m1 m2 m3 m4 = lessTwo (lessTwo f s t m1 m2) u v m3 m4
+
 -- x − acc
 unfoldable pub lessEach : Row → Row → Row
 lessEach f s = λ a. f a ⊖ s a
@@ -85,10 +92,10 @@ pub record AheadPre (n q x : ℕ) : Type 0 where
   pub apart : n ≤ q
   pub out : q + n ≤ x
 
--- n numbers from q on, past n from p on, past its first n
-pub record TwoAheadPre (n p q x : ℕ) : Type 0 where
-  pub first : n ≤ p
-  pub second : p + n ≤ q
+-- n numbers from q on, past others of which each n begin p after the ones before them, the first at 0 and the last at r
+pub record MoreAheadPre (n p r q x : ℕ) : Type 0 where
+  pub apart : n ≤ p
+  pub last : r + n ≤ q
   pub out : q + n ≤ x
 
 -- ---- what the functions over a part ask

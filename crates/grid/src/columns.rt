@@ -6,8 +6,8 @@ ghost use mathlib.Core.Path.{_≡_};
 ghost use Prim.Native.Nat.{_+_};
 ghost use lib.ListN.{length};
 ghost use Rattle.model.specs.Matrix.{view, vec, withColumn, withPart};
-ghost use Rattle.grid.specs.Rules.{columnOf, zeroed, lessTimes, lessTimesIf, lessTwo, lessEach, plusTimes};
-ghost use Rattle.grid.specs.Rules.{plusFour, times, combined, columnsExchanged};
+ghost use Rattle.grid.specs.Rules.{columnOf, zeroed, lessTimes, lessTimesIf, lessTwo, lessThree, lessFour};
+ghost use Rattle.grid.specs.Rules.{lessEach, plusTimes, plusFour, times, combined, columnsExchanged};
 ghost use Rattle.grid.specs.Rules.{PartPre, ColumnPre, ColumnFourPre, LaterPre, RowsPre, ExchangePre};
 
 // Numbers lo up to hi of x become +0.0.
@@ -148,7 +148,8 @@ pub fn less_if(panel: &mut [f64], nrow: usize, k: usize, j: usize, lo: usize, hi
     }
 }
 
-// Rows lo up to hi of column j lose those of column k times m1, then those of column k + 1 times m2; both stand before j.
+// Rows lo up to hi of column j lose those of column k times m1, then those of column k + 1 times m2. Both stand before
+// it, and so do the columns of the next two functions.
 pub fn less_two(
     panel: &mut [f64],
     nrow: usize,
@@ -169,6 +170,57 @@ pub fn less_two(
     let x = lo + j * nrow;
     let e = hi + j * nrow;
     kernels::less_two_ahead(&mut panel[a..e], nrow, x - a, hi - lo, m1, m2);
+}
+
+// Then those of column k + 2 times m3.
+pub fn less_three(
+    panel: &mut [f64],
+    nrow: usize,
+    k: usize,
+    j: usize,
+    lo: usize,
+    hi: usize,
+    m1: f64,
+    m2: f64,
+    m3: f64,
+)
+    requires { ⌜ LaterPre nrow (k + 2) j lo hi (length (now panel)) ⌝ }
+    ensures { λ _. ⌜ view nrow (now (panel .exit))
+        ≡ withColumn (view nrow (now (panel .entry))) j lo hi
+        (lessThree (columnOf (view nrow (now (panel .entry))) j) (columnOf (view nrow (now (panel .entry))) k)
+        (columnOf (view nrow (now (panel .entry))) (k + 1)) (columnOf (view nrow (now (panel .entry))) (k + 2))
+        m1 m2 m3) ⌝ }
+{
+    let a = lo + k * nrow;
+    let x = lo + j * nrow;
+    let e = hi + j * nrow;
+    kernels::less_three_ahead(&mut panel[a..e], nrow, x - a, hi - lo, m1, m2, m3);
+}
+
+// Then those of column k + 3 times m4.
+pub fn less_four(
+    panel: &mut [f64],
+    nrow: usize,
+    k: usize,
+    j: usize,
+    lo: usize,
+    hi: usize,
+    m1: f64,
+    m2: f64,
+    m3: f64,
+    m4: f64,
+)
+    requires { ⌜ LaterPre nrow (k + 3) j lo hi (length (now panel)) ⌝ }
+    ensures { λ _. ⌜ view nrow (now (panel .exit))
+        ≡ withColumn (view nrow (now (panel .entry))) j lo hi
+        (lessFour (columnOf (view nrow (now (panel .entry))) j) (columnOf (view nrow (now (panel .entry))) k)
+        (columnOf (view nrow (now (panel .entry))) (k + 1)) (columnOf (view nrow (now (panel .entry))) (k + 2))
+        (columnOf (view nrow (now (panel .entry))) (k + 3)) m1 m2 m3 m4) ⌝ }
+{
+    let a = lo + k * nrow;
+    let x = lo + j * nrow;
+    let e = hi + j * nrow;
+    kernels::less_four_ahead(&mut panel[a..e], nrow, x - a, hi - lo, m1, m2, m3, m4);
 }
 
 // Rows lo up to hi of columns p and q, one for the other; nothing where they are the same column.

@@ -6,8 +6,9 @@ ghost use Prim.Native.Nat.{_+_, _-_, _≤_};
 ghost use lib.ListN.{length, replicate};
 ghost use Rattle.model.specs.Scalar.{zeroF};
 ghost use Rattle.model.specs.Matrix.{vec, withPart};
-ghost use Rattle.grid.specs.Rules.{lessTimes, lessTwo, lessEach, plusTimes, plusFour, times, combined, blended};
-ghost use Rattle.grid.specs.Rules.{behind, ahead, TwoPre, ThreePre, FivePre, AheadPre, TwoAheadPre};
+ghost use Rattle.grid.specs.Rules.{lessTimes, lessTwo, lessThree, lessFour, lessEach, plusTimes, plusFour, times};
+ghost use Rattle.grid.specs.Rules.{combined, blended, behind, ahead};
+ghost use Rattle.grid.specs.Rules.{TwoPre, ThreePre, FivePre, AheadPre, MoreAheadPre};
 
 // All numbers become +0.0.
 pub fn zero(x: &mut [f64])
@@ -60,7 +61,7 @@ pub fn less_ahead(x: &mut [f64], q: usize, n: usize, m: f64)
 
 // (x − s·m1) − t·m2, where the n numbers x begin at q, s are the slice's first, and t begin at p.
 pub fn less_two_ahead(x: &mut [f64], p: usize, q: usize, n: usize, m1: f64, m2: f64)
-    requires { ⌜ TwoAheadPre n p q (length (now x)) ⌝ }
+    requires { ⌜ MoreAheadPre n p p q (length (now x)) ⌝ }
     ensures { λ _. ⌜ vec (now (x .exit))
         ≡ withPart (vec (now (x .entry))) q (q + n)
         (lessTwo (vec (now (x .entry))) (behind q (vec (now (x .entry)))) (behind (q - p) (vec (now (x .entry))))
@@ -68,6 +69,46 @@ pub fn less_two_ahead(x: &mut [f64], p: usize, q: usize, n: usize, m1: f64, m2: 
 {
     for i in 0..n {
         x[q + i] = x[q + i] - x[i] * m1 - x[p + i] * m2;
+    }
+}
+
+// ((x − s·m1) − t·m2) − u·m3, where the n numbers x begin at q, s are the slice's first, t begin at p and u at 2p.
+pub fn less_three_ahead(x: &mut [f64], p: usize, q: usize, n: usize, m1: f64, m2: f64, m3: f64)
+    requires { ⌜ MoreAheadPre n p (p + p) q (length (now x)) ⌝ }
+    ensures { λ _. ⌜ vec (now (x .exit))
+        ≡ withPart (vec (now (x .entry))) q (q + n)
+        (lessThree (vec (now (x .entry))) (behind q (vec (now (x .entry)))) (behind (q - p) (vec (now (x .entry))))
+        (behind (q - (p + p)) (vec (now (x .entry)))) m1 m2 m3) ⌝ }
+{
+    let r = p + p;
+    for i in 0..n {
+        x[q + i] = x[q + i] - x[i] * m1 - x[p + i] * m2 - x[r + i] * m3;
+    }
+}
+
+// (((x − s·m1) − t·m2) − u·m3) − v·m4, where the n numbers x begin at q, s are the slice's first, t begin at p, u at 2p
+// and v at 3p.
+pub fn less_four_ahead(
+    x: &mut [f64],
+    p: usize,
+    q: usize,
+    n: usize,
+    m1: f64,
+    m2: f64,
+    m3: f64,
+    m4: f64,
+)
+    requires { ⌜ MoreAheadPre n p (p + p + p) q (length (now x)) ⌝ }
+    ensures { λ _. ⌜ vec (now (x .exit))
+        ≡ withPart (vec (now (x .entry))) q (q + n)
+        (lessFour (vec (now (x .entry))) (behind q (vec (now (x .entry)))) (behind (q - p) (vec (now (x .entry))))
+        (behind (q - (p + p)) (vec (now (x .entry)))) (behind (q - (p + p + p)) (vec (now (x .entry))))
+        m1 m2 m3 m4) ⌝ }
+{
+    let r = p + p;
+    let s = r + p;
+    for i in 0..n {
+        x[q + i] = x[q + i] - x[i] * m1 - x[p + i] * m2 - x[r + i] * m3 - x[s + i] * m4;
     }
 }
 

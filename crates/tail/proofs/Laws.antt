@@ -1,22 +1,27 @@
 -- A panel's steps on the rows below it: which fields of the record they read, one step taken off, the loop. Assumes nothing.
 use Prim.Native.Nat.{ℕ, zero, suc, _+_, _-_, _<_, _≤_}
 use mathlib.Core.Path.{_≡_, refl, sym, _∙_, ap, fun-ext}
+use mathlib.Core.Bool.{Bool, true, false}
 use mathlib.Core.List.{List}
 use native.Mathlib.Omega.{arith}
-use borrow.Author.Tests.{lt-ltb, le-ltb, ne-eqb}
+use borrow.Author.Tests.{lt-ltb, le-ltb, ne-eqb, eqb-true}
 use lib.Dec.{ltb, eqb}
 use lib.ListN.{getD}
 use lib.Ieee.{Float, nan}
 use mir.Syntax.{w64}
 use mir.Val.{Fits}
+use Rattle.model.specs.Scalar.{zeroF}
 use Rattle.model.specs.Matrix.{Row, Mat, vec, bytes, within}
-use Rattle.model.specs.Step.{Step, one, two, Pivots, blockAt, pastOf, stepAt, rowAfterStep, rowAfterSteps}
+use Rattle.model.specs.Step.{Step, one, two, Pivots, begins, blockAt, pastOf, stepAt, rowAfterStep, rowAfterSteps}
+use Rattle.model.specs.Head.{lastOf}
 use Rattle.model.specs.declared.Block.{Block}
 use Rattle.grid.specs.Rules.{columnOf}
 use Rattle.grid.proofs.Laws.{test}
 use Rattle.whole.specs.Whole.{below}
 use Rattle.eliminate.specs.Eliminate.{TwoPre}
-use Rattle.tail.specs.Tail.{pivotsOf, TailPre, StepsPre}
+use Rattle.pairs.specs.Pairs.{stepBy, rowAfterBoth, PairPre}
+use Rattle.pairs.proofs.Column.{last-from, wide-last, single-last}
+use Rattle.tail.specs.Tail.{pivotsOf, pivotAt, TailPre, StepsPre, NextPre}
 
 -- ---- what a row's steps read of the record
 
@@ -54,14 +59,6 @@ module _ (M Q I : Mat) (ds ss : List Float) (bs ps : List ℕ) (n ke k : ℕ) wh
   unfolding stepAt pivotsOf columnOf bytes vec
   step-one h q = q ∙ rw (ne-eqb (getD bs k 0) 1 h)
 
-pub past-two : (bs : List ℕ) (k : ℕ) → getD bs k 0 ≡ 1 → k + 2 ≡ pastOf (bytes bs) k
-unfolding pastOf bytes
-past-two bs k h = rw h
-
-pub past-one : (bs : List ℕ) (k : ℕ) → (getD bs k 0 ≡ 1 → ⊥) → k + 1 ≡ pastOf (bytes bs) k
-unfolding pastOf bytes
-past-one bs k h = rw (ne-eqb (getD bs k 0) 1 h)
-
 -- ---- what a step asks
 
 module _ (nrow ncol nb kb ke k len lenM ld ls lb lp : ℕ) (bs ps : List ℕ) (sizes : TailPre nrow ncol nb kb ke len lenM ld ls lb lp)
@@ -77,9 +74,6 @@ module _ (nrow ncol nb kb ke k len lenM ld ls lb lp : ℕ) (bs ps : List ℕ) (s
   pub block-in : getD bs k 0 ≡ 1 → (k + 1 < ld) × (k < ls)
   block-in e = (omega (arith, pair-in e), omega arith)
 
-  pub past-fits : getD bs k 0 ≡ 1 → Fits w64 ke → Fits w64 (k + 2)
-  past-fits e h = record { fits = omega (arith, pair-in e, h .fits) }
-
   pub two-in : kb ≤ k → getD bs k 0 ≡ 1 → TwoPre nrow ncol nb kb ke k len lenM
   two-in f e =
       record {
@@ -91,6 +85,99 @@ module _ (nrow ncol nb kb ke k len lenM ld ls lb lp : ℕ) (bs ps : List ℕ) (s
         from = f;
         here = pair-in e;
       }
+
+-- ---- two steps at once
+
+pub wide-fits : (k columns : ℕ) (wide : Bool) → lastOf k wide < columns → wide ≡ true → Fits w64 columns → Fits w64 (k + 2)
+wide-fits k columns wide h e g = record { fits = omega (arith, wide-last k wide e, g .fits) }
+
+pub single-fits : (k columns : ℕ) (wide : Bool) → lastOf k wide < columns → wide ≡ false → Fits w64 columns → Fits w64 (k + 1)
+single-fits k columns wide h e g = record { fits = omega (arith, single-last k wide e, g .fits) }
+
+pub past-wide : (k : ℕ) (wide : Bool) → wide ≡ true → k + 2 ≡ lastOf k wide + 1
+past-wide k wide e = omega (arith, wide-last k wide e)
+
+pub past-single : (k : ℕ) (wide : Bool) → wide ≡ false → k + 1 ≡ lastOf k wide + 1
+past-single k wide e = omega (arith, single-last k wide e)
+
+pub block-place : (k ld ls : ℕ) (wide : Bool) → wide ≡ true → lastOf k wide < ld → k < ls → (k + 1 < ld) × (k < ls)
+block-place k ld ls wide e h g = (omega (arith, wide-last k wide e), g)
+
+pub single-place : (k ld : ℕ) (wide : Bool) → wide ≡ false → lastOf k wide < ld → k < ld
+single-place k ld wide e h = omega (arith, single-last k wide e)
+
+pub pivot-wide : (d sub : Row) (k : ℕ) (b : Block) (wide : Bool) → wide ≡ true → b ≡ blockAt d sub k → b ≡ pivotAt wide d sub k
+unfolding pivotAt
+pivot-wide d sub k b wide e q = q ∙ rw e
+
+pub pivot-single : (d sub : Row) (k : ℕ) (wide : Bool) → wide ≡ false
+    → record { d11 = d k; d21 = zeroF; d22 = zeroF; det = zeroF } ≡ pivotAt wide d sub k
+unfolding pivotAt
+pivot-single d sub k wide e = rw e
+
+past-of : (bl : ℕ → ℕ) (k : ℕ) → lastOf k (begins bl k) + 1 ≡ pastOf bl k
+unfolding lastOf pastOf
+past-of bl k = test (begins bl k) (λ t. rw t (omega arith)) (λ t. rw t)
+
+-- a pivot's step by its kind
+step-by : (I : Mat) (ds ss : List Float) (bs ps : List ℕ) (k : ℕ) (b : Block) (wide : Bool) → wide ≡ begins (bytes bs) k → b ≡ pivotAt wide (vec ds) (vec ss) k
+    → stepBy wide k (getD ps k 0) b (columnOf I k) (columnOf I (k + 1)) ≡ stepAt (pivotsOf ds ss bs ps) I k
+unfolding stepAt pivotsOf columnOf bytes pivotAt
+step-by I ds ss bs ps k b wide e q = rw (q, e) (test (eqb (getD bs k 0) 1) (λ t. rw t) (λ t. rw t))
+
+pub both-steps : (M Q I : Mat) (ds ss : List Float) (bs ps : List ℕ) (n ke k l : ℕ) (b c : Block) (wide other : Bool) → wide ≡ begins (bytes bs) k
+    → other ≡ begins (bytes bs) l → b ≡ pivotAt wide (vec ds) (vec ss) k → c ≡ pivotAt other (vec ds) (vec ss) l
+    → Q
+    ≡ below ke n (rowAfterBoth ke (stepBy wide k (getD ps k 0) b (columnOf I k) (columnOf I (k + 1)))
+    (stepBy other l (getD ps l 0) c (columnOf I l) (columnOf I (l + 1)))) M
+    → Q ≡ below ke n (rowAfterBoth ke (stepAt (pivotsOf ds ss bs ps) I k) (stepAt (pivotsOf ds ss bs ps) I l)) M
+both-steps M Q I ds ss bs ps n ke k l b c wide other e g u v q = q ∙ rw (step-by I ds ss bs ps k b wide e u, step-by I ds ss bs ps l c other g v)
+
+-- what they ask
+module _ (nrow ncol nb kb ke len lenM ld ls lb lp : ℕ) (bs ps : List ℕ) (sizes : TailPre nrow ncol nb kb ke len lenM ld ls lb lp)
+    (steps : StepsPre ke (bytes bs) (bytes ps)) where
+  last-in : (k : ℕ) → k < ke → lastOf k (begins (bytes bs) k) < ke
+  unfolding lastOf
+  last-in k h = test (begins (bytes bs) k) (λ t. rw t (steps .pair k h (eqb-true (bytes bs k) 1 t))) (λ t. rw t h)
+
+  pub pivot-in : (k : ℕ) (wide : Bool) → wide ≡ begins (bytes bs) k → k < ke → lastOf k wide < ke
+  pivot-in k wide e h = rw e (last-in k h)
+
+  module _ (k l f : ℕ) (next : NextPre kb ke (bytes bs) (bytes ps) k l f) where
+    pub first-pivot-in : (wide : Bool) → wide ≡ begins (bytes bs) k → (lastOf k wide < ld) × (k < ls)
+    first-pivot-in wide e = (omega (arith, pivot-in k wide e (next .here), sizes .inD), omega (arith, next .here, sizes .inSub))
+
+    pub second-pivot-in : (other : Bool) → other ≡ begins (bytes bs) l → (lastOf l other < ld) × (l < ls)
+    second-pivot-in other e = (omega (arith, pivot-in l other e (next .inside), sizes .inD), omega (arith, next .inside, sizes .inSub))
+
+    pub first-partner-in : getD ps k 0 < ke
+    unfolding bytes
+    first-partner-in = steps .partner k (next .here)
+
+    pub pair-pre : (wide other : Bool) → wide ≡ begins (bytes bs) k → other ≡ begins (bytes bs) l
+        → PairPre wide other nrow ncol nb kb ke k l f (getD ps l 0) len lenM
+    unfolding bytes
+    pair-pre wide other e g =
+        record {
+          size = sizes .size;
+          square = sizes .square;
+          head = sizes .head;
+          cols = sizes .cols;
+          width = sizes .width;
+          from = next .from;
+          next = next .next ∙ rw e;
+          last = next .last ∙ rw g;
+          reach = next .reach;
+          row = steps .partner l (next .inside);
+        }
+
+pub past-by : (bs : List ℕ) (k l : ℕ) (wide : Bool) → wide ≡ begins (bytes bs) k → l ≡ lastOf k wide + 1 → l ≡ lastOf k (begins (bytes bs) k) + 1
+past-by bs k l wide e q = q ∙ rw e
+
+pub next-pre : (kb ke : ℕ) (bs ps : List ℕ) (k l r : ℕ) → kb ≤ k → k < ke → l ≡ lastOf k (begins (bytes bs) k) + 1 → l < ke
+    → r ≡ lastOf l (begins (bytes bs) l) + 1 → r - 1 ≤ getD ps l 0 → NextPre kb ke (bytes bs) (bytes ps) k l (r - 1)
+unfolding bytes
+next-pre kb ke bs ps k l r h o el g er u = record { from = h; here = o; next = el; inside = g; last = omega arith; reach = u }
 
 -- ---- the loop
 
@@ -127,11 +214,38 @@ unfolding below
 steps-more p m M N R n ke k e h s =
     rw s (fun-ext λ i. test (within ke n i) (λ t. rw t (sym (steps-open p m ke k (M i) h))) (λ t. rw t)) ∙ e
 
-pub tail-step : (ds ss : List Float) (bs ps : List ℕ) (m M N R : Mat) (n ke k l : ℕ) → k < ke
-    → below ke n (rowAfterSteps (pivotsOf ds ss bs ps) m ke (ke - k) k) M ≡ R → N ≡ below ke n (rowAfterStep ke (stepAt (pivotsOf ds ss bs ps) m k)) M
-    → l ≡ pastOf (bytes bs) k → below ke n (rowAfterSteps (pivotsOf ds ss bs ps) m ke (ke - l) l) N ≡ R
-unfolding pivotsOf
-tail-step ds ss bs ps m M N R n ke k l h e s z = rw z (steps-more (pivotsOf ds ss bs ps) m M N R n ke k e h s)
+-- two steps taken off
+one-by-one : (M : Mat) (n ke : ℕ) (a b : Step) → below ke n (rowAfterBoth ke a b) M ≡ below ke n (rowAfterStep ke b) (below ke n (rowAfterStep ke a) M)
+unfolding below rowAfterBoth
+one-by-one M n ke a b = fun-ext λ i. test (within ke n i) (λ t. rw t) (λ t. rw t)
+
+steps-both : (p : Pivots) (m M N R : Mat) (n ke k l r : ℕ) → below ke n (rowAfterSteps p m ke (ke - k) k) M ≡ R → k < ke → l ≡ pastOf (p .blocks) k → l < ke
+    → r ≡ pastOf (p .blocks) l → N ≡ below ke n (rowAfterBoth ke (stepAt p m k) (stepAt p m l)) M → below ke n (rowAfterSteps p m ke (ke - r) r) N ≡ R
+steps-both p m M N R n ke k l r e h el g er s =
+    let first = below ke n (rowAfterStep ke (stepAt p m k)) M in
+    let after : below ke n (rowAfterSteps p m ke (ke - l) l) first ≡ R = rw el (steps-more p m M first R n ke k e h refl) in
+    rw er (steps-more p m first N R n ke l after g (s ∙ one-by-one M n ke (stepAt p m k) (stepAt p m l)))
+
+module _ (ds ss : List Float) (bs ps : List ℕ) (m M N : Mat) (n ke k l : ℕ) (here : k < ke) (el : l ≡ lastOf k (begins (bytes bs) k) + 1) where
+  pub turned-step : N ≡ below ke n (rowAfterStep ke (stepAt (pivotsOf ds ss bs ps) m k)) M
+      → below ke n (rowAfterSteps (pivotsOf ds ss bs ps) m ke (ke - l) l) N ≡ below ke n (rowAfterSteps (pivotsOf ds ss bs ps) m ke (ke - k) k) M
+  unfolding pivotsOf
+  turned-step s =
+      let e : l ≡ pastOf (bytes bs) k = el ∙ past-of (bytes bs) k in
+      rw e (steps-more (pivotsOf ds ss bs ps) m M N _ n ke k refl here s)
+
+  pub turned-both : (r : ℕ) → l < ke → r ≡ lastOf l (begins (bytes bs) l) + 1
+      → N ≡ below ke n (rowAfterBoth ke (stepAt (pivotsOf ds ss bs ps) m k) (stepAt (pivotsOf ds ss bs ps) m l)) M
+      → below ke n (rowAfterSteps (pivotsOf ds ss bs ps) m ke (ke - r) r) N ≡ below ke n (rowAfterSteps (pivotsOf ds ss bs ps) m ke (ke - k) k) M
+  unfolding pivotsOf
+  turned-both r h er s =
+      steps-both (pivotsOf ds ss bs ps) m M N _ n ke k l r refl here (el ∙ past-of (bytes bs) k) h (er ∙ past-of (bytes bs) l) s
+
+pub past-first : (bs : List ℕ) (k l : ℕ) → l ≡ lastOf k (begins (bytes bs) k) + 1 → k < l
+past-first bs k l e = omega (arith, last-from k (begins (bytes bs) k))
+
+pub past-both : (bs : List ℕ) (k l r : ℕ) → l ≡ lastOf k (begins (bytes bs) k) + 1 → r ≡ lastOf l (begins (bytes bs) l) + 1 → k < r
+past-both bs k l r e g = omega (arith, past-first bs k l e, past-first bs l r g)
 
 pub tail-end : (p : Pivots) (m M R : Mat) (n ke k : ℕ) → ke ≤ k → below ke n (rowAfterSteps p m ke (ke - k) k) M ≡ R → M ≡ R
 unfolding below rowAfterSteps
@@ -139,11 +253,11 @@ tail-end p m M R n ke k h e =
     let q : ke - k ≡ 0 = omega arith in
     (fun-ext λ i. test (within ke n i) (λ t. rw (t, q)) (λ t. rw t)) ∙ e
 
-pub tail-less : (bs : List ℕ) (ke k l : ℕ) → k < ke → l ≡ pastOf (bytes bs) k → ke - l < ke - k
-tail-less bs ke k l h e = omega (arith, past-more (bytes bs) k)
+pub turn-less : (ke k r : ℕ) → k < ke → k < r → ke - r < ke - k
+turn-less ke k r h g = omega arith
 
-pub tail-from : (bs : List ℕ) (kb k l : ℕ) → kb ≤ k → l ≡ pastOf (bytes bs) k → kb ≤ l
-tail-from bs kb k l h e = omega (arith, past-more (bytes bs) k)
+pub turn-from : (kb k r : ℕ) → kb ≤ k → k < r → kb ≤ r
+turn-from kb k r h g = omega arith
 
 -- a turn keeps the lengths
 pub sizes-kept : (nrow ncol nb kb ke len lenM ld ls lb lp len′ : ℕ) → TailPre nrow ncol nb kb ke len lenM ld ls lb lp → len′ ≡ len

@@ -1,17 +1,20 @@
-// The rows below a finished panel: its steps in turn, read off the arrays that the panel step wrote. A reader may rely
-// on the contract of apply_bk_panel_trailing: each row from ke down goes through the model's steps, and nothing else
-// changes.
+// The rows below a finished panel: its steps in turn, two at a time, read off the arrays that the panel step wrote. A
+// reader may rely on the contract of apply_bk_panel_trailing: each row from ke down goes through the model's steps, and
+// nothing else changes.
 use eliminate::below_one;
 use eliminate::below_two;
 use model::Block;
+use pairs::below_pair;
 ghost use mathlib.Core.Path.{_≡_};
 ghost use Prim.Native.Nat.{_+_, _-_, _<_, _≤_};
 ghost use lib.ListN.{length};
 ghost use Rattle.model.specs.Matrix.{view, vec, bytes};
-ghost use Rattle.model.specs.Step.{blockAt, pastOf, stepAt, rowAfterStep, rowAfterSteps};
+ghost use Rattle.model.specs.Step.{blockAt, begins, stepAt, rowAfterStep, rowAfterSteps};
+ghost use Rattle.model.specs.Head.{lastOf};
 ghost use Rattle.whole.specs.Whole.{below};
 ghost use Rattle.eliminate.specs.Eliminate.{inPanel};
-ghost use Rattle.tail.specs.Tail.{pivotsOf, TailPre, StepsPre};
+ghost use Rattle.pairs.specs.Pairs.{rowAfterBoth};
+ghost use Rattle.tail.specs.Tail.{pivotsOf, pivotAt, TailPre, StepsPre, NextPre};
 
 // The block that begins at column k.
 fn block_at(d: &[f64], sub: &[f64], k: usize) -> Block
@@ -29,8 +32,131 @@ fn block_at(d: &[f64], sub: &[f64], k: usize) -> Block
     }
 }
 
-// The step at column k on the rows from ke down, lent from `ke + k·nrow` on. The answer is the column after the pivot.
+// The pivot that begins at column k; of a 1x1 its number is d11, and the others are 0.
+fn pivot_at(d: &[f64], sub: &[f64], wide: bool, k: usize) -> Block
+    requires { ⌜ (lastOf k wide < length (now d)) × (k < length (now sub)) ⌝ }
+    ensures { λ r. ⌜ r ≡ pivotAt wide (vec (now (d .entry))) (vec (now (sub .entry))) k ⌝ }
+{
+    if wide {
+        return block_at(d, sub, k);
+    }
+    Block {
+        d11: d[k],
+        d21: 0.0,
+        d22: 0.0,
+        det: 0.0,
+    }
+}
+
+// Whether a block begins at column k.
+fn block_begins(blocks: &[u8], k: usize) -> bool
+    requires { ⌜ k < length (now blocks) ⌝ }
+    ensures { λ r. ⌜ r ≡ begins (bytes (now (blocks .entry))) k ⌝ }
+{
+    blocks[k] == 1
+}
+
+// The column after a pivot at k, which is one of `columns` columns.
+fn past(wide: bool, k: usize, columns: usize) -> usize
+    requires { ⌜ lastOf k wide < columns ⌝ }
+    ensures { λ r. ⌜ r ≡ lastOf k wide + 1 ⌝ }
+{
+    if wide {
+        return k + 2;
+    }
+    k + 1
+}
+
+// The step at column k on the rows from ke down, lent from `ke + k·nrow` on.
 fn tail_step(
+    panel: &mut [f64],
+    mult: &[f64],
+    d: &[f64],
+    sub: &[f64],
+    blocks: &[u8],
+    partners: &[usize],
+    nrow: usize,
+    ncol: usize,
+    nb: usize,
+    kb: usize,
+    ke: usize,
+    k: usize,
+)
+    requires { ⌜ TailPre nrow ncol nb kb ke (length (now panel)) (length (now mult)) (length (now d))
+        (length (now sub)) (length (now blocks)) (length (now partners)) ⌝ }
+    requires { ⌜ StepsPre ke (bytes (now blocks)) (bytes (now partners)) ⌝ }
+    requires { ⌜ (kb ≤ k) × (k < ke) ⌝ }
+    ensures { λ _. ⌜ view nrow (now (panel .exit))
+        ≡ below ke nrow (rowAfterStep ke
+        (stepAt (pivotsOf (now (d .entry)) (now (sub .entry)) (now (blocks .entry)) (now (partners .entry)))
+        (inPanel kb ke (view nb (now (mult .entry)))) k)) (view nrow (now (panel .entry))) ⌝ }
+{
+    let kp = partners[k];
+    if blocks[k] == 1 {
+        let b = block_at(d, sub, k);
+        below_two(panel, mult, nrow, ncol, nb, kb, ke, k, kp, b);
+        return;
+    }
+    below_one(panel, mult, nrow, ncol, nb, kb, ke, k, kp, d[k]);
+}
+
+// The steps at column k and, after it, at column l, whose last column is f, on the rows from ke down.
+fn tail_pair(
+    panel: &mut [f64],
+    mult: &[f64],
+    d: &[f64],
+    sub: &[f64],
+    blocks: &[u8],
+    partners: &[usize],
+    nrow: usize,
+    ncol: usize,
+    nb: usize,
+    kb: usize,
+    ke: usize,
+    k: usize,
+    l: usize,
+    f: usize,
+)
+    requires { ⌜ TailPre nrow ncol nb kb ke (length (now panel)) (length (now mult)) (length (now d))
+        (length (now sub)) (length (now blocks)) (length (now partners)) ⌝ }
+    requires { ⌜ StepsPre ke (bytes (now blocks)) (bytes (now partners)) ⌝ }
+    requires { ⌜ NextPre kb ke (bytes (now blocks)) (bytes (now partners)) k l f ⌝ }
+    ensures { λ _. ⌜ view nrow (now (panel .exit))
+        ≡ below ke nrow (rowAfterBoth ke
+        (stepAt (pivotsOf (now (d .entry)) (now (sub .entry)) (now (blocks .entry)) (now (partners .entry)))
+        (inPanel kb ke (view nb (now (mult .entry)))) k)
+        (stepAt (pivotsOf (now (d .entry)) (now (sub .entry)) (now (blocks .entry)) (now (partners .entry)))
+        (inPanel kb ke (view nb (now (mult .entry)))) l)) (view nrow (now (panel .entry))) ⌝ }
+{
+    let wide = block_begins(blocks, k);
+    let other = block_begins(blocks, l);
+    let b = pivot_at(d, sub, wide, k);
+    let c = pivot_at(d, sub, other, l);
+    let kp = partners[k];
+    let kq = partners[l];
+    below_pair(
+        panel,
+        mult,
+        wide,
+        other,
+        nrow,
+        ncol,
+        nb,
+        kb,
+        ke,
+        k,
+        kp,
+        l,
+        f,
+        kq,
+        b,
+        c,
+    );
+}
+
+// The step at column k on the rows from ke down, together with the one after it unless there is none or its exchange
+// goes back. The answer is the column after them.
+fn turn(
     panel: &mut [f64],
     mult: &[f64],
     d: &[f64],
@@ -48,20 +174,52 @@ fn tail_step(
         (length (now sub)) (length (now blocks)) (length (now partners)) ⌝ }
     requires { ⌜ StepsPre ke (bytes (now blocks)) (bytes (now partners)) ⌝ }
     requires { ⌜ (kb ≤ k) × (k < ke) ⌝ }
-    ensures { λ _. ⌜ view nrow (now (panel .exit))
-        ≡ below ke nrow (rowAfterStep ke
-        (stepAt (pivotsOf (now (d .entry)) (now (sub .entry)) (now (blocks .entry)) (now (partners .entry)))
-        (inPanel kb ke (view nb (now (mult .entry)))) k)) (view nrow (now (panel .entry))) ⌝ }
-    ensures { λ r. ⌜ r ≡ pastOf (bytes (now (blocks .entry))) k ⌝ }
+    ensures { λ r. ⌜ below ke nrow (rowAfterSteps
+        (pivotsOf (now (d .entry)) (now (sub .entry)) (now (blocks .entry)) (now (partners .entry)))
+        (inPanel kb ke (view nb (now (mult .entry)))) ke (ke - r) r) (view nrow (now (panel .exit)))
+        ≡ below ke nrow (rowAfterSteps
+        (pivotsOf (now (d .entry)) (now (sub .entry)) (now (blocks .entry)) (now (partners .entry)))
+        (inPanel kb ke (view nb (now (mult .entry)))) ke (ke - k) k) (view nrow (now (panel .entry))) ⌝ }
+    ensures { λ r. ⌜ k < r ⌝ }
 {
-    let kp = partners[k];
-    if blocks[k] == 1 {
-        let b = block_at(d, sub, k);
-        below_two(panel, mult, nrow, ncol, nb, kb, ke, k, kp, b);
-        return k + 2;
+    let l = past(block_begins(blocks, k), k, ke);
+    if l < ke {
+        let r = past(block_begins(blocks, l), l, ke);
+        if r - 1 <= partners[l] {
+            tail_pair(
+                panel,
+                mult,
+                d,
+                sub,
+                blocks,
+                partners,
+                nrow,
+                ncol,
+                nb,
+                kb,
+                ke,
+                k,
+                l,
+                r - 1,
+            );
+            return r;
+        }
     }
-    below_one(panel, mult, nrow, ncol, nb, kb, ke, k, kp, d[k]);
-    k + 1
+    tail_step(
+        panel,
+        mult,
+        d,
+        sub,
+        blocks,
+        partners,
+        nrow,
+        ncol,
+        nb,
+        kb,
+        ke,
+        k,
+    );
+    l
 }
 
 // The rows from ke down after the panel of columns kb to ke.
@@ -90,7 +248,7 @@ pub fn apply_bk_panel_trailing(
 {
     let mut k = kb;
     while k < ke {
-        k = tail_step(
+        k = turn(
             panel,
             mult,
             d,

@@ -1,7 +1,7 @@
 -- `tail::apply_bk_panel_trailing` meets its contract. The invariant: the steps from k on make of the panel what all steps make of it as it was;
 -- the measure is the columns that are left. Assumes nothing.
 use Prim.Native.Nat.{_≤_, _-_}
-use mathlib.Core.Path.{_≡_, refl}
+use mathlib.Core.Path.{_≡_, refl, _∙_}
 use lib.ListN.{length}
 use borrow.Author.Needs.{needs}
 use Rattle.model.specs.Matrix.{view}
@@ -9,7 +9,7 @@ use Rattle.model.specs.Step.{rowAfterSteps}
 use Rattle.whole.specs.Whole.{below}
 use Rattle.eliminate.specs.Eliminate.{inPanel}
 use Rattle.tail.specs.Tail.{pivotsOf}
-use Rattle.tail.proofs.Laws.{tail-step, tail-end, tail-less, tail-from, sizes-kept}
+use Rattle.tail.proofs.Laws.{tail-end, turn-less, turn-from, sizes-kept}
 use Rattle.tail.proofs.apply_bk_panel_trailing.Statement.{statement}
 use Rattle.tail.proofs.apply_bk_panel_trailing.Tie as tie
 
@@ -25,8 +25,8 @@ abbrev μ-loop : tie.MeasureT-loop
 loop-holds : tie.Need-loop-holds Inv-loop μ-loop
 loop-holds c = (search needs, refl, refl)
 
-tail-step-requires : tie.Need-tail-step-requires Inv-loop μ-loop
-tail-step-requires c κs =
+turn-requires : tie.Need-turn-requires Inv-loop μ-loop
+turn-requires c κs =
     let turn = c .before in
     let start = turn .before .before .before .before .before .before .before .before in
     let inv = turn .before .loop .inv in
@@ -36,17 +36,14 @@ loop-less : tie.Need-loop-less Inv-loop μ-loop
 loop-less c =
     let called = c .before .before in
     let turn = called .before .before in
-    tail-less _ _ _ _ (turn .loop-test .taken) (called .tail-step .ensures .1)
+    turn-less _ _ _ (turn .loop-test .taken) (called .turn .ensures .1)
 
 loop-again : tie.Need-loop-again Inv-loop μ-loop
 loop-again c =
     let called = c .before .before in
     let turn = called .before .before in
-    let inv = turn .before .loop .inv in (
-      tail-from _ _ _ _ (inv .0) (called .tail-step .ensures .1),
-      search needs,
-      tail-step _ _ _ _ _ _ _ _ _ _ _ _ (turn .loop-test .taken) (inv .2) (called .tail-step .ensures .0) (called .tail-step .ensures .1),
-    )
+    let inv = turn .before .loop .inv in
+    (turn-from _ _ _ (inv .0) (called .turn .ensures .1), search needs, called .turn .ensures .0 ∙ inv .2)
 
 same-length : tie.Need-same-length Inv-loop μ-loop
 same-length c = search needs
@@ -61,7 +58,7 @@ apply-bk-panel-trailing-spec =
     Inv-loop
     μ-loop
     loop-holds
-    tail-step-requires
+    turn-requires
     loop-less
     loop-again
     same-length

@@ -1,6 +1,6 @@
 -- `tail::tail_step` meets its contract: the block byte says which step the record holds. Assumes nothing.
 use borrow.Author.Needs.{needs}
-use Rattle.tail.proofs.Laws.{step-one, step-two, past-one, past-two, partner-in, block-in, past-fits, two-in}
+use Rattle.tail.proofs.Laws.{step-one, step-two, partner-in, block-in, two-in}
 use Rattle.tail.proofs.tail_step.Statement.{statement}
 use Rattle.tail.proofs.tail_step.Tie as tie
 
@@ -21,17 +21,11 @@ block-at-requires c κs =
 below-two-requires : tie.Need-below-two-requires
 below-two-requires c κs = (search (needs, two-in), search partner-in)
 
-add-result : tie.Need-add-result
-add-result c =
-    let then = c .before .before .before .before .before in
-    let start = then .before .before .before .before .before .before .before .before .before in
-    past-fits _ _ _ _ _ _ _ _ _ _ _ _ _ _ (start .pre .0) (start .pre .1 .0) (start .pre .1 .1 .1) (then .if1 .taken) (start .fits .ke)
-
 same-length : tie.Need-same-length
 same-length c = search needs
 
 returns : tie.Need-returns
-returns c = (search (needs, step-two), search (needs, past-two))
+returns c = search (needs, step-two)
 
 mul-below-one : tie.Need-mul-below-one
 mul-below-one c = search needs
@@ -42,14 +36,11 @@ shared-slice-read-below-one c = search needs
 below-one-requires : tie.Need-below-one-requires
 below-one-requires c κs = (search needs, search partner-in)
 
-add-result-2 : tie.Need-add-result-2
-add-result-2 c = search needs
-
 same-length-2 : tie.Need-same-length-2
 same-length-2 c = search needs
 
 returns-2 : tie.Need-returns-2
-returns-2 c = (search (needs, step-one), search (needs, past-one))
+returns-2 c = search (needs, step-one)
 
 pub tail-step-spec : {M : Type 1} → statement M
 tail-step-spec =
@@ -60,12 +51,10 @@ tail-step-spec =
     shared-slice-read-if1
     block-at-requires
     below-two-requires
-    add-result
     same-length
     returns
     mul-below-one
     shared-slice-read-below-one
     below-one-requires
-    add-result-2
     same-length-2
     returns-2)

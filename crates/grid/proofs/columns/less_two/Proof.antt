@@ -1,14 +1,14 @@
 -- `grid::columns::less_two` meets its contract: what the kernel makes of the lent part is made of the whole. Assumes nothing.
 use borrow.Author.Needs.{needs}
-use Rattle.grid.proofs.Parts.{later-room-two, later-two-ahead, less-two-lent}
+use Rattle.grid.proofs.Parts.{later-room-more, later-two-ahead, less-two-lent}
 use Rattle.grid.proofs.columns.less_two.Statement.{statement}
 use Rattle.grid.proofs.columns.less_two.Tie as tie
 
 mul-a : tie.Need-mul-a
-mul-a c = let room = later-room-two _ _ _ _ _ _ (c .before .pre) in search needs
+mul-a c = let room = later-room-more _ _ 1 _ _ _ _ (c .before .pre) in search needs
 
 add-a : tie.Need-add-a
-add-a c = let room = later-room-two _ _ _ _ _ _ (c .before .pre) in search needs
+add-a c = let room = later-room-more _ _ 1 _ _ _ _ (c .before .pre) in search needs
 
 mul-x : tie.Need-mul-x
 mul-x c = search needs
@@ -23,19 +23,19 @@ add-e : tie.Need-add-e
 add-e c = search needs
 
 mul-less-two-ahead : tie.Need-mul-less-two-ahead
-mul-less-two-ahead c = let room = later-room-two _ _ _ _ _ _ (c .before .pre) in search needs
+mul-less-two-ahead c = let room = later-room-more _ _ 1 _ _ _ _ (c .before .pre) in search needs
 
 sub-less-two-ahead : tie.Need-sub-less-two-ahead
-sub-less-two-ahead c = let room = later-room-two _ _ _ _ _ _ (c .before .pre) in search needs
+sub-less-two-ahead c = let room = later-room-more _ _ 1 _ _ _ _ (c .before .pre) in search needs
 
 part-less-two-ahead-start : tie.Need-part-less-two-ahead-start
-part-less-two-ahead-start c = let room = later-room-two _ _ _ _ _ _ (c .before .pre) in search needs
+part-less-two-ahead-start c = let room = later-room-more _ _ 1 _ _ _ _ (c .before .pre) in search needs
 
 part-less-two-ahead-end : tie.Need-part-less-two-ahead-end
 part-less-two-ahead-end c = search needs
 
 sub-less-two-ahead-2 : tie.Need-sub-less-two-ahead-2
-sub-less-two-ahead-2 c = let room = later-room-two _ _ _ _ _ _ (c .before .before .pre) in search needs
+sub-less-two-ahead-2 c = let room = later-room-more _ _ 1 _ _ _ _ (c .before .before .pre) in search needs
 
 sub-less-two-ahead-3 : tie.Need-sub-less-two-ahead-3
 sub-less-two-ahead-3 c = search needs

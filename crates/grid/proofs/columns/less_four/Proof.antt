@@ -1,0 +1,70 @@
+-- `grid::columns::less_four` meets its contract: what the kernel makes of the lent part is made of the whole. Assumes nothing.
+use borrow.Author.Needs.{needs}
+use Rattle.grid.proofs.Parts.{later-room-more, later-four-ahead, less-four-lent}
+use Rattle.grid.proofs.columns.less_four.Statement.{statement}
+use Rattle.grid.proofs.columns.less_four.Tie as tie
+
+mul-a : tie.Need-mul-a
+mul-a c = let room = later-room-more _ _ 3 _ _ _ _ (c .before .pre) in search needs
+
+add-a : tie.Need-add-a
+add-a c = let room = later-room-more _ _ 3 _ _ _ _ (c .before .pre) in search needs
+
+mul-x : tie.Need-mul-x
+mul-x c = search needs
+
+add-x : tie.Need-add-x
+add-x c = search needs
+
+mul-e : tie.Need-mul-e
+mul-e c = search needs
+
+add-e : tie.Need-add-e
+add-e c = search needs
+
+mul-less-four-ahead : tie.Need-mul-less-four-ahead
+mul-less-four-ahead c = let room = later-room-more _ _ 3 _ _ _ _ (c .before .pre) in search needs
+
+sub-less-four-ahead : tie.Need-sub-less-four-ahead
+sub-less-four-ahead c = let room = later-room-more _ _ 3 _ _ _ _ (c .before .pre) in search needs
+
+part-less-four-ahead-start : tie.Need-part-less-four-ahead-start
+part-less-four-ahead-start c = let room = later-room-more _ _ 3 _ _ _ _ (c .before .pre) in search needs
+
+part-less-four-ahead-end : tie.Need-part-less-four-ahead-end
+part-less-four-ahead-end c = search needs
+
+sub-less-four-ahead-2 : tie.Need-sub-less-four-ahead-2
+sub-less-four-ahead-2 c = let room = later-room-more _ _ 3 _ _ _ _ (c .before .before .pre) in search needs
+
+sub-less-four-ahead-3 : tie.Need-sub-less-four-ahead-3
+sub-less-four-ahead-3 c = search needs
+
+less-four-ahead-requires : tie.Need-less-four-ahead-requires
+less-four-ahead-requires c κs = search (needs, later-four-ahead)
+
+same-length : tie.Need-same-length
+same-length c = search needs
+
+returns : tie.Need-returns
+returns c = search (needs, less-four-lent)
+
+pub less-four-spec : {M : Type 1} → statement M
+less-four-spec =
+    tie.close
+    (tie.spec
+    mul-a
+    add-a
+    mul-x
+    add-x
+    mul-e
+    add-e
+    mul-less-four-ahead
+    sub-less-four-ahead
+    part-less-four-ahead-start
+    part-less-four-ahead-end
+    sub-less-four-ahead-2
+    sub-less-four-ahead-3
+    less-four-ahead-requires
+    same-length
+    returns)

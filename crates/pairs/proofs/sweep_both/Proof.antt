@@ -1,0 +1,69 @@
+-- `pairs::sweep_both` meets its contract. The invariant: the columns before j are swept; the measure is what is left. Assumes nothing.
+use Prim.Native.Nat.{_+_, _≤_, _-_}
+use mathlib.Core.Path.{_≡_, refl}
+use native.Mathlib.Omega.{arith}
+use lib.ListN.{length}
+use borrow.Author.Needs.{needs}
+use Rattle.model.specs.Matrix.{view}
+use Rattle.eliminate.specs.Eliminate.{inPanel}
+use Rattle.pairs.specs.Pairs.{sweptBoth}
+use Rattle.pairs.proofs.Sweeps.{placed, both-none, both-step, both-end}
+use Rattle.pairs.proofs.sweep_both.Statement.{statement}
+use Rattle.pairs.proofs.sweep_both.Tie as tie
+
+abbrev Inv-loop : tie.InvT-loop
+Inv-loop panel₀ mult wide other nrow ncol nb kb ke k l f kq j₀ panel j =
+    (f + 1 ≤ j) × (j ≤ ke) × (length panel ≡ length panel₀)
+    × (view nrow panel ≡ sweptBoth wide other (view nrow panel₀) (inPanel kb ke (view nb mult)) f kq k l (f + 1) j ke nrow)
+
+abbrev μ-loop : tie.MeasureT-loop
+μ-loop panel₀ mult wide other nrow ncol nb kb ke k l f kq j₀ panel j = ke - j
+
+add-j : tie.Need-add-j Inv-loop μ-loop
+add-j c = search needs
+
+loop-holds : tie.Need-loop-holds Inv-loop μ-loop
+loop-holds c = let at = placed _ _ _ _ _ _ _ _ _ _ _ _ _ (c .before .before .pre) in (omega arith, omega arith, refl, both-none _ _ _ _ _ _ _ _ _ _ _)
+
+column-both-requires : tie.Need-column-both-requires Inv-loop μ-loop
+column-both-requires c κs = search needs
+
+add-j-2 : tie.Need-add-j-2 Inv-loop μ-loop
+add-j-2 c = search needs
+
+loop-less : tie.Need-loop-less Inv-loop μ-loop
+loop-less c = search needs
+
+loop-again : tie.Need-loop-again Inv-loop μ-loop
+loop-again c =
+    let turn = c .before .before .before .before in
+    let inv = turn .before .loop .inv in
+    let pre = turn .before .before .before .before .pre in
+    let at = placed _ _ _ _ _ _ _ _ _ _ _ _ _ pre in (
+      search needs,
+      search needs,
+      search needs,
+      both-step _ _ _ _ _ _ _ _ _ _ _ _ _ _ (omega (arith, pre .next)) (omega (arith, pre .last)) (inv .0) (omega arith) (inv .3)
+          (c .before .before .column-both .ensures),
+    )
+
+same-length : tie.Need-same-length Inv-loop μ-loop
+same-length c = search needs
+
+returns : tie.Need-returns Inv-loop μ-loop
+returns c = let inv = c .before .loop .inv in both-end _ _ _ _ _ _ _ _ _ _ _ _ _ _ (inv .1) (search needs) (inv .3)
+
+pub sweep-both-spec : {M : Type 1} → statement M
+sweep-both-spec =
+    tie.close
+    (tie.spec
+    Inv-loop
+    μ-loop
+    add-j
+    loop-holds
+    column-both-requires
+    add-j-2
+    loop-less
+    loop-again
+    same-length
+    returns)
