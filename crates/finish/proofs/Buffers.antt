@@ -20,10 +20,17 @@ use Rattle.finish.specs.Buffers.{buffersOf, inOrder, Begun}
 
 -- ---- the copy
 
--- numbers a up to e, lent and copied from the same part of zs
-pub copy-lent : (xs ys zs : List Float) (a e : ℕ) → a ≤ e → e ≤ length xs → length ys ≡ length (midOf a (e - a) xs)
-    → vec ys ≡ withPart (vec (midOf a (e - a) xs)) 0 (e - a) (vec (midOf a (e - a) zs)) → vec (putMid a (e - a) xs ys) ≡ withPart (vec xs) a e (vec zs)
-copy-lent xs ys zs a e u h l c = part-lent xs ys a e _ _ _ u h l c (λ t m. vec-part a e zs t m)
+-- the first numbers of a list, where they are those of N
+first-numbers : (f p N : Row) (n : ℕ) → p ≡ withPart f 0 n N → (t : ℕ) → t < n → p t ≡ N t
+unfolding withPart
+first-numbers f p N n e t m = ap (λ (g : Row). g t) e ∙ rw (le-leb 0 t (omega arith), lt-ltb t n m)
+
+-- numbers a up to e, lent and copied from ps, whose first numbers are copied from the same part of zs
+pub copy-through : (f : Row) (xs ys zs ps : List Float) (a e : ℕ) → a ≤ e → e ≤ length xs → length ys ≡ length (midOf a (e - a) xs)
+    → vec ps ≡ withPart f 0 (e - a) (vec (midOf a (e - a) zs)) → vec ys ≡ withPart (vec (midOf a (e - a) xs)) 0 (e - a) (vec ps)
+    → vec (putMid a (e - a) xs ys) ≡ withPart (vec xs) a e (vec zs)
+copy-through f xs ys zs ps a e u h l p c =
+    part-lent xs ys a e _ _ _ u h l c (λ t m. first-numbers f (vec ps) _ (e - a) p t m ∙ vec-part a e zs t m)
 
 -- one part more: xs is the list at the loop's head, ys after the copy
 part-more : (f p N : Row) (a e : ℕ) → a ≤ e → p ≡ withPart f 0 a N → withPart p a e N ≡ withPart f 0 e N

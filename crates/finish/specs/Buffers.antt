@@ -2,7 +2,7 @@
 -- Definitions only. Assumes nothing.
 use mathlib.Core.Path.{_≡_}
 use mathlib.Core.List.{List}
-use Prim.Native.Nat.{ℕ, _≤_}
+use Prim.Native.Nat.{ℕ, _-_, _≤_}
 use lib.ListN.{length, replicate}
 use lib.Ieee.{Float}
 use Rattle.model.specs.Scalar.{zeroF}
@@ -37,8 +37,9 @@ pub record Begun (given panels ds subs : List Float) (bs ls : List ℕ) (lifted 
   pub amounts : lifted ≡ replicate (length lifted) zeroF
   pub order : os ≡ inOrder (length os)
 
--- numbers a up to e of two lists
+-- numbers a up to e of two lists, no more than a part
 pub record PartPre (a e xlen slen : ℕ) : Type 0 where
   pub up : a ≤ e
   pub out : e ≤ xlen
   pub source : e ≤ slen
+  pub few : e - a ≤ 256

@@ -14,12 +14,15 @@ use model::Elim;
 // How many numbers are copied at a time: a longer copy is slow where two buffers lie badly in the cache.
 const COPY_PART: usize = 256;
 
-// Numbers a up to e of x become those of s.
+// Numbers a up to e of x become those of s. They go through a local array: a compiler cannot know that two lent buffers
+// are apart, but a local array is, and the two copies become one block copy.
 fn copy_part(x: &mut [f64], s: &[f64], a: usize, e: usize)
     requires { ⌜ PartPre a e (length (now x)) (length (now s)) ⌝ }
     ensures { λ _. ⌜ vec (now (x .exit)) ≡ withPart (vec (now (x .entry))) a e (vec (now (s .entry))) ⌝ }
 {
-    kernels::copy(&mut x[a..e], &s[a..e], e - a);
+    let mut part = [0.0; COPY_PART];
+    kernels::copy(&mut part, &s[a..e], e - a);
+    kernels::copy(&mut x[a..e], &part, e - a);
 }
 
 // x becomes s, a part at a time.

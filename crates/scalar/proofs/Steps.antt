@@ -13,7 +13,7 @@ use lib.Count.{leadingZeros, leading-top}
 use lib.Ieee.{binary64, units}
 use Rattle.model.specs.Root.{square, roundRoot}
 use Rattle.model.proofs.Root.{square-le, square-lt-back, le-or-lt, root-goes-up, root-stays}
-use Rattle.scalar.specs.Steps.{heronOf, Whole, Digits, NearRoot, HeronPre, LongPre, ExtendPre}
+use Rattle.scalar.specs.Steps.{heronOf, Close, Whole, Digits, NearRoot, HeronPre, LongPre, ExtendPre}
 
 -- ---- Heron's rule
 
@@ -60,15 +60,23 @@ module _ (d q t p : ℕ) (down : t * q ≤ d) (up : d < (t + 1) * q) (half : 2 *
       let s : square (2 * p * q) ≤ square (q * q + d) = square-le (omega arith) in
       omega (arith, difference (q * q) d B (near .over) (near .under))
 
-  not-over : (B C : ℕ) → Near d B q → B * B ≤ C * 2 ^ 54 → square p ≤ d + C
+  not-over : (B C : ℕ) → Near d B q → B * B ≤ C * (4 * square q) → square p ≤ d + C
   not-over B C near h =
-      let a : 2 ^ 54 ≤ 4 * square q = omega (arith, square-le (near .from)) in
-      let b : C * 2 ^ 54 ≤ C * (4 * square q) = mul-le-mul-left C a in
       let s : square p * (4 * square q) ≤ (d + C) * (4 * square q) = omega (arith, squares B near) in
-      le-of-mul-le-mul-right s (omega arith)
+      le-of-mul-le-mul-right s (omega (arith, square-le (near .from)))
 
-heron-nearer : (d B C q : ℕ) → LongPre d → Near d B q → B * B ≤ C * 2 ^ 54 → Nearer d C (heronOf d q)
-heron-nearer d B C q long near h =
+-- where B is at most one part of d in n + 1, the square of q is at least the other n
+part-square : (n d B C q : ℕ) → Near d B q → (n + 1) * B ≤ d → B ≤ 4 * n * C → B * B ≤ C * (4 * square q)
+part-square n d B C q near part few =
+    let a : n * d ≤ (n + 1) * square q = omega (arith, mul-le-mul-left (n + 1) (near .under)) in
+    let b : (n + 1) * B * B ≤ d * B = mul-le-mul-right B part in
+    let c : B * d ≤ 4 * n * C * d = mul-le-mul-right d few in
+    let e : 4 * C * (n * d) ≤ 4 * C * ((n + 1) * square q) = mul-le-mul-left (4 * C) a in
+    let s : B * B * (n + 1) ≤ C * (4 * square q) * (n + 1) = omega arith in
+    le-of-mul-le-mul-right s (omega arith)
+
+heron-nearer : (n d B C q : ℕ) → LongPre d → Near d B q → (n + 1) * B ≤ d → B ≤ 4 * n * C → Nearer d C (heronOf d q)
+heron-nearer n d B C q long near part few =
     let pos : 0 < q = omega (arith, near .from) in
     let down : d / q * q ≤ d = div-mul-le-self d q in
     let next : d / q < d / q + 1 = omega arith in
@@ -76,64 +84,77 @@ heron-nearer d B C q long near h =
     let half : 2 * heronOf d q ≤ q + d / q = omega arith in
     let more : q + d / q ≤ 2 * heronOf d q + 1 = omega arith in
     let u = not-under d q (d / q) (heronOf d q) down up half more in
+    let o = not-over d q (d / q) (heronOf d q) down up half more B C near (part-square n d B C q near part few) in
     let from : 2 ^ 26 < heronOf d q + 1 = square-lt-back (2 ^ 26) (heronOf d q + 1) (lt-of-le-of-lt (long .from) u) in
-    record { from = omega arith; over = not-over d q (d / q) (heronOf d q) down up half more B C near h; under = u }
+    record { from = omega arith; over = o; under = u }
 
--- the rule is taken again: what is below the next whole number is near
-near-again : (d C q : ℕ) → LongPre d → 2 ^ 30 ≤ C → C ≤ 2 ^ 46 → Nearer d C q → Near d C q
-near-again d C q long lo hi n =
-    let few : q < 2 ^ 28 = square-lt-back q (2 ^ 28) (omega arith) in
-    record { from = n .from; over = n .over; under = omega (arith, n .under) }
+-- ---- the straight lines
 
--- the straight line
-abbrev line : ℕ → ℕ
-line d = d * 5 / 2 ^ 30 + 3 * 2 ^ 24
+-- the first line is u above its value at 2 ^ 52, the second above that at 2 ^ 53
+line-first : (d u : ℕ) → (u + 53 * 2 ^ 19) * 2 ^ 33 ≤ d * 53 → d * 53 < (u + 53 * 2 ^ 19 + 1) * 2 ^ 33
+    → u ≤ 53 * 2 ^ 19 → Close d (u + 129 * 2 ^ 19)
+line-first d u lo hi few =
+    let a : u * u ≤ 53 * 2 ^ 19 * u = mul-le-mul-right u few in
+    record { from = omega arith; over = omega arith; under = omega (arith, two-products u (22 * 2 ^ 19)) }
 
-line-at : (d u : ℕ) → (u + 5 * 2 ^ 22) * 2 ^ 30 ≤ d * 5 → d * 5 < (u + 5 * 2 ^ 22 + 1) * 2 ^ 30 → u ≤ 15 * 2 ^ 22 → Near d (2 ^ 50) (u + 17 * 2 ^ 22)
-line-at d u lo hi few =
-    let a : u * u ≤ 15 * 2 ^ 22 * u = mul-le-mul-right u few in
-    record { from = omega arith; over = omega arith; under = omega (arith, two-products u (9 * 2 ^ 22)) }
+line-second : (d u : ℕ) → (u + 75 * 2 ^ 19) * 2 ^ 34 ≤ d * 75 → d * 75 < (u + 75 * 2 ^ 19 + 1) * 2 ^ 34
+    → u ≤ 75 * 2 ^ 19 → Close d (u + 365 * 2 ^ 18)
+line-second d u lo hi few =
+    let a : u * u ≤ 75 * 2 ^ 19 * u = mul-le-mul-right u few in
+    record { from = omega arith; over = omega arith; under = omega (arith, two-products u (61 * 2 ^ 18)) }
 
-line-near : (d : ℕ) → LongPre d → Near d (2 ^ 50) (line d)
-line-near d long =
-    let u = d * 5 / 2 ^ 30 - 5 * 2 ^ 22 in
-    subst (λ (q : ℕ). Near d (2 ^ 50) q) (omega arith) (line-at d u (omega arith) (omega arith) (omega arith))
+pub first-octave : (d : ℕ) → LongPre d → d < 2 ^ 53 → Close d (d * 53 / 2 ^ 33 + 19 * 2 ^ 21)
+first-octave d long h =
+    let u = d * 53 / 2 ^ 33 - 53 * 2 ^ 19 in
+    subst (λ (q : ℕ). Close d q) (omega arith) (line-first d u (omega arith) (omega arith) (omega arith))
+
+pub second-octave : (d : ℕ) → LongPre d → 2 ^ 53 ≤ d → Close d (d * 75 / 2 ^ 34 + 215 * 2 ^ 18)
+second-octave d long h =
+    let u = d * 75 / 2 ^ 34 - 75 * 2 ^ 19 in
+    subst (λ (q : ℕ). Close d q) (omega arith) (line-second d u (omega arith) (omega arith) (omega arith))
+
+-- ---- the rule taken twice
+
+close-near : (d l : ℕ) → Close d l → Near d (d / 40) l
+close-near d l c = record { from = c .from; over = omega (arith, c .over); under = omega (arith, c .under) }
 
 -- a step's number is near enough for the next
 near-pre : (d B q : ℕ) → LongPre d → B ≤ 2 ^ 50 → Near d B q → HeronPre d q
 near-pre d B q long h n = record { number = long .to; from = n .from; to = square-lt-back q (2 ^ 28) (omega arith) }
 
--- q, p and o are the numbers after the first, the second and the third step
-module _ (d q p o : ℕ) (long : LongPre d) (e : q ≡ heronOf d (line d)) where
-  near-first : Near d (2 ^ 46) q
+pub first-pre : (d l : ℕ) → LongPre d → Close d l → HeronPre d l
+first-pre d l long close = near-pre d (d / 40) l long (omega arith) (close-near d l close)
+
+-- l is the line's number, q and p are those after the first and the second step
+module _ (d l q : ℕ) (long : LongPre d) (close : Close d l) (first : q ≡ heronOf d l) where
+  near-first : Near d (d / 6000) q
   near-first =
-      near-again d (2 ^ 46) q long (lit≤ tt) (lit≤ tt)
-      (subst⁻¹ (λ (x : ℕ). Nearer d (2 ^ 46) x) e (heron-nearer d (2 ^ 50) (2 ^ 46) (line d) long (line-near d long) (lit≤ tt)))
+      let n : Nearer d (d / 6000) q =
+      subst⁻¹ (λ (x : ℕ). Nearer d (d / 6000) x) first
+      (heron-nearer 39 d (d / 40) (d / 6000) l long (close-near d l close) (omega arith) (omega arith)) in
+      let few : q < 2 ^ 28 = square-lt-back q (2 ^ 28) (omega arith) in
+      record { from = n .from; over = n .over; under = omega (arith, n .under) }
 
   pub second-pre : HeronPre d q
-  second-pre = near-pre d (2 ^ 46) q long (lit≤ tt) near-first
+  second-pre = near-pre d (d / 6000) q long (omega arith) near-first
 
-  near-second : p ≡ heronOf d q → Near d (2 ^ 38) p
-  near-second f =
-      near-again d (2 ^ 38) p long (lit≤ tt) (lit≤ tt)
-      (subst⁻¹ (λ (x : ℕ). Nearer d (2 ^ 38) x) f (heron-nearer d (2 ^ 46) (2 ^ 38) q long near-first (lit≤ tt)))
+  pub heron-end : (p : ℕ) → p ≡ heronOf d q → Nearer d (2 ^ 27 - 1) p
+  heron-end p second =
+      subst⁻¹ (λ (x : ℕ). Nearer d (2 ^ 27 - 1) x) second
+      (heron-nearer 5999 d (d / 6000) (2 ^ 27 - 1) q long near-first (omega arith) (omega arith))
 
-  pub third-pre : p ≡ heronOf d q → HeronPre d p
-  third-pre f = near-pre d (2 ^ 38) p long (lit≤ tt) (near-second f)
+-- ---- the whole root, from a number that is it or one more
 
-  pub heron-end : p ≡ heronOf d q → o ≡ heronOf d p → Nearer d (2 ^ 22) o
-  heron-end f g = subst⁻¹ (λ (x : ℕ). Nearer d (2 ^ 22) x) g (heron-nearer d (2 ^ 38) (2 ^ 22) p long (near-second f) (lit≤ tt))
-
-pub whole-right : (d q : ℕ) → Nearer d (2 ^ 22) q → q * q ≤ d → Whole d q (d - q * q)
+pub whole-right : (d q : ℕ) → Nearer d (2 ^ 27 - 1) q → q * q ≤ d → Whole d q (d - q * q)
 whole-right d q n h = record { whole = omega arith; left = omega (arith, n .under) }
 
-pub less-square : (d q : ℕ) → Nearer d (2 ^ 22) q → (q - 1) * (q - 1) ≤ d
+pub less-square : (d q : ℕ) → Nearer d (2 ^ 27 - 1) q → (q - 1) * (q - 1) ≤ d
 less-square d q n =
     let is : q ≡ q - 1 + 1 = omega (arith, n .from) in
     let s : q * q ≡ (q - 1 + 1) * (q - 1 + 1) = ap square is in
     omega (arith, n .over, n .from)
 
-pub whole-less : (d q : ℕ) → Nearer d (2 ^ 22) q → d < q * q → Whole d (q - 1) (d - (q - 1) * (q - 1))
+pub whole-less : (d q : ℕ) → Nearer d (2 ^ 27 - 1) q → d < q * q → Whole d (q - 1) (d - (q - 1) * (q - 1))
 whole-less d q n h =
     let is : q ≡ q - 1 + 1 = omega (arith, n .from) in
     let s : q * q ≡ (q - 1 + 1) * (q - 1 + 1) = ap square is in

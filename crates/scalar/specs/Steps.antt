@@ -9,6 +9,12 @@ use Rattle.model.specs.Root.{square, roundRoot}
 abbrev pub heronOf : ℕ → ℕ → ℕ
 heronOf d q = (q + d / q) / 2
 
+-- r is where Heron's rule may start, near the square root of d: the squares differ by a fortieth of d at most
+pub record Close (d r : ℕ) : Type 0 where
+  pub from : 2 ^ 26 ≤ r
+  pub over : 40 * square r ≤ 41 * d
+  pub under : 39 * d ≤ 40 * square r
+
 -- q is the whole part of the square root of d, and r is what is left
 pub record Whole (d q r : ℕ) : Type 0 where
   pub whole : square q + r ≡ d

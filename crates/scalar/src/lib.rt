@@ -5,7 +5,8 @@ ghost use mathlib.Core.Path.{_≡_};
 ghost use Prim.Native.Nat.{_+_, _*_, _^_};
 ghost use Rattle.model.specs.Scalar.{isFinite, magnitudeOf, squareOf, maximumOf, reciprocalOf, liftOf};
 ghost use Rattle.model.specs.Root.{roundRoot, sqrtOf};
-ghost use Rattle.scalar.specs.Steps.{heronOf, Whole, Digits, NearRoot, HeronPre, LongPre, ExtendPre, ScaledPre};
+ghost use Rattle.scalar.specs.Steps.{heronOf, Close, Whole, Digits, NearRoot};
+ghost use Rattle.scalar.specs.Steps.{HeronPre, LongPre, ExtendPre, ScaledPre};
 
 // The whole part q of a square root, and what is left, r: q * q + r is the number, and r is at most 2 * q.
 struct Root {
@@ -84,14 +85,25 @@ fn heron(d: u64, q: u64) -> u64
     (q + d / q) / 2
 }
 
-// The whole root of d and what is left. A straight line through the root's values is near enough that Heron's rule, taken
-// three times, gives the whole root or one more.
+// A straight line near the root, one for each octave: one for both would be too far from it for two of Heron's steps.
+fn line(d: u64) -> u64
+    requires { ⌜ LongPre d ⌝ }
+    ensures { λ r. ⌜ Close d r ⌝ }
+{
+    if d < 0x20_0000_0000_0000 {
+        d * 53 / 0x2_0000_0000 + 0x260_0000
+    } else {
+        d * 75 / 0x4_0000_0000 + 0x35c_0000
+    }
+}
+
+// The whole root of d and what is left. The line is near enough that Heron's rule, taken twice, gives the whole root or
+// one more.
 fn whole_root(d: u64) -> Root
     requires { ⌜ LongPre d ⌝ }
     ensures { λ w. ⌜ Whole d (w .q) (w .r) ⌝ }
 {
-    let line = d * 5 / 0x4000_0000 + 0x300_0000;
-    let q = heron(d, heron(d, heron(d, line)));
+    let q = heron(d, heron(d, line(d)));
     if q * q <= d {
         return Root { q, r: d - q * q };
     }

@@ -1,11 +1,12 @@
--- `scan::marks_of` meets its contract. The invariant: the marks are those of the first j columns. The measure is what is left of the columns. Assumes nothing.
+-- `scan::marks_of` meets its contract. Where every number is finite the zeros are the marks. The invariant: the marks are those of the first j columns.
+-- The measure is what is left of the columns. Assumes nothing.
 use Prim.Native.Nat.{_-_, _≤_}
 use mathlib.Core.Path.{_≡_}
 use lib.ListN.{length}
 use borrow.Author.Needs.{needs}
 use Rattle.model.specs.Matrix.{view}
 use Rattle.scan.specs.Marks.{tailMarks}
-use Rattle.scan.proofs.Marks.{tail-none, tail-pre, tail-step, tail-end}
+use Rattle.scan.proofs.Marks.{tail-none, tail-clean, tail-pre, tail-step, tail-end}
 use Rattle.scan.proofs.marks_of.Statement.{statement}
 use Rattle.scan.proofs.marks_of.Tie as tie
 
@@ -17,6 +18,15 @@ abbrev μ-loop : tie.MeasureT-loop
 
 zero-bytes-requires : tie.Need-zero-bytes-requires Inv-loop μ-loop
 zero-bytes-requires c κs = search needs
+
+long-tail-finite-requires : tie.Need-long-tail-finite-requires Inv-loop μ-loop
+long-tail-finite-requires c κs = search needs
+
+same-length : tie.Need-same-length Inv-loop μ-loop
+same-length c = search needs
+
+returns : tie.Need-returns Inv-loop μ-loop
+returns c = search (needs, tail-clean)
 
 loop-holds : tie.Need-loop-holds Inv-loop μ-loop
 loop-holds c = search (needs, tail-none)
@@ -33,11 +43,11 @@ loop-less c = search needs
 loop-again : tie.Need-loop-again Inv-loop μ-loop
 loop-again c = search (needs, tail-step)
 
-same-length : tie.Need-same-length Inv-loop μ-loop
-same-length c = search needs
+same-length-2 : tie.Need-same-length-2 Inv-loop μ-loop
+same-length-2 c = search needs
 
-returns : tie.Need-returns Inv-loop μ-loop
-returns c = search (needs, tail-end)
+returns-2 : tie.Need-returns-2 Inv-loop μ-loop
+returns-2 c = search (needs, tail-end)
 
 pub marks-of-spec : {M : Type 1} → statement M
 marks-of-spec =
@@ -46,10 +56,13 @@ marks-of-spec =
     Inv-loop
     μ-loop
     zero-bytes-requires
+    long-tail-finite-requires
+    same-length
+    returns
     loop-holds
     mark-tail-requires
     add-j
     loop-less
     loop-again
-    same-length
-    returns)
+    same-length-2
+    returns-2)

@@ -1,0 +1,50 @@
+-- `scan::whole_finite` meets its contract: the eights first, then what is left. Assumes nothing.
+use borrow.Author.Needs.{needs}
+use Rattle.scan.proofs.Finite.{whole-no, whole-rest}
+use Rattle.scan.proofs.whole_finite.Statement.{statement}
+use Rattle.scan.proofs.whole_finite.Tie as tie
+
+mul-m : tie.Need-mul-m
+mul-m c = search needs
+
+eights-finite-requires : tie.Need-eights-finite-requires
+eights-finite-requires c κs = search needs
+
+returns : tie.Need-returns
+returns c = search (needs, whole-no)
+
+mul-all-finite : tie.Need-mul-all-finite
+mul-all-finite c = search needs
+
+sub-all-finite : tie.Need-sub-all-finite
+sub-all-finite c = search needs
+
+part-all-finite-start : tie.Need-part-all-finite-start
+part-all-finite-start c = search needs
+
+part-all-finite-end : tie.Need-part-all-finite-end
+part-all-finite-end c = search needs
+
+sub-all-finite-2 : tie.Need-sub-all-finite-2
+sub-all-finite-2 c = search needs
+
+all-finite-requires : tie.Need-all-finite-requires
+all-finite-requires c κs = search needs
+
+returns-2 : tie.Need-returns-2
+returns-2 c = search (needs, whole-rest)
+
+pub whole-finite-spec : {M : Type 1} → statement M
+whole-finite-spec =
+    tie.close
+    (tie.spec
+    mul-m
+    eights-finite-requires
+    returns
+    mul-all-finite
+    sub-all-finite
+    part-all-finite-start
+    part-all-finite-end
+    sub-all-finite-2
+    all-finite-requires
+    returns-2)
