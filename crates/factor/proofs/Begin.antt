@@ -23,8 +23,8 @@ use Rattle.model.proofs.Entry.{second-sound, not-refused, Passed, passed}
 use Rattle.whole.specs.Whole.{WholeRun, wholePanelsOf}
 use Rattle.finish.specs.Buffers.{inOrder, Begun}
 use Rattle.bunch_kaufman.specs.Terms.{LimitPre, NotedTo}
-use Rattle.factor.specs.Turn.{between}
-use Rattle.factor.specs.Run.{RunPre, TurnHolds}
+use Rattle.panels.specs.Turn.{between}
+use Rattle.panels.specs.Run.{RunPre, TurnHolds}
 
 pub copy-pre : (c : Settings) (input : List Float) (b : Buffers) → entryCheck c input b ≡ sound → length (b .panel) ≡ length input
 copy-pre c input b e = let w = passed c input b e in w .lengths .panel ∙ sym (w .lengths .input)

@@ -33,8 +33,8 @@ use Rattle.finish.specs.declared.Found.{Found}
 use Rattle.finish.specs.declared.Found.the-variants.{Clean, At}
 use Rattle.inertia.proofs.Bytes.{bytes-paired}
 use Rattle.bunch_kaufman.specs.Answers.{numberOf, placeOf, ColumnOnly}
-use Rattle.factor.specs.Turn.{between}
-use Rattle.factor.specs.Run.{runOf, RunLeaves}
+use Rattle.panels.specs.Turn.{between}
+use Rattle.panels.specs.Run.{runOf, RunLeaves}
 use Rattle.factor.specs.Judge.{outcomeOf, refusalOf, acceptOf, judgedBy, judgeOf, Eliminated, JudgePre}
 use Rattle.bunch_kaufman.specs.declared.Ran.{Ran}
 use Rattle.bunch_kaufman.specs.declared.Ran.the-variants.{Stopped, Done}

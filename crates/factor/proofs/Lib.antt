@@ -1,6 +1,4 @@
--- Laws of the panels in turn.
-pub mod Turns
-pub mod Work
+-- Laws of the run's begin, of the judgment and of demand 3.
 pub mod Begin
 pub mod Outcome
 pub mod Judged

@@ -19,7 +19,7 @@ use Rattle.model.proofs.Entry.{Passed, passed, past-entry}
 use Rattle.whole.specs.Whole.{WholeRun, stoppedAt, ended, wholePanelsOf}
 use Rattle.whole.proofs.Result.{Reached, run-stopped, run-ended, reached-answer, reached-entry, reached-mark, reached-pivots, reached-rounds}
 use Rattle.scan.specs.Marks.{tailMarks}
-use Rattle.factor.specs.Turn.{between}
+use Rattle.panels.specs.Turn.{between}
 use Rattle.factor.specs.Judge.{acceptOf}
 
 -- ---- lists from what they show

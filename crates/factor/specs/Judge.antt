@@ -16,8 +16,8 @@ use Rattle.model.specs.declared.Factored.the-variants.{Accepted, Refused}
 use Rattle.scan.specs.Marks.{tailMarks}
 use Rattle.finish.specs.Result.{emitted}
 use Rattle.whole.specs.Whole.{wholePanelsOf}
-use Rattle.factor.specs.Turn.{between}
-use Rattle.factor.specs.Run.{runOf, RunLeaves}
+use Rattle.panels.specs.Turn.{between}
+use Rattle.panels.specs.Run.{runOf, RunLeaves}
 use Rattle.bunch_kaufman.specs.declared.Ran.{Ran}
 use Rattle.bunch_kaufman.specs.declared.Ran.the-variants.{Stopped, Done}
 

@@ -1,5 +1,3 @@
--- The panels in turn, as the slices show them, and what the functions ask of their callers.
-pub mod Turn
-pub mod Run
+-- The run judged, what the functions ask of their callers, and demand 3 over two calls.
 pub mod Judge
 pub mod Independence

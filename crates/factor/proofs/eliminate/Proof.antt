@@ -7,7 +7,7 @@ use Rattle.factor.proofs.eliminate.Statement.{statement}
 use Rattle.factor.proofs.eliminate.Tie as tie
 use Rattle.factor.proofs.eliminate.Reads as reads
 use Rattle.factor.proofs.eliminate.Lts as lts
-use Rattle.factor.proofs.panels.Reads as panels-reads
+use Rattle.panels.proofs.panels.Reads as panels-reads
 use Rattle.factor.proofs.width.Reads as width-reads
 use Rattle.finish.proofs.begin.Reads as begin-reads
 

@@ -9,10 +9,10 @@ use Rattle.model.specs.declared.Mode.{Mode}
 use Rattle.model.specs.declared.Refusal.{Refusal}
 use Rattle.model.proofs.Cases.{test}
 use Rattle.whole.specs.Whole.{WholeRun, stoppedAt, ended, wholeContinued, wholeClosed, wholePassed, wholePanelsOf}
-use Rattle.factor.specs.Turn.{onward, turnOf}
+use Rattle.panels.specs.Turn.{onward, turnOf}
 use Rattle.bunch_kaufman.specs.Answers.{progress, numberOf, placeOf, ColumnOnly}
 use Rattle.bunch_kaufman.specs.Terms.{NotedTo, RanTo}
-use Rattle.factor.specs.Run.{runOf, RunLeaves, RunPre, TurnPre, TurnHolds}
+use Rattle.panels.specs.Run.{runOf, RunLeaves, RunPre, TurnPre, TurnHolds}
 use Rattle.bunch_kaufman.specs.declared.Ran.{Ran}
 use Rattle.bunch_kaufman.specs.declared.Ran.the-variants.{Stopped, Done}
 

@@ -1,9 +1,9 @@
--- `factor::rows_below` meets its contract: the multipliers are the first part of the working buffer. Assumes nothing.
+-- `panels::rows_below` meets its contract: the multipliers are the first part of the working buffer. Assumes nothing.
 use mathlib.Core.Path.{refl, _∙_}
 use borrow.Author.Needs.{needs}
-use Rattle.factor.proofs.Work.{tail-pre, rows-part}
-use Rattle.factor.proofs.rows_below.Statement.{statement}
-use Rattle.factor.proofs.rows_below.Tie as tie
+use Rattle.panels.proofs.Work.{tail-pre, rows-part}
+use Rattle.panels.proofs.rows_below.Statement.{statement}
+use Rattle.panels.proofs.rows_below.Tie as tie
 
 mul-square : tie.Need-mul-square
 mul-square c = search needs

@@ -1,4 +1,4 @@
--- `factor::panels` meets its contract. Invariant: the lengths stay, the run from kb on of what the slices hold is the run from 0 on of what they held,
+-- `panels::panels` meets its contract. Invariant: the lengths stay, the run from kb on of what the slices hold is the run from 0 on of what they held,
 -- and the pivots before kb are noted. Measure: the columns that are left. Assumes nothing.
 use Prim.Native.Nat.{ℕ, _+_, _*_, _<_, _≤_, _-_}
 use mathlib.Core.Path.{_≡_, refl, sym, _∙_, ap}
@@ -7,15 +7,15 @@ use lib.ListN.{length}
 use borrow.Author.Needs.{needs}
 use Rattle.model.specs.Matrix.{bytes}
 use Rattle.whole.specs.Whole.{wholePanelsOf}
-use Rattle.factor.specs.Turn.{between}
+use Rattle.panels.specs.Turn.{between}
 use Rattle.bunch_kaufman.specs.Terms.{NotedTo}
-use Rattle.factor.proofs.Turns.{run-begin, run-more, run-stop, run-done, turn-pre, holds-same, noted-more, done-leaves, end-leaves, stopped-leaves, begun, further, inside}
-use Rattle.factor.proofs.panels.Statement.{statement}
-use Rattle.factor.proofs.panels.Tie as tie
-use Rattle.factor.proofs.panels.Reads as reads
-use Rattle.factor.proofs.panels.Lts as lts
-use Rattle.factor.proofs.panel_end.Reads as panel-end-reads
-use Rattle.factor.proofs.turn.Reads as turn-reads
+use Rattle.panels.proofs.Turns.{run-begin, run-more, run-stop, run-done, turn-pre, holds-same, noted-more, done-leaves, end-leaves, stopped-leaves, begun, further, inside}
+use Rattle.panels.proofs.panels.Statement.{statement}
+use Rattle.panels.proofs.panels.Tie as tie
+use Rattle.panels.proofs.panels.Reads as reads
+use Rattle.panels.proofs.panels.Lts as lts
+use Rattle.panels.proofs.panel_end.Reads as panel-end-reads
+use Rattle.panels.proofs.turn.Reads as turn-reads
 
 abbrev Inv-loop : tie.InvT-loop
 Inv-loop panel₀ d₀ sub₀ amounts₀ blocks₀ lifts₀ order₀ partners₀ work₀ nrow ncol nb mode limit kb₀ rounds₀ panel d sub amounts blocks lifts order partners work kb rounds =

@@ -1,14 +1,14 @@
--- `factor::steps` meets its contract: the multipliers stand in the first nb·nb numbers of the working buffer. Assumes nothing.
+-- `panels::steps` meets its contract: the multipliers stand in the first nb·nb numbers of the working buffer. Assumes nothing.
 use Prim.Native.Nat.{_*_, _-_}
 use lib.ListN.{take}
 use borrow.Rule.Slice.PartMut.{midOf, putMid}
 use mathlib.Core.Path.{_∙_}
-use Rattle.factor.proofs.Work.{panel-pre, holds-ke, square-room, part-length, back-is, blank-is, steps-is}
+use Rattle.panels.proofs.Work.{panel-pre, holds-ke, square-room, part-length, back-is, blank-is, steps-is}
 use borrow.Author.Needs.{needs}
-use Rattle.factor.proofs.steps.Statement.{statement}
-use Rattle.factor.proofs.steps.Tie as tie
-use Rattle.factor.proofs.steps.Reads as reads
-use Rattle.factor.proofs.steps.Lts as lts
+use Rattle.panels.proofs.steps.Statement.{statement}
+use Rattle.panels.proofs.steps.Tie as tie
+use Rattle.panels.proofs.steps.Reads as reads
+use Rattle.panels.proofs.steps.Lts as lts
 use Rattle.bunch_kaufman.proofs.ll_bk_panel_step.Reads as ll-bk-panel-step-reads
 use Rattle.grid.proofs.columns.zero.Reads as zero-reads
 

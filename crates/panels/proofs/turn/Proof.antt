@@ -1,14 +1,14 @@
--- `factor::turn` meets its contract: a panel that stops leaves its refusal; else the rows below and the later columns follow. Assumes nothing.
+-- `panels::turn` meets its contract: a panel that stops leaves its refusal; else the rows below and the later columns follow. Assumes nothing.
 use mathlib.Core.Path.{_∙_}
-use Rattle.factor.proofs.Work.{after-pre, steps-pre, turn-stopped, turn-done, leaves-done}
+use Rattle.panels.proofs.Work.{after-pre, steps-pre, turn-stopped, turn-done, leaves-done}
 use borrow.Author.Needs.{needs}
-use Rattle.factor.proofs.turn.Statement.{statement}
-use Rattle.factor.proofs.turn.Tie as tie
-use Rattle.factor.proofs.turn.Reads as reads
-use Rattle.factor.proofs.turn.Lts as lts
-use Rattle.factor.proofs.later_columns.Reads as later-columns-reads
-use Rattle.factor.proofs.rows_below.Reads as rows-below-reads
-use Rattle.factor.proofs.steps.Reads as steps-reads
+use Rattle.panels.proofs.turn.Statement.{statement}
+use Rattle.panels.proofs.turn.Tie as tie
+use Rattle.panels.proofs.turn.Reads as reads
+use Rattle.panels.proofs.turn.Lts as lts
+use Rattle.panels.proofs.later_columns.Reads as later-columns-reads
+use Rattle.panels.proofs.rows_below.Reads as rows-below-reads
+use Rattle.panels.proofs.steps.Reads as steps-reads
 
 steps-requires : tie.Need-steps-requires
 steps-requires c κs = search needs

@@ -30,8 +30,8 @@ use Rattle.deferred.specs.Deferred as deferral
 use Rattle.bunch_kaufman.specs.Slices.{pivots, state}
 use Rattle.bunch_kaufman.specs.Answers.{progress}
 use Rattle.bunch_kaufman.specs.Terms.{PanelPre, NotesPre, NotedTo, RanTo}
-use Rattle.factor.specs.Turn.{between, onward, turnOf}
-use Rattle.factor.specs.Run.{TurnPre, TurnHolds, AfterPre}
+use Rattle.panels.specs.Turn.{between, onward, turnOf}
+use Rattle.panels.specs.Run.{TurnPre, TurnHolds, AfterPre}
 use Rattle.bunch_kaufman.specs.declared.Ran.{Ran}
 use Rattle.bunch_kaufman.specs.declared.Ran.the-variants.{Stopped, Done}
 

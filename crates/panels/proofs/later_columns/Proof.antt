@@ -1,11 +1,11 @@
--- `factor::later_columns` meets its contract: past the last column there is nothing to update. Assumes nothing.
+-- `panels::later_columns` meets its contract: past the last column there is nothing to update. Assumes nothing.
 use mathlib.Core.Path.{refl}
-use Rattle.factor.proofs.Work.{deferred-none, deferred-pre}
+use Rattle.panels.proofs.Work.{deferred-none, deferred-pre}
 use borrow.Author.Needs.{needs}
-use Rattle.factor.proofs.later_columns.Statement.{statement}
-use Rattle.factor.proofs.later_columns.Tie as tie
-use Rattle.factor.proofs.later_columns.Reads as reads
-use Rattle.factor.proofs.later_columns.Lts as lts
+use Rattle.panels.proofs.later_columns.Statement.{statement}
+use Rattle.panels.proofs.later_columns.Tie as tie
+use Rattle.panels.proofs.later_columns.Reads as reads
+use Rattle.panels.proofs.later_columns.Lts as lts
 use Rattle.deferred.proofs.deferred_update.Reads as deferred-update-reads
 
 returns : tie.Need-returns

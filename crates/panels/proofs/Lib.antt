@@ -1,0 +1,3 @@
+-- Laws of the panels in turn.
+pub mod Turns
+pub mod Work
