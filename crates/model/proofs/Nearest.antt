@@ -234,14 +234,14 @@ pow-le-back : (a b : ℕ) → 2 ^ a ≤ 2 ^ b → a ≤ b
 pow-le-back a b h = le-of-suc-le-suc (lt-of-not-le (λ (g : suc b ≤ a). not-le-of-lt (pow-lt g) h))
 
 -- 2 ^ e is 2 ^ j of them
-placed : (l : ℕ) (e : ℤ) → down e ≤ 2 ^ l → (j : ℕ) × (up e * 2 ^ l ≡ 2 ^ j * down e)
+pub placed : (l : ℕ) (e : ℤ) → down e ≤ 2 ^ l → (j : ℕ) × (up e * 2 ^ l ≡ 2 ^ j * down e)
 placed l (pos k) h = (k + l, sym (pow-add 2 k l) ∙ sym (mul-one (2 ^ (k + l))))
 placed l (negsuc k) h =
     let g : suc k ≤ l = pow-le-back (suc k) l h in
     (l - suc k, one-mul (2 ^ l) ∙ ap (λ (x : ℕ). 2 ^ x) (omega arith) ∙ pow-add 2 (l - suc k) (suc k))
 
 -- what the format asks of a number other than zero: few digits, no smaller step, below 2 ^ 1024
-asked : (s : Bool) (m : ℕ) (e : ℤ) → T (fits binary64 (fin s (suc m) e))
+pub asked : (s : Bool) (m : ℕ) (e : ℤ) → T (fits binary64 (fin s (suc m) e))
     → (suc m < 2 ^ 53) × (down e ≤ 2 ^ 1074) × (suc m * up e < 2 ^ 1024 * down e)
 unfolding fits
 asked s m e f =
@@ -260,10 +260,10 @@ record Held (a : ℕ) : Type 0 where
   pub digits : Digits53 a
   pub below : a < 2 ^ 2098
 
-multiple : (m u l p d : ℕ) → u * l ≡ p * d → m * u * l ≡ m * p * d
+pub multiple : (m u l p d : ℕ) → u * l ≡ p * d → m * u * l ≡ m * p * d
 multiple m u l p d h = mul-assoc m u l ∙ ap (λ (x : ℕ). m * x) h ∙ sym (mul-assoc m p d)
 
-in-range : (a m u l t d : ℕ) → 0 < d → 0 < l → m * u * l ≡ a * d → m * u < t * d → a < t * l
+pub in-range : (a m u l t d : ℕ) → 0 < d → 0 < l → m * u * l ≡ a * d → m * u < t * d → a < t * l
 in-range a m u l t d hd hl e h =
     lt-of-mul-lt-mul-right d (lt-of-le-of-lt (le-of-eq (sym e)) (lt-of-lt-of-le (mul-lt-mul-of-pos-right h hl) (le-of-eq (mul-right-comm t d l))))
 

@@ -1,2 +1,3 @@
--- The declared answers of the pivot rule as the definitions have them.
+-- The declared answers of the pivot rule as the definitions have them, and what its first test asks.
 pub mod Answers
+pub mod Reach

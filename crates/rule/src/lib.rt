@@ -1,6 +1,7 @@
 // The pivot rule: which pivot is chosen in a panel, and the numbers of the chosen one, lifted where the mode asks it.
 // The tests and the roundings are those of model's specs/Choice.antt and specs/Head.antt, in their order.
 ghost use mathlib.Core.Path.{_≡_};
+ghost use mathlib.Core.Bool.{true};
 ghost use lib.ListN.{length};
 ghost use Rattle.model.specs.Scalar.{_⊗_};
 ghost use Rattle.model.specs.Root.{alpha};
@@ -10,6 +11,7 @@ ghost use Rattle.model.specs.Step.{blockOf};
 ghost use Rattle.model.specs.Head.{settledOne, settledTwo, raisedFrom, scaleOf, growthFloorOf, barOf, liftStepOf};
 ghost use Rattle.scan.specs.Greatest.{ColumnPre};
 ghost use Rattle.rule.specs.Answers.{chosenIs, ChosenWithin, settledOneIs, settledTwoIs};
+ghost use Rattle.rule.specs.Reach.{Reaches, ReachPre};
 use model::Block;
 use model::Mode;
 
@@ -63,6 +65,9 @@ impl PivotRule {
     // (1 + √17) / 8, each step rounded: the bound on growth is then the same for a 1x1 and for a block.
     pub const ALPHA: f64 = 0.6403882032022076;
 
+    // A little less than 1 / ALPHA. How much less only decides how often a root is spared.
+    const LOW_INVERSE: f64 = 1.56155281280883;
+
     // A block's determinant at or below this part of its scale squared counts as zero.
     pub const GROWTH_EPS: f64 = 1e-14;
 
@@ -71,6 +76,16 @@ impl PivotRule {
         ensures { λ r. ⌜ r ≡ alpha ⊗ m ⌝ }
     {
         PivotRule::ALPHA * m
+    }
+
+    // Whether own surely reaches the threshold beside the root of `square`, without the root: `low` is above the root
+    // where its square is above `square`, and own reaches the threshold beside `low`. False says nothing.
+    fn reaches(own: f64, square: f64) -> bool
+        requires { ⌜ ReachPre own square ⌝ }
+        ensures { λ r. ⌜ (r ≡ true → Reaches own square) ⌝ }
+    {
+        let low = own * PivotRule::LOW_INVERSE;
+        (low * low > square) & (PivotRule::threshold(low) <= own)
     }
 
     // The pivot at k of a panel that ends at ke. Squares are compared: an entry whose square underflows is not seen.
@@ -82,6 +97,9 @@ impl PivotRule {
     {
         let own = scalar::magnitude(grid::get(panel, nrow, k, k));
         let column = scan::column_greatest(panel, nrow, ncol, k, ke);
+        if PivotRule::reaches(own, column.square) {
+            return Choice::Single(k);
+        }
         let colmax = scalar::sqrt(column.square);
         if scalar::maximum(own, colmax) == 0.0 {
             return Choice::ZeroColumn;
