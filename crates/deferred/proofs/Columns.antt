@@ -1,22 +1,22 @@
--- Laws of the later columns: one column more, and all of them by rows. Assumes nothing.
+-- Laws of the later columns: some columns more, and all of them by rows. Assumes nothing.
 use Prim.Native.Nat.{ℕ, zero, suc, _+_, _-_, _*_, _<_, _≤_, min}
 use mathlib.Core.Path.{_≡_, refl, sym, _∙_, ap, fun-ext}
 use mathlib.Core.Bool.{cond, _&&_}
 use mathlib.Core.List.{List}
 use native.Mathlib.Nat.{mul-le-mul-right, mul-comm, le-antisymm}
 use native.Mathlib.Omega.{arith}
-use borrow.Author.Tests.{lt-ltb, le-ltb, le-leb, lt-leb, eq-eqb, ne-eqb, ltb-true, ltb-false, leb-true, leb-false}
+use borrow.Author.Tests.{lt-ltb, le-ltb, le-leb, lt-leb, ltb-true, ltb-false, leb-true, leb-false}
 use lib.Dec.{ltb, leb}
 use lib.Ieee.{Float}
 use Rattle.model.specs.Scalar.{_⊕_, _⊖_, _⊗_, zeroF}
-use Rattle.model.specs.Matrix.{Row, Mat, within, withColumn}
+use Rattle.model.specs.Matrix.{Row, Mat, within}
 use Rattle.model.specs.Step.{Pivots}
 use Rattle.model.specs.Panel.{Panel, timesD, sumFrom, accOf, rowDeferred}
 use Rattle.grid.specs.Rules.{zeroed}
-use Rattle.grid.proofs.Laws.{test, cmp, no, col-in}
+use Rattle.grid.proofs.Laws.{test, no, col-in}
 use Rattle.deferred.specs.Deferred.{pivotsOf, panelOf, deferredRows, deferred, DeferredPre}
 use Rattle.deferred.specs.Products.{columnProduct, withProducts, ProductsPre}
-use Rattle.deferred.specs.Sums.{laterRow, gathered, columnDeferred, columnsDeferred, DeferColumnPre, ColumnsPre}
+use Rattle.deferred.specs.Sums.{laterRow, gathered, columnDeferred, partDeferred, columnsDeferred, DeferColumnPre, ColumnsPre}
 
 -- ---- the same sum by another rule, from another place on
 
@@ -28,59 +28,64 @@ sum-same f g (suc n) c e x h =
     let later : (k : ℕ) → k < n → f (c + 1 + k) ≡ g (e + 1 + k) = λ k l. ap f (omega arith) ∙ h (suc k) (omega arith) ∙ ap g (omega arith) in
     ap (λ (y : Float). sumFrom f (c + 1) n (x ⊕ y)) here ∙ sum-same f g n (c + 1) (e + 1) (x ⊕ g e) later
 
--- ---- one column more
+-- ---- more columns
 
 -- what is not yet reached
 deferred-past : (a G : Mat) (kb ke hi end i j : ℕ) → end ≤ j → columnsDeferred a G kb ke hi end i j ≡ a i j
-unfolding columnsDeferred
+unfolding columnsDeferred partDeferred
 deferred-past a G kb ke hi end i j h = rw (le-ltb j end h, no (leb ke j))
 
 -- the panel's own columns
 deferred-before : (a G : Mat) (kb ke hi end i j : ℕ) → j < ke → columnsDeferred a G kb ke hi end i j ≡ a i j
-unfolding columnsDeferred
+unfolding columnsDeferred partDeferred
 deferred-before a G kb ke hi end i j h = rw (lt-leb ke j h)
 
-column-same : (a G : Mat) (kb ke hi c i : ℕ) → kb ≤ ke → ke ≤ c
-    → columnDeferred (columnsDeferred a G kb ke hi c) G c kb (ke - kb) i ≡ columnDeferred a G c kb (ke - kb) i
+-- so a column that is not yet reached loses what it would have lost at first
+column-same : (a G : Mat) (kb ke hi c i j : ℕ) → kb ≤ ke → c ≤ j
+    → columnDeferred (columnsDeferred a G kb ke hi c) G j kb (ke - kb) i ≡ columnDeferred a G j kb (ke - kb) i
 unfolding columnDeferred gathered laterRow
-column-same a G kb ke hi c i h l =
-    rw (deferred-past a G kb ke hi c i c (omega arith)) (ap (λ (x : Float). a i c ⊖ x) (sum-same _ (λ t. G i t ⊗ a c (kb + t)) (ke - kb) 0 0 (zeroed i)
-    (λ k g. ap (λ (x : Float). G i (0 + k) ⊗ x) (deferred-before a G kb ke hi c c (kb + (0 + k)) (omega arith)))))
+column-same a G kb ke hi c i j h l =
+    rw (deferred-past a G kb ke hi c i j l) (ap (λ (x : Float). a i j ⊖ x) (sum-same _ (λ t. G i t ⊗ a j (kb + t)) (ke - kb) 0 0 (zeroed i)
+    (λ k g. ap (λ (x : Float). G i (0 + k) ⊗ x) (deferred-before a G kb ke hi c j (kb + (0 + k)) (omega arith)))))
 
--- one column more, by its rule over the matrix as it was
-columns-fill : (a G : Mat) (kb ke hi c : ℕ) → ke ≤ c
-    → withColumn (columnsDeferred a G kb ke hi c) c c hi (columnDeferred a G c kb (ke - kb)) ≡ columnsDeferred a G kb ke hi (c + 1)
-unfolding withColumn columnsDeferred
-columns-fill a G kb ke hi c l =
+-- columns c up to end more, by their rule over the matrix as it was
+columns-fill : (a G : Mat) (kb ke hi c end : ℕ) → kb ≤ ke → ke ≤ c → c ≤ end
+    → partDeferred (columnsDeferred a G kb ke hi c) G kb (ke - kb) c end hi ≡ columnsDeferred a G kb ke hi end
+unfolding columnsDeferred partDeferred
+columns-fill a G kb ke hi c end h l m =
     fun-ext λ i. fun-ext λ j.
-    cmp j c
-    (λ b. rw (ne-eqb j c (λ x. omega arith), lt-ltb j c b, lt-ltb j (c + 1) (omega arith)))
-    (λ e. rw (e, eq-eqb c c refl, le-leb ke c l, le-ltb c c (omega arith), lt-ltb c (c + 1) (omega arith)))
-    (λ b. rw (ne-eqb j c (λ x. omega arith), le-ltb j c (omega arith), le-ltb j (c + 1) (omega arith), no (leb ke j)))
+    test (ltb j c)
+    (λ p. let b : j < c = ltb-true j c p in rw (p, lt-leb c j b, lt-ltb j end (omega arith)))
+    (λ p. let b : c ≤ j = ltb-false j c p in
+    rw (column-same a G kb ke hi c i j h b, p, le-leb c j b, le-leb ke j (omega arith)))
 
 pub columns-none : (a G : Mat) (kb ke hi : ℕ) → a ≡ columnsDeferred a G kb ke hi ke
-unfolding columnsDeferred
+unfolding columnsDeferred partDeferred
 columns-none a G kb ke hi =
     fun-ext λ i. fun-ext λ j. test (leb ke j) (λ p. rw (p, le-ltb j ke (leb-true ke j p))) (λ p. rw p)
 
-pub columns-step : (a P Q G : Mat) (kb ke hi c : ℕ) → kb ≤ ke → ke ≤ c → P ≡ columnsDeferred a G kb ke hi c
-    → Q ≡ withColumn P c c hi (columnDeferred P G c kb (ke - kb)) → Q ≡ columnsDeferred a G kb ke hi (c + 1)
-columns-step a P Q G kb ke hi c h l p q =
-    q ∙ rw p (ap (λ (N : Row). withColumn (columnsDeferred a G kb ke hi c) c c hi N) (fun-ext λ i. column-same a G kb ke hi c i h l)
-    ∙ columns-fill a G kb ke hi c l)
+pub columns-step : (a P Q G : Mat) (kb ke hi c end : ℕ) → kb ≤ ke → ke ≤ c → c < end → P ≡ columnsDeferred a G kb ke hi c
+    → Q ≡ partDeferred P G kb (ke - kb) c end hi → Q ≡ columnsDeferred a G kb ke hi end
+columns-step a P Q G kb ke hi c end h l m p q = q ∙ rw p (columns-fill a G kb ke hi c end h l (omega arith))
 
 pub columns-end : (a P G : Mat) (kb ke hi c end : ℕ) → c ≤ end → end ≤ c → P ≡ columnsDeferred a G kb ke hi c → P ≡ columnsDeferred a G kb ke hi end
 columns-end a P G kb ke hi c end h l p = p ∙ ap (λ (k : ℕ). columnsDeferred a G kb ke hi k) (le-antisymm h l)
 
-pub columns-pre : (n m kb ke c alen alen′ glen len len′ : ℕ) → ColumnsPre n m kb ke alen glen len → ke ≤ c → c < m → alen′ ≡ alen → len′ ≡ len
-    → DeferColumnPre n c kb (ke - kb) alen′ glen len′
-columns-pre n m kb ke c alen alen′ glen len len′ h l g x y =
+-- ---- what the columns ask
+
+pub columns-still : (n m kb ke alen alen′ glen len len′ : ℕ) → ColumnsPre n m kb ke alen glen len → alen′ ≡ alen → len′ ≡ len
+    → ColumnsPre n m kb ke alen′ glen len′
+columns-still n m kb ke alen alen′ glen len len′ h x y =
+    record { start = h .start; stop = h .stop; rows = h .rows; panel = y ∙ h .panel; out = h .out; sums = omega arith }
+
+pub columns-pre : (n m kb ke c alen glen len : ℕ) → ColumnsPre n m kb ke alen glen len → ke ≤ c → c < m → DeferColumnPre n c kb (ke - kb) alen glen len
+columns-pre n m kb ke c alen glen len h l g =
     let s : kb + (ke - kb) ≡ ke = omega arith in
     let here : n + c * n ≤ len = col-in n m c len (h .panel) g in
     record {
       row = omega arith;
-      column = omega arith;
-      sums = omega arith;
+      column = here;
+      sums = h .sums;
       fits = omega arith;
       out = h .out;
       columns = rw s (omega (arith, mul-le-mul-right n l));
@@ -101,7 +106,7 @@ module _ (G H a : Mat) (d s : Row) (f : ℕ → ℕ) (n c kb ke : ℕ) (e : H �
       (λ k u. let z : 0 + k ≡ k = omega arith in rw (z, product-at i k l g u))
 
   by-rows : columnsDeferred a H kb ke n c ≡ deferred n c kb ke d s f a
-  unfolding columnsDeferred columnDeferred deferred deferredRows panelOf rowDeferred
+  unfolding columnsDeferred partDeferred columnDeferred deferred deferredRows panelOf rowDeferred
   by-rows =
       fun-ext λ i. fun-ext λ j.
       test (leb ke i)

@@ -20,9 +20,13 @@ gathered x g l s n = λ i. sumFrom (λ t. g i t ⊗ l t) s n (x i)
 unfoldable pub columnDeferred : Mat → Mat → ℕ → ℕ → ℕ → Row
 columnDeferred a g c kb w = λ i. a i c ⊖ gathered zeroed g (laterRow a c kb) 0 w i
 
--- columns ke up to end, each from its diagonal down to row hi
+-- columns c up to end, each from its diagonal down to row hi, less their sums
+unfoldable pub partDeferred : Mat → Mat → ℕ → ℕ → ℕ → ℕ → ℕ → Mat
+partDeferred a g kb w c end hi = λ i j. cond (within c end j && within j hi i) (columnDeferred a g j kb w i) (a i j)
+
+-- the same for the columns after a panel's, from ke up to end
 unfoldable pub columnsDeferred : Mat → Mat → ℕ → ℕ → ℕ → ℕ → Mat
-columnsDeferred a g kb ke hi end = λ i j. cond (within ke end j && within j hi i) (columnDeferred a g j kb (ke - kb) i) (a i j)
+columnsDeferred a g kb ke hi end = partDeferred a g kb (ke - kb) ke end hi
 
 -- ---- what the callers owe
 

@@ -60,7 +60,7 @@ fn gather_fours(
 }
 
 // They gain the terms of columns s up to w one by one.
-fn gather_ones(
+pub fn gather_ones(
     acc: &mut [f64],
     g: &[f64],
     panel: &[f64],

@@ -1,0 +1,130 @@
+-- `deferred::both::add_four` meets its contract: four terms of both columns. Assumes nothing.
+use borrow.Author.Needs.{needs}
+use Rattle.deferred.proofs.Sum.{four-terms}
+use Rattle.deferred.proofs.both.add_four.Statement.{statement}
+use Rattle.deferred.proofs.both.add_four.Tie as tie
+
+add-get : tie.Need-add-get
+add-get c = search needs
+
+get-requires : tie.Need-get-requires
+get-requires c κs = search needs
+
+add-get-2 : tie.Need-add-get-2
+add-get-2 c = search needs
+
+add-get-3 : tie.Need-add-get-3
+add-get-3 c = search needs
+
+get-requires-2 : tie.Need-get-requires-2
+get-requires-2 c κs = search needs
+
+add-get-4 : tie.Need-add-get-4
+add-get-4 c = search needs
+
+add-get-5 : tie.Need-add-get-5
+add-get-5 c = search needs
+
+get-requires-3 : tie.Need-get-requires-3
+get-requires-3 c κs = search needs
+
+add-get-6 : tie.Need-add-get-6
+add-get-6 c = search needs
+
+add-get-7 : tie.Need-add-get-7
+add-get-7 c = search needs
+
+get-requires-4 : tie.Need-get-requires-4
+get-requires-4 c κs = search needs
+
+add-get-8 : tie.Need-add-get-8
+add-get-8 c = search needs
+
+add-get-9 : tie.Need-add-get-9
+add-get-9 c = search needs
+
+get-requires-5 : tie.Need-get-requires-5
+get-requires-5 c κs = search needs
+
+add-get-10 : tie.Need-add-get-10
+add-get-10 c = search needs
+
+add-get-11 : tie.Need-add-get-11
+add-get-11 c = search needs
+
+add-get-12 : tie.Need-add-get-12
+add-get-12 c = search needs
+
+get-requires-6 : tie.Need-get-requires-6
+get-requires-6 c κs = search needs
+
+add-get-13 : tie.Need-add-get-13
+add-get-13 c = search needs
+
+add-get-14 : tie.Need-add-get-14
+add-get-14 c = search needs
+
+add-get-15 : tie.Need-add-get-15
+add-get-15 c = search needs
+
+get-requires-7 : tie.Need-get-requires-7
+get-requires-7 c κs = search needs
+
+add-get-16 : tie.Need-add-get-16
+add-get-16 c = search needs
+
+add-get-17 : tie.Need-add-get-17
+add-get-17 c = search needs
+
+add-get-18 : tie.Need-add-get-18
+add-get-18 c = search needs
+
+get-requires-8 : tie.Need-get-requires-8
+get-requires-8 c κs = search needs
+
+plus-columns-requires : tie.Need-plus-columns-requires
+plus-columns-requires c κs = search needs
+
+same-length : tie.Need-same-length
+same-length c = search needs
+
+same-length-2 : tie.Need-same-length-2
+same-length-2 c = search needs
+
+returns : tie.Need-returns
+returns c = (search four-terms, search four-terms)
+
+pub add-four-spec : {M : Type 1} → statement M
+add-four-spec =
+    tie.close
+    (tie.spec
+    add-get
+    get-requires
+    add-get-2
+    add-get-3
+    get-requires-2
+    add-get-4
+    add-get-5
+    get-requires-3
+    add-get-6
+    add-get-7
+    get-requires-4
+    add-get-8
+    add-get-9
+    get-requires-5
+    add-get-10
+    add-get-11
+    add-get-12
+    get-requires-6
+    add-get-13
+    add-get-14
+    add-get-15
+    get-requires-7
+    add-get-16
+    add-get-17
+    add-get-18
+    get-requires-8
+    plus-columns-requires
+    same-length
+    same-length-2
+    returns)
