@@ -1,7 +1,8 @@
 //! The benchmark: the reference's `ll_cdiv_emit` and the library's factor call on
 //! the same nodes, in turn, and LAPACK's dsytf2 on their heads. The answers of
 //! the two are compared by bits first. Arguments: the seed, and a number by which
-//! the repetitions are divided. One line a shape is printed, for `report`.
+//! the repetitions are divided. A line a shape and one for each of its nodes are
+//! printed, for `report`.
 
 mod apart;
 #[allow(dead_code)]
@@ -17,8 +18,8 @@ use std::time::Instant;
 #[global_allocator]
 static MEMORY: apart::Apart = apart::Apart::new();
 
-/// A shape: columns, rows, panel width; how often each of its nodes is run; the
-/// ratio that is aimed at.
+/// A shape: columns, rows, panel width; how often each of its nodes is run in a
+/// round; the ratio that is aimed at.
 struct Shape {
     ncol: usize,
     nrow: usize,
@@ -32,17 +33,26 @@ const fn shape(ncol: usize, nrow: usize, nb: usize, runs: usize, target: f64) ->
 }
 
 const SHAPES: [Shape; 7] = [
-    shape(128, 1024, 64, 150, 0.30),
-    shape(128, 512, 32, 300, 0.36),
-    shape(128, 128, 64, 2_000, 0.50),
-    shape(64, 64, 16, 10_000, 0.55),
-    shape(32, 256, 32, 10_000, 0.95),
-    shape(16, 128, 16, 40_000, 1.00),
-    shape(8, 64, 8, 100_000, 1.00),
+    shape(128, 1024, 64, 8, 0.30),
+    shape(128, 512, 32, 16, 0.36),
+    shape(128, 128, 64, 100, 0.50),
+    shape(64, 64, 16, 500, 0.55),
+    shape(32, 256, 32, 500, 0.95),
+    shape(16, 128, 16, 2_000, 1.00),
+    shape(8, 64, 8, 5_000, 1.00),
 ];
+
+impl Shape {
+    fn runs_in(&self, part: usize) -> usize {
+        (self.runs / part).max(1)
+    }
+}
 
 /// Nodes of each shape. The time of a shape is the mean over them of the best run.
 const NODES: usize = 4;
+
+/// All shapes are run in turn, over and over: what else the machine does for some seconds meets none of them alone.
+const ROUNDS: usize = 20;
 
 /// A node: numbers from -1 to 1, every other diagonal a hundredth of that, so that
 /// 1x1 pivots and blocks both come up.
@@ -140,45 +150,63 @@ fn compare(f: &Factor, prepared: &Prepared) {
     );
 }
 
-/// The best times of a node: the reference, the library, dsytf2; and its blocks. Both sides find their panel freshly
-/// written.
-fn best(f: &Factor, runs: usize) -> ([f64; 3], usize) {
-    let Settings { ncol, nrow, nb, limit, .. } = f.settings;
-    let prepared = Prepared::new(ncol, nrow, nb, &f.panel);
-    compare(f, &prepared);
-    let settings = misuktaan::Settings { ncol, nrow, nb, mode: misuktaan::Mode::Fail, limit };
-    let mut input = f.panel.clone();
-    let mut factors = Factors::zeros(ncol, nrow, nb);
-    let mut square = Square::new(f);
-    let mut best = [f64::INFINITY; 3];
-    for _ in 0..runs {
-        prepared.ready();
-        let reference = clocked(|| prepared.run());
-        input.copy_from_slice(&f.panel);
-        let library = clocked(|| misuktaan::factor(&settings, &input, factors.lend()));
-        for (least, time) in best.iter_mut().zip([reference, library, square.run()]) {
-            *least = if time < *least { time } else { *least };
+/// A node with what its runs need, and the best times so far: the reference, the library, dsytf2.
+struct Timed {
+    node: Factor,
+    prepared: Prepared,
+    input: Vec<f64>,
+    factors: Factors,
+    square: Square,
+    best: [f64; 3],
+}
+
+impl Timed {
+    /// Compared first: no time of a wrong answer is taken.
+    fn new(node: Factor) -> Timed {
+        let Settings { ncol, nrow, nb, .. } = node.settings;
+        let prepared = Prepared::new(ncol, nrow, nb, &node.panel);
+        compare(&node, &prepared);
+        let (input, square) = (node.panel.clone(), Square::new(&node));
+        Timed { prepared, input, factors: Factors::zeros(ncol, nrow, nb), square, best: [f64::INFINITY; 3], node }
+    }
+
+    /// So many runs of each in turn. Both sides find their panel freshly written.
+    fn run(&mut self, runs: usize) {
+        let Settings { ncol, nrow, nb, limit, .. } = self.node.settings;
+        let settings = misuktaan::Settings { ncol, nrow, nb, mode: misuktaan::Mode::Fail, limit };
+        for _ in 0..runs {
+            self.prepared.ready();
+            let reference = clocked(|| self.prepared.run());
+            self.input.copy_from_slice(&self.node.panel);
+            let library = clocked(|| misuktaan::factor(&settings, &self.input, self.factors.lend()));
+            for (least, time) in self.best.iter_mut().zip([reference, library, self.square.run()]) {
+                *least = if time < *least { time } else { *least };
+            }
         }
     }
-    (best, factors.blocks.iter().filter(|&&b| b == 1).count())
+
+    fn blocks(&self) -> usize {
+        self.factors.blocks.iter().filter(|&&b| b == 1).count()
+    }
 }
 
 fn main() {
     let mut args = std::env::args().skip(1).map(|a| a.parse().expect("a number"));
     let (seed, part) = (args.next().unwrap_or(1), args.next().unwrap_or(1) as usize);
     let mut rng = Rng::new(seed);
-    println!("seed {seed} nodes {NODES}");
-    for shape in &SHAPES {
-        let (mut sums, mut blocks) = ([0.0; 3], 0);
-        let runs = (shape.runs / part).max(1);
-        for _ in 0..NODES {
-            let (times, twos) = best(&node(&mut rng, shape), runs);
-            (0..3).for_each(|i| sums[i] += times[i] / NODES as f64);
-            blocks += twos;
+    let mut nodes: Vec<Vec<Timed>> =
+        SHAPES.iter().map(|shape| (0..NODES).map(|_| Timed::new(node(&mut rng, shape))).collect()).collect();
+    for _ in 0..ROUNDS {
+        for (shape, nodes) in SHAPES.iter().zip(&mut nodes) {
+            nodes.iter_mut().for_each(|node| node.run(shape.runs_in(part)));
         }
+    }
+    println!("seed {seed}");
+    for (shape, nodes) in SHAPES.iter().zip(&nodes) {
         let &Shape { ncol, nrow, nb, target, .. } = shape;
-        let [rust, ours, square] = sums;
-        let share = (2 * blocks) as f64 / (NODES * ncol) as f64;
-        println!("shape {ncol} {nrow} {nb} {runs} {target:.2} {rust:.3} {ours:.3} {square:.3} {share:.2}");
+        let share = (2 * nodes.iter().map(Timed::blocks).sum::<usize>()) as f64 / (NODES * ncol) as f64;
+        let runs = ROUNDS * shape.runs_in(part);
+        println!("shape {ncol} {nrow} {nb} {runs} {target:.2} {share:.2}");
+        nodes.iter().for_each(|Timed { best: [rust, ours, square], .. }| println!("node {rust:.3} {ours:.3} {square:.3}"));
     }
 }
