@@ -2,17 +2,17 @@
 use mathlib.Core.Path.{_≡_, refl, sym, _∙_, ap, subst}
 use mathlib.Core.List.{List}
 use mathlib.Core.Bool.{Bool}
-use Prim.Native.Nat.{ℕ, zero, suc, _+_, _-_, _*_, _≤_, _<_, min, max}
+use Prim.Native.Nat.{ℕ, zero, suc, _+_, _-_, _≤_, _<_}
 use native.Mathlib.Omega.{arith}
 use lib.ListN.{length, replicate}
 use lib.Ieee.{Float}
 use Rattle.model.specs.Scalar.{zeroF, isFinite}
-use Rattle.model.specs.Matrix.{Mat, view, vec, bytes, headOf, tabulate}
+use Rattle.model.specs.Matrix.{view, vec, bytes, headOf}
 use Rattle.model.specs.Step.{Pivots}
-use Rattle.model.specs.Head.{State, Run, done}
+use Rattle.model.specs.Head.{State, Run}
 use Rattle.model.specs.Inertia.{talliedOf, bytesFrom, checkBytes}
-use Rattle.model.specs.Factor.{Buffers, Outcome, everyFrom, pivotSound, columnSound, resultCheck, entryCheck, zeros, headRunOf, markOf, factorOf}
-use Rattle.model.specs.Answer.{Said, refused, accepted, Check, sound, stop, turnedAway}
+use Rattle.model.specs.Factor.{Buffers, Outcome, everyFrom, pivotSound, columnSound, resultCheck, entryCheck, zeros, factorOf}
+use Rattle.model.specs.Answer.{Said, refused, Check, sound, stop, turnedAway}
 use Rattle.model.specs.declared.Settings.{Settings}
 use Rattle.model.specs.declared.Refusal.{Refusal}
 use Rattle.model.specs.declared.Refusal.the-variants.{NotFinite}
@@ -20,17 +20,17 @@ use Rattle.model.specs.declared.Elim.{Elim}
 use Rattle.model.specs.declared.Factored.{Factored}
 use Rattle.model.specs.declared.Factored.the-variants.{Refused}
 use Rattle.model.specs.declared.Report.{Report}
-use Rattle.model.specs.declared.Tally.{Tally}
 use Rattle.model.proofs.Cases.{test}
 use Rattle.model.proofs.Entry.{Passed, passed}
 use Rattle.model.proofs.Accepted.{AtEnd, Kept, head-kept, bytes-sound}
-use Rattle.whole.specs.Whole.{WholeRun, stoppedAt, ended}
+use Rattle.whole.specs.Whole.{ended}
 use Rattle.whole.proofs.Masked.{head-at}
 use Rattle.whole.proofs.Result.{Reached, run-ended, reached-pivots}
 use Rattle.scan.specs.Marks.{tailMarks}
 use Rattle.finish.specs.Result.{foundSays, emitted, pivotsOf, ResultPre}
 use Rattle.finish.specs.declared.Found.{Found}
 use Rattle.finish.specs.declared.Found.the-variants.{Clean, At}
+use Rattle.finish.proofs.Buffers.{zeros-same}
 use Rattle.inertia.proofs.Bytes.{bytes-paired}
 use Rattle.bunch_kaufman.specs.Answers.{numberOf, placeOf, ColumnOnly}
 use Rattle.panels.specs.Turn.{between}
@@ -47,12 +47,17 @@ unfolding everyFrom
 every-same f g zero i h = refl
 every-same f g (suc n) i h = rw (h i (omega arith) (omega arith), every-same f g n (i + 1) (λ j x y. h j (omega arith) (omega arith)))
 
-column-same : (n : ℕ) (s : State) (k : ℕ) → columnSound n (emitted (headOf n (s .a)) (s .pivots .d) (s .pivots .sub) (s .pivots .blocks)) k ≡ columnSound n s k
+-- what the check sees of a state
+abbrev seen : ℕ → State → State
+seen n s = emitted (headOf n (s .a)) (s .pivots .d) (s .pivots .sub) (s .pivots .blocks)
+
+column-same : (n : ℕ) (s : State) (k : ℕ) → columnSound n (seen n s) k ≡ columnSound n s k
 unfolding columnSound emitted pivotsOf pivotSound
 column-same n s k =
-    rw (every-same (λ i. isFinite (headOf n (s .a) i k)) (λ i. isFinite (s .a i k)) (n - k) k (λ i x y. ap isFinite (head-at n (s .a) i k x (omega arith))))
+    rw (every-same (λ i. isFinite (headOf n (s .a) i k)) (λ i. isFinite (s .a i k)) (n - k) k
+    (λ i x y. ap isFinite (head-at n (s .a) i k x (omega arith))))
 
-check-same : (n : ℕ) (s : State) (m k : ℕ) → resultCheck n (emitted (headOf n (s .a)) (s .pivots .d) (s .pivots .sub) (s .pivots .blocks)) m k ≡ resultCheck n s m k
+check-same : (n : ℕ) (s : State) (m k : ℕ) → resultCheck n (seen n s) m k ≡ resultCheck n s m k
 unfolding resultCheck
 check-same n s zero k = refl
 check-same n s (suc m) k = rw (column-same n s k, check-same n s m (k + 1))
@@ -77,34 +82,44 @@ pub record SameLengths (a b : Buffers) : Type 0 where
   pub marks : length (a .marks) ≡ length (b .marks)
   pub work : length (a .work) ≡ length (b .work)
 
-zeros-same : (a b : Buffers) → SameLengths a b → zeros a ≡ zeros b
-zeros-same a b l = rw (l .panel, l .d, l .sub, l .blocks, l .lifts, l .amounts, l .order, l .marks, l .work)
+zeros-alike : (a b : Buffers) → SameLengths a b → zeros a ≡ zeros b
+zeros-alike a b l =
+    zeros-same (a .panel) (a .d) (a .sub) (a .amounts) (a .work) (a .blocks) (a .lifts) (a .order) (a .marks) b
+    (l .panel) (l .d) (l .sub) (l .blocks) (l .lifts) (l .amounts) (l .order) (l .marks) (l .work)
 
 outcome-zeros : (n p : ℕ) (s : Said Report) (a b z : Buffers) → s ≡ refused n p 0 → z ≡ zeros a → SameLengths a b
     → _≡_ {A = Outcome} (record { answer = s; buffers = z }) (record { answer = refused n p 0; buffers = zeros b })
-outcome-zeros n p s a b z es ez l = rw (es, ez, zeros-same a b l)
+outcome-zeros n p s a b z es ez l = rw (es, ez, zeros-alike a b l)
 
 -- ---- the call
+
+-- what an elimination left in the buffers
+abbrev Left : Settings → List Float → Ran → Buffers → Type 0
+Left c input r a = Eliminated c input r (a .panel) (a .d) (a .sub) (a .amounts) (a .blocks) (a .lifts) (a .order)
+
+-- the state that they show, by the rounds
+abbrev shown : ℕ → Buffers → List ℕ → ℕ → State
+shown nrow a partners = between nrow (a .panel) (a .d) (a .sub) (a .amounts) (a .blocks) (a .lifts) (a .order) partners
 
 module _ (c : Settings) (input : List Float) (b : Buffers) (e : entryCheck c input b ≡ sound) where
   checked : Passed c input b
   checked = passed c input b e
 
   -- a refusal of the run, with the outputs zeroed
-  pub stopped-call : (a z : Buffers) (r : Ran) (x : Refusal) → Eliminated c input r (a .panel) (a .d) (a .sub) (a .amounts) (a .blocks) (a .lifts) (a .order) → r ≡ Stopped x
-      → SameLengths a b → z ≡ zeros a → record { answer = turnedAway x; buffers = z } ≡ factorOf c input b
+  pub stopped-call : (a z : Buffers) (r : Ran) (x : Refusal) → Left c input r a → r ≡ Stopped x → SameLengths a b → z ≡ zeros a
+      → record { answer = turnedAway x; buffers = z } ≡ factorOf c input b
   stopped-call a z r x w h l ez =
       let only : ColumnOnly x = subst (λ (y : Ran). RunLeaves (c .ncol) y (bytes (a .blocks)) (bytes (w .partners))) h (w .leaves) in
       outcome-zeros (numberOf x) (placeOf x) (turnedAway x) a b z only ez l
       ∙ stopped-outcome c input b e (numberOf x) (placeOf x)
-      (sym (ap (λ (y : Ran). runOf y (between (c .nrow) (a .panel) (a .d) (a .sub) (a .amounts) (a .blocks) (a .lifts) (a .order) (w .partners))) h) ∙ w .run)
+      (sym (ap (λ (y : Ran). runOf y (shown (c .nrow) a (w .partners))) h) ∙ w .run)
 
-  module _ (a : Buffers) (r : Ran) (rounds : ℕ) (w : Eliminated c input r (a .panel) (a .d) (a .sub) (a .amounts) (a .blocks) (a .lifts) (a .order)) (h : r ≡ Done rounds) (l : SameLengths a b) where
+  module _ (a : Buffers) (r : Ran) (rounds : ℕ) (w : Left c input r a) (h : r ≡ Done rounds) (l : SameLengths a b) where
     abbrev last : State
-    last = between (c .nrow) (a .panel) (a .d) (a .sub) (a .amounts) (a .blocks) (a .lifts) (a .order) (w .partners) rounds
+    last = shown (c .nrow) a (w .partners) rounds
 
     ends : ended last ≡ wholeOf c input b e
-    ends = sym (ap (λ (y : Ran). runOf y (between (c .nrow) (a .panel) (a .d) (a .sub) (a .amounts) (a .blocks) (a .lifts) (a .order) (w .partners))) h) ∙ w .run
+    ends = sym (ap (λ (y : Ran). runOf y (shown (c .nrow) a (w .partners))) h) ∙ w .run
 
     reach : Reached (c .mode) (c .limit) (c .nrow) (c .ncol) (c .nb) (view (c .nrow) input) last
     reach = run-ended (c .mode) (c .limit) (c .nrow) (c .ncol) (c .nb) (view (c .nrow) input) (checked .head) (checked .some) last (sym ends)
@@ -113,8 +128,10 @@ module _ (c : Settings) (input : List Float) (b : Buffers) (e : entryCheck c inp
     bytes-kept : checkBytes (a .blocks) ≡ sound
     bytes-kept =
         let kept : Kept (c .ncol) (c .ncol) (reach .state .pivots) =
-        subst (λ (g : Run). AtEnd (c .ncol) g) (reach .run) (head-kept (c .mode) (c .limit) (c .ncol) (c .nb) (view (c .nrow) input) (checked .some)) in
-        let same : last .pivots ≡ reach .state .pivots = reached-pivots (c .mode) (c .limit) (c .nrow) (c .ncol) (c .nb) (view (c .nrow) input) last reach in
+        subst (λ (g : Run). AtEnd (c .ncol) g) (reach .run)
+        (head-kept (c .mode) (c .limit) (c .ncol) (c .nb) (view (c .nrow) input) (checked .some)) in
+        let same : last .pivots ≡ reach .state .pivots =
+        reached-pivots (c .mode) (c .limit) (c .nrow) (c .ncol) (c .nb) (view (c .nrow) input) last reach in
         let n : length (a .blocks) ≡ c .ncol = l .blocks ∙ checked .lengths .blocks in
         ap (λ (m : ℕ). bytesFrom (bytes (a .blocks)) m m 0) n
         ∙ ap (λ (p : Pivots). bytesFrom (p .blocks) (c .ncol) (c .ncol) 0) same
@@ -134,11 +151,14 @@ module _ (c : Settings) (input : List Float) (b : Buffers) (e : entryCheck c inp
     judged-call : (k : Check) → resultCheck (c .ncol) last (c .ncol) 0 ≡ k → judgedBy k (c .nrow) (c .ncol) rounds a ≡ factorOf c input b
     unfolding tailMarks
     judged-call sound g =
+        let len = checked .lengths in
         accepted-outcome c input b e (a .panel) (a .d) (a .sub) (a .amounts) (replicate (length (a .work)) zeroF) (a .blocks) (a .lifts) (a .order)
-        (tailMarks (view (c .nrow) (a .panel)) (c .ncol) (c .nrow) (c .ncol)) (w .partners) rounds (talliedOf (length (a .d)) (vec (a .d)) (vec (a .sub)) (bytes (a .blocks)))
-        ends g (l .panel ∙ checked .lengths .panel) (l .d ∙ checked .lengths .d) (l .sub ∙ checked .lengths .sub) (l .amounts ∙ checked .lengths .amounts)
-        (l .blocks ∙ checked .lengths .blocks) (l .lifts ∙ checked .lengths .lifts) (l .order ∙ checked .lengths .order)
-        refl (ap (λ (n : ℕ). replicate n zeroF) (l .work)) (ap (λ (n : ℕ). talliedOf n (vec (a .d)) (vec (a .sub)) (bytes (a .blocks))) (l .d ∙ checked .lengths .d))
+        (tailMarks (view (c .nrow) (a .panel)) (c .ncol) (c .nrow) (c .ncol)) (w .partners) rounds
+        (talliedOf (length (a .d)) (vec (a .d)) (vec (a .sub)) (bytes (a .blocks)))
+        ends g (l .panel ∙ len .panel) (l .d ∙ len .d) (l .sub ∙ len .sub) (l .amounts ∙ len .amounts)
+        (l .blocks ∙ len .blocks) (l .lifts ∙ len .lifts) (l .order ∙ len .order)
+        refl (ap (λ (n : ℕ). replicate n zeroF) (l .work))
+        (ap (λ (n : ℕ). talliedOf n (vec (a .d)) (vec (a .sub)) (bytes (a .blocks))) (l .d ∙ len .d))
     judged-call (stop n p q) g =
         let z : q ≡ 0 = stop-place (c .ncol) last (c .ncol) 0 n p q g in
         outcome-zeros n p (refused n p q) a b (zeros a) (ap (λ (x : ℕ). refused n p x) z) refl l ∙ unsound-outcome c input b e last ends n p q g
@@ -146,7 +166,9 @@ module _ (c : Settings) (input : List Float) (b : Buffers) (e : entryCheck c inp
     -- judged, it is the call's outcome
     pub judge-call : judgeOf (c .nrow) (c .ncol) rounds a ≡ factorOf c input b
     unfolding judgeOf
-    judge-call = ap (λ (k : Check). judgedBy k (c .nrow) (c .ncol) rounds a) (check-same (c .ncol) last (c .ncol) 0) ∙ judged-call (resultCheck (c .ncol) last (c .ncol) 0) refl
+    judge-call =
+        ap (λ (k : Check). judgedBy k (c .nrow) (c .ncol) rounds a) (check-same (c .ncol) last (c .ncol) 0)
+        ∙ judged-call (resultCheck (c .ncol) last (c .ncol) 0) refl
 
 -- ---- the judgement
 
@@ -164,7 +186,8 @@ result-pre nrow ncol lp ld ls lm blocks w = record {
 }
 
 module _ (nrow ncol rounds : ℕ) (b : Buffers) (found : Found)
-    (h : foundSays found ≡ resultCheck ncol (emitted (headOf ncol (view nrow (b .panel))) (vec (b .d)) (vec (b .sub)) (bytes (b .blocks))) ncol 0) where
+    (h : foundSays found
+    ≡ resultCheck ncol (emitted (headOf ncol (view nrow (b .panel))) (vec (b .d)) (vec (b .sub)) (bytes (b .blocks))) ncol 0) where
   pub judge-refused : (k : Elim) (z : Buffers) → found ≡ At k → z ≡ zeros b → outcomeOf (Refused (NotFinite k)) z ≡ judgeOf nrow ncol rounds b
   unfolding judgeOf
   judge-refused k z e ez = rw (← h, e, ez)
@@ -174,5 +197,6 @@ module _ (nrow ncol rounds : ℕ) (b : Buffers) (found : Found)
   judge-accepted o e eo = rw (← h, e) eo
 
 -- the answer to a run that stopped
-pub refusal-says : (r : Ran) (x : Refusal) (f : Factored) (z : Buffers) (o : Outcome) → f ≡ refusalOf r → r ≡ Stopped x → record { answer = turnedAway x; buffers = z } ≡ o → outcomeOf f z ≡ o
+pub refusal-says : (r : Ran) (x : Refusal) (f : Factored) (z : Buffers) (o : Outcome) → f ≡ refusalOf r → r ≡ Stopped x
+    → record { answer = turnedAway x; buffers = z } ≡ o → outcomeOf f z ≡ o
 refusal-says r x f z o e h g = rw (e, h) g

@@ -1,7 +1,7 @@
 -- From the run over the whole panel to what the factor call leaves: refused with zeros, or the factor. Assumes nothing.
 use mathlib.Core.Path.{_≡_, refl, sym, _∙_, ap}
 use mathlib.Core.List.{List, [], _∷_}
-use Prim.Native.Nat.{ℕ, zero, suc, _+_, _-_, _*_, _≤_, _<_, min, max}
+use Prim.Native.Nat.{ℕ, zero, suc, _+_, _-_, _*_, _<_, min, max}
 use native.Mathlib.Omega.{arith}
 use lib.ListN.{length, getD, replicate}
 use lib.Ieee.{Float, nan}
@@ -10,7 +10,8 @@ use Rattle.model.specs.Matrix.{Row, Mat, view, vec, bytes, places, tabulate, co
 use Rattle.model.specs.Step.{Pivots}
 use Rattle.model.specs.Head.{State}
 use Rattle.model.specs.Inertia.{talliedOf}
-use Rattle.model.specs.Factor.{Buffers, Outcome, start, entryCheck, resultCheck, HeadAnswer, fails, stands, headAnswerOf, factorRowOf, markOf, factorEntry, zeros, reportOf, afterHead, factorOf}
+use Rattle.model.specs.Factor.{Buffers, Outcome, start, entryCheck, resultCheck, HeadAnswer, fails, stands, headAnswerOf}
+use Rattle.model.specs.Factor.{factorRowOf, markOf, factorEntry, zeros, reportOf, afterHead, factorOf}
 use Rattle.model.specs.Answer.{refused, accepted, sound, stop}
 use Rattle.model.specs.declared.Settings.{Settings}
 use Rattle.model.specs.declared.Tally.{Tally}
@@ -19,6 +20,7 @@ use Rattle.model.proofs.Entry.{Passed, passed, past-entry}
 use Rattle.whole.specs.Whole.{WholeRun, stoppedAt, ended, wholePanelsOf}
 use Rattle.whole.proofs.Result.{Reached, run-stopped, run-ended, reached-answer, reached-entry, reached-mark, reached-pivots, reached-rounds}
 use Rattle.scan.specs.Marks.{tailMarks}
+use Rattle.finish.specs.Buffers.{buffersOf}
 use Rattle.panels.specs.Turn.{between}
 use Rattle.factor.specs.Judge.{acceptOf}
 
@@ -46,12 +48,16 @@ places-tabulate n xs f l e = is-tabulate n f 0 xs l (λ k h. getD-any xs k 0 k (
 tabulate-same : (n : ℕ) (f g : ℕ → ℕ) → ((k : ℕ) → k < n → f k ≡ g k) → tabulate n f ≡ tabulate n g
 tabulate-same n f g h = is-tabulate n g 0 (tabulate n f) (length-tabulateFrom 0 n f) (λ k l. getD-tabulate n k f 0 l ∙ h k l)
 
--- an outcome by its parts
+-- accepted, with what is left
+abbrev acceptedWith : ℕ → Tally → Buffers → Outcome
+acceptedWith rounds tally b = record { answer = accepted (record { rounds = rounds; inertia = tally }); buffers = b }
+
+-- such an outcome by its parts
 outcome-same : (r r′ : ℕ) (t t′ : Tally) (p p′ d d′ s s′ a a′ w w′ : List Float) (b b′ l l′ o o′ m m′ : List ℕ)
     → r ≡ r′ → t ≡ t′ → p ≡ p′ → d ≡ d′ → s ≡ s′ → b ≡ b′ → l ≡ l′ → a ≡ a′ → o ≡ o′ → m ≡ m′ → w ≡ w′
-    → _≡_ {A = Outcome} (record { answer = accepted (record { rounds = r; inertia = t }); buffers = record { panel = p; d = d; sub = s; blocks = b; lifts = l; amounts = a; order = o; marks = m; work = w } })
-    (record { answer = accepted (record { rounds = r′; inertia = t′ }); buffers = record { panel = p′; d = d′; sub = s′; blocks = b′; lifts = l′; amounts = a′; order = o′; marks = m′; work = w′ } })
-outcome-same r r′ t t′ p p′ d d′ s s′ a a′ w w′ b b′ l l′ o o′ m m′ er et ep ed es eb el ea eo em ew = rw (er, et, ep, ed, es, eb, el, ea, eo, em, ew)
+    → acceptedWith r t (buffersOf p d s b l a o m w) ≡ acceptedWith r′ t′ (buffersOf p′ d′ s′ b′ l′ a′ o′ m′ w′)
+outcome-same r r′ t t′ p p′ d d′ s s′ a a′ w w′ b b′ l l′ o o′ m m′ er et ep ed es eb el ea eo em ew =
+    rw (er, et, ep, ed, es, eb, el, ea, eo, em, ew)
 
 -- ---- the call past the entry checks
 
@@ -79,49 +85,54 @@ module _ (c : Settings) (input : List Float) (b : Buffers) (e : entryCheck c inp
     reached = run-ended (c .mode) (c .limit) (c .nrow) (c .ncol) (c .nb) given (checked .head) (checked .some) t (sym s)
 
     -- refused after the last column
-    pub unsound-outcome : (n p q : ℕ) → resultCheck (c .ncol) t (c .ncol) 0 ≡ stop n p q → record { answer = refused n p 0; buffers = zeros b } ≡ factorOf c input b
+    pub unsound-outcome : (n p q : ℕ) → resultCheck (c .ncol) t (c .ncol) 0 ≡ stop n p q
+        → record { answer = refused n p 0; buffers = zeros b } ≡ factorOf c input b
     unsound-outcome n p q h =
         sym (by-head (fails n p) (reached-answer (c .mode) (c .limit) (c .nrow) (c .ncol) (c .nb) given t reached ∙ rw h))
 
-    stands-answer : resultCheck (c .ncol) t (c .ncol) 0 ≡ sound → headAnswerOf (c .mode) (c .limit) (c .ncol) (c .nb) given ≡ stands (reached .state) (reached .panels)
+    stands-answer : resultCheck (c .ncol) t (c .ncol) 0 ≡ sound
+        → headAnswerOf (c .mode) (c .limit) (c .ncol) (c .nb) given ≡ stands (reached .state) (reached .panels)
     stands-answer h = reached-answer (c .mode) (c .limit) (c .nrow) (c .ncol) (c .nb) given t reached ∙ rw h
 
   -- accepted
   pub accepted-outcome : (panel d sub amounts work : List Float) (blocks lifts order marks partners : List ℕ) (rounds : ℕ) (tally : Tally)
       → ended (between (c .nrow) panel d sub amounts blocks lifts order partners rounds) ≡ wholeOf
       → resultCheck (c .ncol) (between (c .nrow) panel d sub amounts blocks lifts order partners rounds) (c .ncol) 0 ≡ sound
-      → length panel ≡ c .nrow * c .ncol → length d ≡ c .ncol → length sub ≡ c .ncol → length amounts ≡ c .ncol → length blocks ≡ c .ncol → length lifts ≡ c .ncol → length order ≡ c .nrow
+      → length panel ≡ c .nrow * c .ncol → length d ≡ c .ncol → length sub ≡ c .ncol → length amounts ≡ c .ncol
+      → length blocks ≡ c .ncol → length lifts ≡ c .ncol → length order ≡ c .nrow
       → marks ≡ tabulate (c .nrow - c .ncol) (λ i. markOf (c .ncol) (view (c .nrow) panel (c .ncol + i)))
       → work ≡ replicate (length (b .work)) zeroF → tally ≡ talliedOf (c .ncol) (vec d) (vec sub) (bytes blocks)
-      → record {
-        answer = accepted (record { rounds = rounds; inertia = tally });
-        buffers = record { panel = panel; d = d; sub = sub; blocks = blocks; lifts = lifts; amounts = amounts; order = order; marks = marks; work = work };
-      } ≡ factorOf c input b
+      → acceptedWith rounds tally (buffersOf panel d sub blocks lifts amounts order marks work) ≡ factorOf c input b
   accepted-outcome panel d sub amounts work blocks lifts order marks partners rounds tally s h lp ld ls la lb ll lo em ew et =
       let t = between (c .nrow) panel d sub amounts blocks lifts order partners rounds in
       let w = reached t s in
-      let p : t .pivots ≡ w .state .pivots = reached-pivots (c .mode) (c .limit) (c .nrow) (c .ncol) (c .nb) given t w in
-      outcome-same rounds (w .state .rounds) tally (reportOf (c .ncol) (w .state) .inertia) panel (columnMajor (c .nrow) (c .ncol) (factorEntry (c .ncol) (w .state) (w .panels) given))
-      d (tabulate (c .ncol) (w .state .pivots .d)) sub (tabulate (c .ncol) (w .state .pivots .sub)) amounts (tabulate (c .ncol) (w .state .pivots .amounts))
-      work (replicate (length (b .work)) zeroF) blocks (tabulate (c .ncol) (w .state .pivots .blocks)) lifts (tabulate (c .ncol) (w .state .pivots .lifts))
-      order (tabulate (c .nrow) (w .state .pivots .order))
+      let v : Pivots = w .state .pivots in
+      let p : t .pivots ≡ v = reached-pivots (c .mode) (c .limit) (c .nrow) (c .ncol) (c .nb) given t w in
+      let entries : Mat = factorEntry (c .ncol) (w .state) (w .panels) given in
+      outcome-same rounds (w .state .rounds) tally (reportOf (c .ncol) (w .state) .inertia)
+      panel (columnMajor (c .nrow) (c .ncol) entries)
+      d (tabulate (c .ncol) (v .d)) sub (tabulate (c .ncol) (v .sub)) amounts (tabulate (c .ncol) (v .amounts))
+      work (replicate (length (b .work)) zeroF)
+      blocks (tabulate (c .ncol) (v .blocks)) lifts (tabulate (c .ncol) (v .lifts)) order (tabulate (c .nrow) (v .order))
       marks (tabulate (c .nrow - c .ncol) (λ i. markOf (c .ncol) (factorRowOf (c .ncol) (w .panels) (given (c .ncol + i)))))
       (reached-rounds (c .mode) (c .limit) (c .nrow) (c .ncol) (c .nb) given t w)
       (et ∙ ap (λ (q : Pivots). talliedOf (c .ncol) (q .d) (q .sub) (q .blocks)) p)
-      (is-columnMajor (c .nrow) (c .ncol) (factorEntry (c .ncol) (w .state) (w .panels) given) panel lp (reached-entry (c .mode) (c .limit) (c .nrow) (c .ncol) (c .nb) given t w))
-      (vec-tabulate (c .ncol) d (w .state .pivots .d) ld (ap (λ (q : Pivots). q .d) p))
-      (vec-tabulate (c .ncol) sub (w .state .pivots .sub) ls (ap (λ (q : Pivots). q .sub) p))
-      (bytes-tabulate (c .ncol) blocks (w .state .pivots .blocks) lb (ap (λ (q : Pivots). q .blocks) p))
-      (bytes-tabulate (c .ncol) lifts (w .state .pivots .lifts) ll (ap (λ (q : Pivots). q .lifts) p))
-      (vec-tabulate (c .ncol) amounts (w .state .pivots .amounts) la (ap (λ (q : Pivots). q .amounts) p))
-      (places-tabulate (c .nrow) order (w .state .pivots .order) lo (ap (λ (q : Pivots). q .order) p))
-      (em ∙ tabulate-same (c .nrow - c .ncol) _ _ (λ i l. reached-mark (c .mode) (c .limit) (c .nrow) (c .ncol) (c .nb) given t w (c .ncol + i) (omega arith) (omega arith)))
+      (is-columnMajor (c .nrow) (c .ncol) entries panel lp (reached-entry (c .mode) (c .limit) (c .nrow) (c .ncol) (c .nb) given t w))
+      (vec-tabulate (c .ncol) d (v .d) ld (ap (λ (q : Pivots). q .d) p))
+      (vec-tabulate (c .ncol) sub (v .sub) ls (ap (λ (q : Pivots). q .sub) p))
+      (bytes-tabulate (c .ncol) blocks (v .blocks) lb (ap (λ (q : Pivots). q .blocks) p))
+      (bytes-tabulate (c .ncol) lifts (v .lifts) ll (ap (λ (q : Pivots). q .lifts) p))
+      (vec-tabulate (c .ncol) amounts (v .amounts) la (ap (λ (q : Pivots). q .amounts) p))
+      (places-tabulate (c .nrow) order (v .order) lo (ap (λ (q : Pivots). q .order) p))
+      (em ∙ tabulate-same (c .nrow - c .ncol) _ _
+      (λ i l. reached-mark (c .mode) (c .limit) (c .nrow) (c .ncol) (c .nb) given t w (c .ncol + i) (omega arith) (omega arith)))
       ew
       ∙ sym (by-head (stands (w .state) (w .panels)) (stands-answer t s h))
 
 -- ---- the accepted outcome by its parts
-pub accept-is : (nrow ncol rounds : ℕ) (b : Buffers) (marks : List ℕ) (work : List Float) (t : Tally) → marks ≡ tailMarks (view nrow (b .panel)) ncol nrow ncol → work ≡ replicate (length (b .work)) zeroF
+pub accept-is : (nrow ncol rounds : ℕ) (b : Buffers) (marks : List ℕ) (work : List Float) (t : Tally)
+    → marks ≡ tailMarks (view nrow (b .panel)) ncol nrow ncol → work ≡ replicate (length (b .work)) zeroF
     → t ≡ talliedOf (length (b .d)) (vec (b .d)) (vec (b .sub)) (bytes (b .blocks))
-    → record { answer = accepted (record { rounds = rounds; inertia = t }); buffers = record { panel = b .panel; d = b .d; sub = b .sub; blocks = b .blocks; lifts = b .lifts; amounts = b .amounts; order = b .order; marks = marks; work = work } }
+    → acceptedWith rounds t (buffersOf (b .panel) (b .d) (b .sub) (b .blocks) (b .lifts) (b .amounts) (b .order) marks work)
     ≡ acceptOf nrow ncol rounds b
 accept-is nrow ncol rounds b marks work t em ew et = rw (em, ew, et)

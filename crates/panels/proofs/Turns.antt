@@ -2,15 +2,15 @@
 use mathlib.Core.Path.{_≡_, refl, sym, _∙_, ap, subst}
 use Prim.Native.Nat.{ℕ, zero, suc, _+_, _-_, _≤_, _<_, min}
 use native.Mathlib.Omega.{arith}
-use borrow.Author.Tests.{lt-ltb, le-ltb, ltb-true, ltb-false}
+use borrow.Author.Tests.{lt-ltb, le-ltb, ltb-true}
 use lib.Dec.{ltb}
 use Rattle.model.specs.Head.{State, Progress, stopped, going, panelOf}
 use Rattle.model.specs.declared.Mode.{Mode}
 use Rattle.model.specs.declared.Refusal.{Refusal}
 use Rattle.model.proofs.Cases.{test}
-use Rattle.whole.specs.Whole.{WholeRun, stoppedAt, ended, wholeContinued, wholeClosed, wholePassed, wholePanelsOf}
+use Rattle.whole.specs.Whole.{WholeRun, ended, wholeContinued, wholeClosed, wholePassed, wholePanelsOf}
 use Rattle.panels.specs.Turn.{onward, turnOf}
-use Rattle.bunch_kaufman.specs.Answers.{progress, numberOf, placeOf, ColumnOnly}
+use Rattle.bunch_kaufman.specs.Answers.{progress}
 use Rattle.bunch_kaufman.specs.Terms.{NotedTo, RanTo}
 use Rattle.panels.specs.Run.{runOf, RunLeaves, RunPre, TurnPre, TurnHolds}
 use Rattle.bunch_kaufman.specs.declared.Ran.{Ran}
@@ -26,7 +26,8 @@ module _ (mode : Mode) (limit nrow ncol nb : ℕ) (some : 1 ≤ nb) where
   continued-same (going k s) e f h = h s
 
   -- more panels than are left change nothing
-  panels-fuel : (n m kb : ℕ) (s : State) → ncol - kb ≤ n → ncol - kb ≤ m → wholePanelsOf mode limit nrow ncol nb n kb s ≡ wholePanelsOf mode limit nrow ncol nb m kb s
+  panels-fuel : (n m kb : ℕ) (s : State) → ncol - kb ≤ n → ncol - kb ≤ m
+      → wholePanelsOf mode limit nrow ncol nb n kb s ≡ wholePanelsOf mode limit nrow ncol nb m kb s
   unfolding wholePanelsOf
   panels-fuel zero zero kb s h l = refl
   panels-fuel zero (suc m) kb s h l = rw (le-ltb kb ncol (omega arith))
@@ -47,43 +48,51 @@ module _ (mode : Mode) (limit nrow ncol nb : ℕ) (some : 1 ≤ nb) where
   turned kb ke (going k s) f = refl
 
   -- a turn taken off the front
-  run-open : (kb ke : ℕ) (s : State) → kb < ncol → ke ≡ min (kb + nb) ncol → runFrom kb s ≡ wholeContinued (turnOf mode limit nrow ncol kb ke s) (λ t. runFrom ke t)
+  run-open : (kb ke : ℕ) (s : State) → kb < ncol → ke ≡ min (kb + nb) ncol
+      → runFrom kb s ≡ wholeContinued (turnOf mode limit nrow ncol kb ke s) (λ t. runFrom ke t)
   unfolding wholePanelsOf turnOf
   run-open kb ke s h e =
       let q : ncol - kb ≡ suc (ncol - (kb + 1)) = omega arith in
       let w = min (kb + nb) ncol in
+      let steps : Progress = panelOf w mode limit (w - kb) kb s in
+      let rest : State → WholeRun = λ t. wholePanelsOf mode limit nrow ncol nb (ncol - (kb + 1)) w t in
       ap (λ (n : ℕ). wholePanelsOf mode limit nrow ncol nb n kb s) q
-      ∙ rw (lt-ltb kb ncol h) (turned kb w (panelOf w mode limit (w - kb) kb s) (λ t. wholePanelsOf mode limit nrow ncol nb (ncol - (kb + 1)) w t)
-      ∙ continued-same (onward nrow ncol kb w (panelOf w mode limit (w - kb) kb s)) (λ t. wholePanelsOf mode limit nrow ncol nb (ncol - (kb + 1)) w t) (λ t. runFrom w t)
+      ∙ rw (lt-ltb kb ncol h) (turned kb w steps rest
+      ∙ continued-same (onward nrow ncol kb w steps) rest (λ t. runFrom w t)
       (λ t. panels-fuel (ncol - (kb + 1)) (ncol - w) w t (omega arith) (omega arith))
       ∙ ap (λ (z : ℕ). wholeContinued (onward nrow ncol kb z (panelOf z mode limit (z - kb) kb s)) (λ t. runFrom z t)) (sym e))
 
   -- the loop goes on, stops, or is done
-  pub run-more : (kb ke n : ℕ) (s : State) (f : ℕ → State) (ran : Ran) (r : WholeRun) → runFrom kb s ≡ r → kb < ncol → ke ≡ min (kb + nb) ncol
+  pub run-more : (kb ke n : ℕ) (s : State) (f : ℕ → State) (ran : Ran) (r : WholeRun)
+      → runFrom kb s ≡ r → kb < ncol → ke ≡ min (kb + nb) ncol
       → progress ran ke f ≡ turnOf mode limit nrow ncol kb ke s → ran ≡ Done n → runFrom ke (f n) ≡ r
   unfolding progress
   run-more kb ke n s f ran r e h w u v =
-      sym (ap (λ (p : Progress). wholeContinued p (λ x. runFrom ke x)) (sym u ∙ ap (λ (x : Ran). progress x ke f) v)) ∙ sym (run-open kb ke s h w) ∙ e
+      sym (ap (λ (p : Progress). wholeContinued p (λ x. runFrom ke x)) (sym u ∙ ap (λ (x : Ran). progress x ke f) v))
+      ∙ sym (run-open kb ke s h w) ∙ e
 
-  pub run-stop : (kb ke : ℕ) (s : State) (f g : ℕ → State) (ran : Ran) (x : Refusal) (r : WholeRun) → runFrom kb s ≡ r → kb < ncol → ke ≡ min (kb + nb) ncol
+  pub run-stop : (kb ke : ℕ) (s : State) (f g : ℕ → State) (ran : Ran) (x : Refusal) (r : WholeRun)
+      → runFrom kb s ≡ r → kb < ncol → ke ≡ min (kb + nb) ncol
       → progress ran ke f ≡ turnOf mode limit nrow ncol kb ke s → ran ≡ Stopped x → runOf ran g ≡ r
   unfolding progress
   run-stop kb ke s f g ran x r e h w u v =
       ap (λ (y : Ran). runOf y g) v
-      ∙ sym (ap (λ (q : Progress). wholeContinued q (λ y. runFrom ke y)) (sym u ∙ ap (λ (y : Ran). progress y ke f) v)) ∙ sym (run-open kb ke s h w) ∙ e
+      ∙ sym (ap (λ (q : Progress). wholeContinued q (λ y. runFrom ke y)) (sym u ∙ ap (λ (y : Ran). progress y ke f) v))
+      ∙ sym (run-open kb ke s h w) ∙ e
 
   pub run-done : (kb : ℕ) (s : State) (r : WholeRun) → runFrom kb s ≡ r → ncol ≤ kb → ended s ≡ r
   unfolding wholePanelsOf
   run-done kb s r e h = let q : ncol - kb ≡ 0 = omega arith in rw q at e
 
 -- the loop begins with the whole run
-pub run-begin : (mode : Mode) (limit nrow ncol nb : ℕ) (s : State) → wholePanelsOf mode limit nrow ncol nb (ncol - 0) 0 s ≡ wholePanelsOf mode limit nrow ncol nb ncol 0 s
+pub run-begin : (mode : Mode) (limit nrow ncol nb : ℕ) (s : State)
+    → wholePanelsOf mode limit nrow ncol nb (ncol - 0) 0 s ≡ wholePanelsOf mode limit nrow ncol nb ncol 0 s
 run-begin mode limit nrow ncol nb s = let e : ncol - 0 ≡ ncol = omega arith in rw e
 
 -- ---- what the loop asks
 
-pub turn-pre : (nrow ncol nb kb ke : ℕ) (mode : Mode) (limit len lenW len₀ lenW₀ : ℕ) → RunPre nrow ncol nb mode limit len₀ lenW₀ → len ≡ len₀ → lenW ≡ lenW₀
-    → kb < ncol → ke ≡ min (kb + nb) ncol → TurnPre nrow ncol nb kb ke mode limit len lenW
+pub turn-pre : (nrow ncol nb kb ke : ℕ) (mode : Mode) (limit len lenW len₀ lenW₀ : ℕ) → RunPre nrow ncol nb mode limit len₀ lenW₀
+    → len ≡ len₀ → lenW ≡ lenW₀ → kb < ncol → ke ≡ min (kb + nb) ncol → TurnPre nrow ncol nb kb ke mode limit len lenW
 turn-pre nrow ncol nb kb ke mode limit len lenW len₀ lenW₀ r e f h w =
     let some = r .some in
     record {
@@ -105,20 +114,35 @@ turn-pre nrow ncol nb kb ke mode limit len lenW len₀ lenW₀ r e f h w =
 pub holds-same : (nrow ncol ld ls la lb ll lo lp ld₀ ls₀ la₀ lb₀ ll₀ lo₀ lp₀ : ℕ) → TurnHolds nrow ncol ld₀ ls₀ la₀ lb₀ ll₀ lo₀ lp₀
     → ld ≡ ld₀ → ls ≡ ls₀ → la ≡ la₀ → lb ≡ lb₀ → ll ≡ ll₀ → lo ≡ lo₀ → lp ≡ lp₀ → TurnHolds nrow ncol ld ls la lb ll lo lp
 holds-same nrow ncol ld ls la lb ll lo lp ld₀ ls₀ la₀ lb₀ ll₀ lo₀ lp₀ h e1 e2 e3 e4 e5 e6 e7 =
-    record { d = e1 ∙ h .d; sub = e2 ∙ h .sub; amounts = e3 ∙ h .amounts; blocks = e4 ∙ h .blocks; lifts = e5 ∙ h .lifts; order = e6 ∙ h .order; partners = e7 ∙ h .partners }
+    record {
+      d = e1 ∙ h .d;
+      sub = e2 ∙ h .sub;
+      amounts = e3 ∙ h .amounts;
+      blocks = e4 ∙ h .blocks;
+      lifts = e5 ∙ h .lifts;
+      order = e6 ∙ h .order;
+      partners = e7 ∙ h .partners;
+    }
 
 -- the notes of a panel, as the next one begins with them
-pub noted-more : (k ke ke′ rounds : ℕ) (blocks partners : ℕ → ℕ) → NotedTo k ke rounds blocks partners → ke ≤ ke′ → NotedTo k ke′ rounds blocks partners
-noted-more k ke ke′ rounds blocks partners w h = record { few = w .few; pair = λ c e. omega (arith, w .pair c e); partner = λ c. omega (arith, w .partner c) }
+pub noted-more : (k ke ke′ rounds : ℕ) (blocks partners : ℕ → ℕ) → NotedTo k ke rounds blocks partners → ke ≤ ke′
+    → NotedTo k ke′ rounds blocks partners
+noted-more k ke ke′ rounds blocks partners w h =
+    record { few = w .few; pair = λ c e. omega (arith, w .pair c e); partner = λ c. omega (arith, w .partner c) }
 
-pub done-leaves : (ke rounds : ℕ) (r : Ran) (blocks partners : ℕ → ℕ) → RanTo ke r blocks partners → r ≡ Done rounds → NotedTo ke (ke + 1) rounds blocks partners
+pub done-leaves : (ke rounds : ℕ) (r : Ran) (blocks partners : ℕ → ℕ) → RanTo ke r blocks partners → r ≡ Done rounds
+    → NotedTo ke (ke + 1) rounds blocks partners
 done-leaves ke rounds r blocks partners w e =
     noted-more ke ke (ke + 1) rounds blocks partners (subst (λ (x : Ran). RanTo ke x blocks partners) e w) (omega arith)
 
-pub end-leaves : (k n rounds : ℕ) (blocks partners : ℕ → ℕ) → NotedTo k (k + 1) rounds blocks partners → n ≤ k → k ≤ n → NotedTo n (n + 1) rounds blocks partners
-end-leaves k n rounds blocks partners w h l = let e : k ≡ n = omega arith in subst (λ (m : ℕ). NotedTo m (m + 1) rounds blocks partners) e w
+pub end-leaves : (k n rounds : ℕ) (blocks partners : ℕ → ℕ) → NotedTo k (k + 1) rounds blocks partners → n ≤ k → k ≤ n
+    → NotedTo n (n + 1) rounds blocks partners
+end-leaves k n rounds blocks partners w h l =
+    let e : k ≡ n = omega arith in
+    subst (λ (m : ℕ). NotedTo m (m + 1) rounds blocks partners) e w
 
-pub stopped-leaves : (ke ncol : ℕ) (r : Ran) (x : Refusal) (blocks partners : ℕ → ℕ) → RanTo ke r blocks partners → r ≡ Stopped x → RunLeaves ncol r blocks partners
+pub stopped-leaves : (ke ncol : ℕ) (r : Ran) (x : Refusal) (blocks partners : ℕ → ℕ) → RanTo ke r blocks partners → r ≡ Stopped x
+    → RunLeaves ncol r blocks partners
 stopped-leaves ke ncol r x blocks partners w e =
     subst (λ (y : Ran). RunLeaves ncol y blocks partners) (sym e) (subst (λ (y : Ran). RanTo ke y blocks partners) e w)
 

@@ -1,11 +1,11 @@
 -- One panel's turn: the working buffer's first part as the multipliers, the rows below, the later columns. Assumes nothing.
 use mathlib.Core.Path.{_≡_, refl, sym, _∙_, ap, subst, fun-ext}
-use mathlib.Core.Bool.{Bool, true, false, cond, _&&_}
-use mathlib.Core.List.{List, _++_}
-use Prim.Native.Nat.{ℕ, zero, suc, _+_, _-_, _*_, _≤_, _<_, min}
+use mathlib.Core.Bool.{true, _&&_}
+use mathlib.Core.List.{List}
+use Prim.Native.Nat.{ℕ, _+_, _-_, _*_, _≤_, _<_, min}
 use native.Mathlib.Omega.{arith}
 use native.Mathlib.Nat.{mul-le-mul-right, mul-le-mul-left, mul-comm}
-use borrow.Author.Tests.{lt-ltb, le-ltb, le-leb, leb-true, ltb-true, ltb-false}
+use borrow.Author.Tests.{lt-ltb, le-ltb, le-leb, leb-true, ltb-true}
 use borrow.Rule.Slice.PartMut.{midOf, putMid}
 use lib.Dec.{leb, ltb}
 use lib.ListN.{length, getD, take, drop}
@@ -14,8 +14,8 @@ use lib.Ieee.{Float, nan}
 use Rattle.model.specs.Scalar.{zeroF}
 use Rattle.model.specs.Matrix.{Row, Mat, view, vec, bytes, within, withPart}
 use Rattle.model.specs.Step.{Pivots, rowAfterSteps}
-use Rattle.model.specs.Panel.{Panel, timesD, rowDeferred}
-use Rattle.model.specs.Head.{State, Progress, going, panelOf, blank}
+use Rattle.model.specs.Panel.{timesD, rowDeferred}
+use Rattle.model.specs.Head.{State, going, panelOf, blank}
 use Rattle.model.specs.Factor.{workLength}
 use Rattle.model.specs.declared.Mode.{Mode}
 use Rattle.model.specs.declared.Refusal.{Refusal}
@@ -57,24 +57,27 @@ in-square : (nb kb ke j : ℕ) → ke ≤ kb + nb → within kb ke j ≡ true �
 in-square nb kb ke j w t = omega (arith, leb-true kb j (and-left (leb kb j) (ltb j ke) t), ltb-true j ke (and-right (leb kb j) (ltb j ke) t))
 
 -- zeros hold no multiplier
-pub blank-is : (nb kb ke : ℕ) (xs ws : List Float) → ke ≤ kb + nb → vec ws ≡ withPart (vec xs) 0 (nb * nb) zeroed → inPanel kb ke (view nb (midOf 0 (nb * nb - 0) ws)) ≡ blank
+pub blank-is : (nb kb ke : ℕ) (xs ws : List Float) → ke ≤ kb + nb → vec ws ≡ withPart (vec xs) 0 (nb * nb) zeroed
+    → inPanel kb ke (view nb (midOf 0 (nb * nb - 0) ws)) ≡ blank
 unfolding inPanel view blank
 blank-is nb kb ke xs ws w e =
     rw (part-is (nb * nb) ws) (fun-ext λ j. fun-ext λ c.
     test (within kb ke j && within kb ke c)
     (λ t. let a : j - kb < nb = in-square nb kb ke j w (and-left (within kb ke j) (within kb ke c) t) in
     let b : c - kb < nb = in-square nb kb ke c w (and-right (within kb ke j) (within kb ke c) t) in
-    let o : j - kb + (c - kb) * nb < nb * nb = off-lt nb nb (j - kb) (c - kb) a b in
-    rw (t, lt-ltb (j - kb) nb a) (getD-take (nb * nb) ws (j - kb + (c - kb) * nb) nan o ∙ zero-at (nb * nb) xs ws e (j - kb + (c - kb) * nb) o))
+    let at : ℕ = j - kb + (c - kb) * nb in
+    let o : at < nb * nb = off-lt nb nb (j - kb) (c - kb) a b in
+    rw (t, lt-ltb (j - kb) nb a) (getD-take (nb * nb) ws at nan o ∙ zero-at (nb * nb) xs ws e at o))
     (λ t. rw t))
 
-pub square-room : (nrow ncol nb kb ke : ℕ) (mode : Mode) (limit len lenW : ℕ) (ws : List Float) → TurnPre nrow ncol nb kb ke mode limit len lenW → length ws ≡ lenW → nb * nb ≤ length ws
+pub square-room : (nrow ncol nb kb ke : ℕ) (mode : Mode) (limit len lenW : ℕ) (ws : List Float) → TurnPre nrow ncol nb kb ke mode limit len lenW
+    → length ws ≡ lenW → nb * nb ≤ length ws
 square-room nrow ncol nb kb ke mode limit len lenW ws t e = square-fits nrow nb (length ws) (omega (arith, t .run .work))
 
 -- ---- what the calls ask
 
-pub panel-pre : (nrow ncol nb kb ke : ℕ) (mode : Mode) (limit len lenW : ℕ) (ws : List Float) → TurnPre nrow ncol nb kb ke mode limit len lenW → length ws ≡ lenW
-    → PanelPre nrow ncol nb kb ke len (length (midOf 0 (nb * nb - 0) ws))
+pub panel-pre : (nrow ncol nb kb ke : ℕ) (mode : Mode) (limit len lenW : ℕ) (ws : List Float) → TurnPre nrow ncol nb kb ke mode limit len lenW
+    → length ws ≡ lenW → PanelPre nrow ncol nb kb ke len (length (midOf 0 (nb * nb - 0) ws))
 panel-pre nrow ncol nb kb ke mode limit len lenW ws t e =
     let here = t .here in
     record {
@@ -87,8 +90,8 @@ panel-pre nrow ncol nb kb ke mode limit len lenW ws t e =
       width = t .width;
     }
 
-pub holds-ke : (nrow ncol nb kb ke : ℕ) (mode : Mode) (limit len lenW ld ls la lb ll lo lp : ℕ) → TurnPre nrow ncol nb kb ke mode limit len lenW → TurnHolds nrow ncol ld ls la lb ll lo lp
-    → NotesPre ke ld ls la lb ll lo lp
+pub holds-ke : (nrow ncol nb kb ke : ℕ) (mode : Mode) (limit len lenW ld ls la lb ll lo lp : ℕ)
+    → TurnPre nrow ncol nb kb ke mode limit len lenW → TurnHolds nrow ncol ld ls la lb ll lo lp → NotesPre ke ld ls la lb ll lo lp
 holds-ke nrow ncol nb kb ke mode limit len lenW ld ls la lb ll lo lp t h =
     let cols = t .cols in
     let head = t .run .head in
@@ -103,8 +106,8 @@ holds-ke nrow ncol nb kb ke mode limit len lenW ld ls la lb ll lo lp t h =
       partners = omega (arith, h .partners);
     }
 
-pub tail-pre : (nrow ncol nb kb ke len lenW ld ls lb lp : ℕ) (ws : List Float) → AfterPre nrow ncol nb kb ke len lenW ld ls lb lp → length ws ≡ lenW
-    → TailPre nrow ncol nb kb ke len (length (midOf 0 (nb * nb - 0) ws)) ld ls lb lp
+pub tail-pre : (nrow ncol nb kb ke len lenW ld ls lb lp : ℕ) (ws : List Float) → AfterPre nrow ncol nb kb ke len lenW ld ls lb lp
+    → length ws ≡ lenW → TailPre nrow ncol nb kb ke len (length (midOf 0 (nb * nb - 0) ws)) ld ls lb lp
 tail-pre nrow ncol nb kb ke len lenW ld ls lb lp ws a e =
     let cols = a .cols in
     let few = a .fewColumns in
@@ -126,8 +129,9 @@ wide-fits nrow nb len h =
     let b : nrow * (nb + 1) ≤ 3 * nrow * (nb + 1) = mul-le-mul-right (nb + 1) (omega arith) in
     omega (arith, mul-comm nb nrow)
 
-pub deferred-pre : (nrow ncol nb kb ke len lenW ld ls lb lp la : ℕ) (ws : List Float) (blocks partners : List ℕ) → AfterPre nrow ncol nb kb ke len lenW ld ls lb lp → length blocks ≡ lb
-    → length ws ≡ lenW → la ≡ 1024 → StepsPre ke (bytes blocks) (bytes partners) → deferral.DeferredPre nrow ncol kb ke la (length (midOf 0 (nb * nrow - 0) ws)) len ld ls blocks
+pub deferred-pre : (nrow ncol nb kb ke len lenW ld ls lb lp la : ℕ) (ws : List Float) (blocks partners : List ℕ)
+    → AfterPre nrow ncol nb kb ke len lenW ld ls lb lp → length blocks ≡ lb → length ws ≡ lenW → la ≡ 1024
+    → StepsPre ke (bytes blocks) (bytes partners) → deferral.DeferredPre nrow ncol kb ke la (length (midOf 0 (nb * nrow - 0) ws)) len ld ls blocks
 deferred-pre nrow ncol nb kb ke len lenW ld ls lb lp la ws blocks partners a eb e f s =
     let cols = a .cols in
     let here = a .here in
@@ -155,17 +159,23 @@ deferred-pre nrow ncol nb kb ke len lenW ld ls lb lp la ws blocks partners a eb 
 
 -- ---- the laws of the turn
 
-pub steps-is : (mode : Mode) (limit nrow nb kb ke before : ℕ) (r : Ran) (p p′ d d′ s s′ a a′ m m′ w : List Float) (b b′ l l′ o o′ q q′ : List ℕ)
-    → progress r ke (state nrow nb kb ke p′ m′ d′ s′ a′ b′ l′ o′ q′) ≡ panelOf ke mode limit (ke - kb) kb (state nrow nb kb ke p m d s a b l o q before)
+pub steps-is : (mode : Mode) (limit nrow nb kb ke before : ℕ) (r : Ran)
+    (p p′ d d′ s s′ a a′ m m′ w : List Float) (b b′ l l′ o o′ q q′ : List ℕ)
+    → progress r ke (state nrow nb kb ke p′ m′ d′ s′ a′ b′ l′ o′ q′)
+    ≡ panelOf ke mode limit (ke - kb) kb (state nrow nb kb ke p m d s a b l o q before)
     → w ≡ m′ → inPanel kb ke (view nb m) ≡ blank
-    → progress r ke (state nrow nb kb ke p′ w d′ s′ a′ b′ l′ o′ q′) ≡ panelOf ke mode limit (ke - kb) kb (between nrow p d s a b l o q before)
+    → progress r ke (state nrow nb kb ke p′ w d′ s′ a′ b′ l′ o′ q′)
+    ≡ panelOf ke mode limit (ke - kb) kb (between nrow p d s a b l o q before)
 steps-is mode limit nrow nb kb ke before r p p′ d d′ s s′ a a′ m m′ w b b′ l l′ o o′ q q′ h ew eb =
     ap (λ (x : List Float). progress r ke (state nrow nb kb ke p′ x d′ s′ a′ b′ l′ o′ q′)) ew ∙ h
-    ∙ ap (λ (x : Mat). panelOf ke mode limit (ke - kb) kb (record { a = view nrow p; mult = x; pivots = pivots d s a b l o q; rounds = before })) eb
+    ∙ ap (λ (x : Mat). panelOf ke mode limit (ke - kb) kb
+    (record { a = view nrow p; mult = x; pivots = pivots d s a b l o q; rounds = before })) eb
 
 pub rows-part : (nrow nb kb ke : ℕ) (p : Pivots) (a : Mat) (n : ℕ) (k : ℕ) (ws : List Float)
-    → below ke nrow (rowAfterSteps p (inPanel kb ke (view nb (midOf 0 (nb * nb - 0) ws))) ke n k) a ≡ below ke nrow (rowAfterSteps p (inPanel kb ke (view nb (take (nb * nb) ws))) ke n k) a
-rows-part nrow nb kb ke p a n k ws = ap (λ (xs : List Float). below ke nrow (rowAfterSteps p (inPanel kb ke (view nb xs)) ke n k) a) (part-is (nb * nb) ws)
+    → below ke nrow (rowAfterSteps p (inPanel kb ke (view nb (midOf 0 (nb * nb - 0) ws))) ke n k) a
+    ≡ below ke nrow (rowAfterSteps p (inPanel kb ke (view nb (take (nb * nb) ws))) ke n k) a
+rows-part nrow nb kb ke p a n k ws =
+    ap (λ (xs : List Float). below ke nrow (rowAfterSteps p (inPanel kb ke (view nb xs)) ke n k) a) (part-is (nb * nb) ws)
 
 -- no later column
 pub deferred-none : (nrow ncol kb ke : ℕ) (d s : Row) (b : ℕ → ℕ) (a : Mat) → ke ≡ ncol → a ≡ deferral.deferred nrow ncol kb ke d s b a
@@ -176,17 +186,20 @@ deferred-none nrow ncol kb ke d s b a e =
     (λ t. rw t)
 
 deferred-whole : (nrow ncol kb ke : ℕ) (p : Pivots) (m a : Mat)
-    → deferral.deferred nrow ncol kb ke (p .d) (p .sub) (p .blocks) a ≡ deferredRows nrow ncol (record { kb = kb; ke = ke; pivots = p; mult = m; below = a }) a
+    → deferral.deferred nrow ncol kb ke (p .d) (p .sub) (p .blocks) a
+    ≡ deferredRows nrow ncol (record { kb = kb; ke = ke; pivots = p; mult = m; below = a }) a
 unfolding deferral.deferred deferral.deferredRows deferral.panelOf deferral.pivotsOf deferredRows rowDeferred timesD
 deferred-whole nrow ncol kb ke p m a = refl
 
-pub turn-stopped : (mode : Mode) (limit nrow ncol kb ke : ℕ) (r : Ran) (x : Refusal) (f g : ℕ → State) (s : State) → progress r ke f ≡ panelOf ke mode limit (ke - kb) kb s → r ≡ Stopped x
+pub turn-stopped : (mode : Mode) (limit nrow ncol kb ke : ℕ) (r : Ran) (x : Refusal) (f g : ℕ → State) (s : State)
+    → progress r ke f ≡ panelOf ke mode limit (ke - kb) kb s → r ≡ Stopped x
     → progress r ke g ≡ turnOf mode limit nrow ncol kb ke s
 unfolding turnOf progress
 turn-stopped mode limit nrow ncol kb ke r x f g s h e =
     ap (λ (y : Ran). progress y ke g) e ∙ ap (onward nrow ncol kb ke) (sym (ap (λ (y : Ran). progress y ke f) e) ∙ h)
 
-alike : (m : Mat) (ke n k : ℕ) (d s a : List Float) (b l o q : List ℕ) → rowAfterSteps (pivotsOf d s b q) m ke n k ≡ rowAfterSteps (pivots d s a b l o q) m ke n k
+alike : (m : Mat) (ke n k : ℕ) (d s a : List Float) (b l o q : List ℕ)
+    → rowAfterSteps (pivotsOf d s b q) m ke n k ≡ rowAfterSteps (pivots d s a b l o q) m ke n k
 unfolding pivotsOf
 alike m ke n k d s a b l o q = steps-alike (pivotsOf d s b q) (pivots d s a b l o q) m refl refl refl refl ke n k
 
@@ -200,7 +213,8 @@ turn-done mode limit nrow ncol nb kb ke rounds r p p₂ p₃ d s a w b l o q t h
     let v : Pivots = pivots d s a b l o q in
     let m : Mat = inPanel kb ke (view nb w) in
     let rows : Mat = below ke nrow (rowAfterSteps v m ke (ke - kb) kb) (view nrow p) in
-    let below-is : view nrow p₂ ≡ rows = e₂ ∙ ap (λ (f : Row → Row). below ke nrow f (view nrow p)) (alike m ke (ke - kb) kb d s a b l o q) in
+    let below-is : view nrow p₂ ≡ rows =
+    e₂ ∙ ap (λ (f : Row → Row). below ke nrow f (view nrow p)) (alike m ke (ke - kb) kb d s a b l o q) in
     let later : view nrow p₃ ≡ deferredRows nrow ncol (record { kb = kb; ke = ke; pivots = v; mult = m; below = rows }) rows =
     e₃ ∙ ap (λ (x : Mat). deferral.deferred nrow ncol kb ke (vec d) (vec s) (bytes b) x) below-is ∙ deferred-whole nrow ncol kb ke v m rows in
     ap (λ (x : Mat). going ke (record { a = x; mult = blank; pivots = v; rounds = rounds })) later
@@ -208,8 +222,10 @@ turn-done mode limit nrow ncol nb kb ke rounds r p p₂ p₃ d s a w b l o q t h
 
 -- ---- between the calls of a turn
 
-pub after-pre : (nrow ncol nb kb ke : ℕ) (mode : Mode) (limit len lenW ld ls la lb ll lo lp len′ lenW′ ld′ ls′ lb′ lp′ : ℕ) → TurnPre nrow ncol nb kb ke mode limit len lenW
-    → TurnHolds nrow ncol ld ls la lb ll lo lp → len′ ≡ len → lenW′ ≡ lenW → ld′ ≡ ld → ls′ ≡ ls → lb′ ≡ lb → lp′ ≡ lp → AfterPre nrow ncol nb kb ke len′ lenW′ ld′ ls′ lb′ lp′
+pub after-pre : (nrow ncol nb kb ke : ℕ) (mode : Mode) (limit len lenW ld ls la lb ll lo lp len′ lenW′ ld′ ls′ lb′ lp′ : ℕ)
+    → TurnPre nrow ncol nb kb ke mode limit len lenW → TurnHolds nrow ncol ld ls la lb ll lo lp
+    → len′ ≡ len → lenW′ ≡ lenW → ld′ ≡ ld → ls′ ≡ ls → lb′ ≡ lb → lp′ ≡ lp
+    → AfterPre nrow ncol nb kb ke len′ lenW′ ld′ ls′ lb′ lp′
 after-pre nrow ncol nb kb ke mode limit len lenW ld ls la lb ll lo lp len′ lenW′ ld′ ls′ lb′ lp′ t h e ew ed es eb ep = record {
   panel = e ∙ t .run .panel;
   head = t .run .head;
@@ -226,7 +242,8 @@ after-pre nrow ncol nb kb ke mode limit len lenW ld ls la lb ll lo lp len′ len
   fewColumns = t .run .fewColumns;
 }
 
-pub leaves-done : (ke rounds : ℕ) (r : Ran) (blocks partners : ℕ → ℕ) → RanTo ke r blocks partners → r ≡ Done rounds → NotedTo ke ke rounds blocks partners
+pub leaves-done : (ke rounds : ℕ) (r : Ran) (blocks partners : ℕ → ℕ) → RanTo ke r blocks partners → r ≡ Done rounds
+    → NotedTo ke ke rounds blocks partners
 leaves-done ke rounds r blocks partners w e = subst (λ (x : Ran). RanTo ke x blocks partners) e w
 
 pub steps-pre : (ke rounds : ℕ) (r : Ran) (blocks partners : ℕ → ℕ) → RanTo ke r blocks partners → r ≡ Done rounds → StepsPre ke blocks partners

@@ -4,11 +4,13 @@ use Rattle.finish.specs.Buffers.{buffersOf}
 use Rattle.factor.proofs.Outcome.{accept-is}
 use Rattle.factor.proofs.accept.Statement.{statement}
 use Rattle.factor.proofs.accept.Tie as tie
-use Rattle.factor.proofs.accept.Reads as reads
-use Rattle.factor.proofs.accept.Lts as lts
-use Rattle.grid.proofs.kernels.zero.Reads as zero-reads
-use Rattle.inertia.proofs.tally.Reads as tally-reads
-use Rattle.scan.proofs.marks_of.Reads as marks-of-reads
+
+-- from `tally` to `marks_of`, and from there to the function's entry
+abbrev marked : tie.After-tally → tie.After-marks-of
+marked c = c .before .before .before .before .before .before .before
+
+abbrev entry : tie.After-marks-of → tie.Start
+entry c = c .before .before .before .before .before .before .before .before .before .before .before
 
 marks-of-requires : tie.Need-marks-of-requires
 marks-of-requires c κs = search needs
@@ -27,10 +29,11 @@ same-length-2 c = search needs
 
 returns : tie.Need-returns
 returns c =
-    let a = c .before .before .before .before .before .before .before .before .before .before .before .before .before .before .before .before .before .before .args in
+    let m = marked c in
+    let a = entry m .args in
     accept-is (a .c .nrow) (a .c .ncol) (a .rounds)
-    (buffersOf (a .panel .now) (a .d .now) (a .sub .now) (a .blocks .now) (a .lifts .now) (a .amounts .now) (a .order .now) (a .marks .now) (a .work .now)) _ _ _
-    (c .before .before .before .before .before .before .before .marks-of .ensures) (c .before .before .before .zero .ensures) (c .tally .ensures)
+    (buffersOf (a .panel .now) (a .d .now) (a .sub .now) (a .blocks .now) (a .lifts .now) (a .amounts .now) (a .order .now) (a .marks .now)
+    (a .work .now)) _ _ _ (m .marks-of .ensures) (c .before .before .before .zero .ensures) (c .tally .ensures)
 
 pub accept-spec : {M : Type 1} → statement M
 accept-spec =

@@ -1,18 +1,60 @@
 -- `factor::eliminate` meets its contract: the buffers as they begin are the start of the run, and the panels are its rest. Assumes nothing.
 use mathlib.Core.Path.{refl, _∙_}
+use Prim.Native.Nat.{min, max}
 use lib.ListN.{length}
 use borrow.Author.Needs.{needs}
+use Rattle.model.specs.Matrix.{view}
+use Rattle.model.specs.Factor.{Buffers, start}
+use Rattle.whole.specs.Whole.{WholeRun}
+use Rattle.finish.specs.Buffers.{buffersOf}
+use Rattle.panels.specs.Turn.{between}
+use Rattle.panels.specs.Run.{runOf}
 use Rattle.factor.proofs.Begin.{copy-pre, run-pre, holds-pre, run-is, noted-none, start-is}
 use Rattle.factor.proofs.eliminate.Statement.{statement}
 use Rattle.factor.proofs.eliminate.Tie as tie
-use Rattle.factor.proofs.eliminate.Reads as reads
-use Rattle.factor.proofs.eliminate.Lts as lts
-use Rattle.panels.proofs.panels.Reads as panels-reads
-use Rattle.factor.proofs.width.Reads as width-reads
-use Rattle.finish.proofs.begin.Reads as begin-reads
+
+-- ---- the calls that a need looks back to
+
+-- from the call of `begin` to the function's entry
+abbrev entry : tie.After-begin-arg7 → tie.Start
+entry c =
+    c .before .before .before .before .before .before .before .before .before .before
+    .before .before .before .before .before .before .before
+
+-- from `width` to `begin`, from `panels` to `width`, and from the end to `panels`
+abbrev begun : tie.After-width → tie.After-begin
+begun c =
+    c .before .before .before .before .before .before .before .before .before .before
+    .before .before .before .before .before
+
+abbrev sized : tie.After-panels → tie.After-width
+sized c = c .before .before .before .before .before .before .before .before .before .before
+
+abbrev called : tie.After-slice-known23 → tie.After-panels
+called c =
+    c .before .before .before .before .before .before .before .before .before .before
+    .before .before .before .before .before .before .before
+
+-- ---- what the buffers hold
+
+-- at the entry
+abbrev lent : tie.Start → Buffers
+lent c =
+    let a = c .args in
+    buffersOf (a .panel .now) (a .d .now) (a .sub .now) (a .blocks .now) (a .lifts .now) (a .amounts .now) (a .order .now)
+    (a .marks .now) (a .work .now)
+
+-- the run that the panels make, of what they leave
+abbrev made : tie.After-panels → WholeRun
+made p =
+    let l = p .panels .last in
+    runOf (p .panels .result) (between (entry (begun (sized p) .before) .args .c .nrow) (l .0) (l .1 .0) (l .1 .1 .0) (l .1 .1 .1 .0)
+    (l .1 .1 .1 .1 .0) (l .1 .1 .1 .1 .1 .0) (l .1 .1 .1 .1 .1 .1 .0) (l .1 .1 .1 .1 .1 .1 .1 .0))
+
+-- ---- the needs
 
 begin-requires : tie.Need-begin-requires
-begin-requires c κs = copy-pre _ _ _ (c .before .before .before .before .before .before .before .before .before .before .before .before .before .before .before .before .before .pre)
+begin-requires c κs = let e = entry c in copy-pre (e .args .c) (e .args .input .now) (lent e) (e .pre)
 
 width-requires : tie.Need-width-requires
 width-requires c κs = search needs
@@ -22,18 +64,21 @@ slice-aggregate-panels c = search needs
 
 panels-requires : tie.Need-panels-requires
 panels-requires c κs =
-    let begun = c .before .before .before .before .before .before .before .before .before .before .before .before .before .before .before .before .before .before .before .before .before .before .before .before in
-    let kept = begun .begin .kept in
-    let pre = begun .before .before .before .before .before .before .before .before .before .before .before .before .before .before .before .before .before .before .pre in (
-      run-pre _ _ _ _ _ _ pre (c .before .before .before .before .before .before .before .before .before .width .ensures) (kept .1 .0) refl,
+    let w = c .before .before .before .before .before .before .before .before .before in
+    let b = begun w in
+    let kept = b .begin .kept in
+    let e = entry (b .before) in
+    let a = e .args in (
+      run-pre (a .c) (a .input .now) (lent e) _ _ _ (e .pre) (w .width .ensures) (kept .1 .0) refl,
       (
-        holds-pre _ _ _ _ _ _ _ _ _ _ pre (kept .1 .1 .0) (kept .1 .1 .1 .0) (kept .1 .1 .1 .1 .1 .1 .0) (kept .1 .1 .1 .1 .0) (kept .1 .1 .1 .1 .1 .0) (kept .1 .1 .1 .1 .1 .1 .1 .0) refl,
-        noted-none (length (begun .begin .last .1 .1 .1 .1 .0)) _ _ (begun .begin .ensures .blocks) refl,
+        holds-pre (a .c) (a .input .now) (lent e) _ _ _ _ _ _ _ (e .pre) (kept .1 .1 .0) (kept .1 .1 .1 .0) (kept .1 .1 .1 .1 .1 .1 .0)
+            (kept .1 .1 .1 .1 .0) (kept .1 .1 .1 .1 .1 .0) (kept .1 .1 .1 .1 .1 .1 .1 .0) refl,
+        noted-none (length (b .begin .last .1 .1 .1 .1 .0)) _ _ (b .begin .ensures .blocks) refl,
       ),
     )
 
 same-length : tie.Need-same-length
-same-length c = c .before .before .before .before .before .before .before .before .before .before .before .before .before .before .before .before .before .panels .kept .0 ∙ c .before .before .before .before .before .before .before .before .before .before .before .before .before .before .before .before .before .before .before .before .before .before .before .before .before .before .before .before .before .before .before .before .before .before .before .before .before .before .before .before .before .before .begin .kept .1 .0
+same-length c = called c .panels .kept .0 ∙ begun (sized (called c)) .begin .kept .1 .0
 
 same-length-2 : tie.Need-same-length-2
 same-length-2 c = search needs
@@ -58,14 +103,22 @@ same-length-8 c = search needs
 
 returns : tie.Need-returns
 returns c =
-    let called = c .before .before .before .before .before .before .before .before .before .before .before .before .before .before .before .before .before in
-    let begun = called .before .before .before .before .before .before .before .before .before .before .before .before .before .before .before .before .before .before .before .before .before .before .before .before .before in
-    let kept = begun .begin .kept in
+    let p = called c in
+    let b = begun (sized p) in
+    let l = b .begin .last in
+    let kept = b .begin .kept in
+    let e = entry (b .before) in
+    let a = e .args in
+    let s = a .c in
     record {
-      partners = called .panels .last .1 .1 .1 .1 .1 .1 .1 .0;
-      run = run-is _ _ _ _ _ _ _ _ _ (called .before .before .before .before .before .before .before .before .before .before .width .ensures)
-          (start-is _ _ _ _ _ _ _ _ _ _ _ (begun .before .before .before .before .before .before .before .before .before .before .before .before .before .before .before .before .before .before .pre) (begun .begin .ensures) (kept .1 .1 .0) (kept .1 .1 .1 .0) (kept .1 .1 .1 .1 .1 .1 .0) refl) (called .panels .ensures .0);
-      leaves = called .panels .ensures .1;
+      partners = p .panels .last .1 .1 .1 .1 .1 .1 .1 .0;
+      run = run-is (s .mode) (s .limit) (s .nrow) (s .ncol) (sized p .width .result) (min (s .nb) (max (s .ncol) 1)) (made p) _
+          (start (s .ncol) (view (s .nrow) (a .input .now))) (sized p .width .ensures)
+          (start-is s (a .input .now) (lent e) (l .1 .0) (l .1 .1 .0) (l .1 .1 .1 .0) (l .1 .1 .1 .1 .1 .1 .0) (l .1 .1 .1 .1 .0)
+          (l .1 .1 .1 .1 .1 .0) (l .1 .1 .1 .1 .1 .1 .1 .0) _ (e .pre) (b .begin .ensures) (kept .1 .1 .0) (kept .1 .1 .1 .0)
+          (kept .1 .1 .1 .1 .1 .1 .0) refl)
+          (p .panels .ensures .0);
+      leaves = p .panels .ensures .1;
     }
 
 pub eliminate-spec : {M : Type 1} → statement M

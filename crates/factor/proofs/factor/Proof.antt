@@ -1,14 +1,31 @@
 -- `factor::factor` meets its contract: the entry checks refuse and nothing is written, or the run decides. Assumes nothing.
 use mathlib.Core.Path.{sym}
+use Rattle.model.specs.Factor.{Buffers}
 use Rattle.entry.proofs.Laws.{entry-refused, entry-sound}
 use Rattle.finish.specs.Buffers.{buffersOf}
 use borrow.Author.Needs.{needs}
 use Rattle.factor.proofs.factor.Statement.{statement}
 use Rattle.factor.proofs.factor.Tie as tie
-use Rattle.factor.proofs.factor.Reads as reads
-use Rattle.factor.proofs.factor.Lts as lts
-use Rattle.entry.proofs.check.Reads as check-reads
-use Rattle.factor.proofs.run.Reads as run-reads
+
+-- from the entry checks to the function's entry
+abbrev entry : tie.After-check → tie.Start
+entry c = c .before .before .before .before .before .before .before .before .before .before .before
+
+-- from the call of `run` to the answer that nothing was refused, and from the end to `run`
+abbrev passed : tie.After-run-arg9 → tie.After-enum-told
+passed c = c .before .before .before .before .before .before .before .before .before
+
+abbrev ran : tie.After-slice-known18 → tie.After-run
+ran c =
+    c .before .before .before .before .before .before .before .before .before .before
+    .before .before .before .before .before .before .before .before
+
+-- the buffers at the entry
+abbrev lent : tie.Start → Buffers
+lent c =
+    let a = c .args in
+    buffersOf (a .panel .now) (a .d .now) (a .sub .now) (a .blocks .now) (a .lifts .now) (a .amounts .now) (a .order .now)
+    (a .marks .now) (a .work .now)
 
 check-requires : tie.Need-check-requires
 check-requires c κs = search needs
@@ -18,18 +35,19 @@ enum-known-entry c = search needs
 
 returns : tie.Need-returns
 returns c =
-    let start = c .before .before .before .before .before .before .before .before .before .before .before .before .before .before in
-    let a = start .args in
-    sym (entry-refused (a .c) (a .input .now) (buffersOf (a .panel .now) (a .d .now) (a .sub .now) (a .blocks .now) (a .lifts .now) (a .amounts .now) (a .order .now) (a .marks .now) (a .work .now)) _ (c .before .before .before .check .ensures) _ (c .before .entry .given .1))
+    let k = c .before .before .before in
+    let s = entry k in
+    sym (entry-refused (s .args .c) (s .args .input .now) (lent s) _ (k .check .ensures) _ (c .before .entry .given .1))
 
 enum-told : tie.Need-enum-told
 enum-told c = search needs
 
 run-requires : tie.Need-run-requires
 run-requires c κs =
-    let start = c .before .before .before .before .before .before .before .before .before .before .before .before .before .before .before .before .before .before .before .before .before .before in
-    let a = start .args in
-    entry-sound (a .c) (a .input .now) (buffersOf (a .panel .now) (a .d .now) (a .sub .now) (a .blocks .now) (a .lifts .now) (a .amounts .now) (a .order .now) (a .marks .now) (a .work .now)) _ (c .before .before .before .before .before .before .before .before .before .before .before .check .ensures) (c .before .before .before .before .before .before .before .before .before .enum-told .given .1)
+    let t = passed c in
+    let k = t .before .before in
+    let s = entry k in
+    entry-sound (s .args .c) (s .args .input .now) (lent s) _ (k .check .ensures) (t .enum-told .given .1)
 
 same-length : tie.Need-same-length
 same-length c = search needs
@@ -59,7 +77,7 @@ same-length-9 : tie.Need-same-length-9
 same-length-9 c = search needs
 
 returns-2 : tie.Need-returns-2
-returns-2 c = search needs
+returns-2 c = ran c .run .ensures
 
 pub factor-spec : {M : Type 1} → statement M
 factor-spec =

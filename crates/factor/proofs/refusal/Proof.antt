@@ -4,8 +4,6 @@ use Rattle.factor.specs.Judge.{refusalOf}
 use borrow.Author.Needs.{needs}
 use Rattle.factor.proofs.refusal.Statement.{statement}
 use Rattle.factor.proofs.refusal.Tie as tie
-use Rattle.factor.proofs.refusal.Reads as reads
-use Rattle.factor.proofs.refusal.Lts as lts
 
 enum-known-ran : tie.Need-enum-known-ran
 enum-known-ran c = search needs

@@ -4,9 +4,6 @@ use Rattle.panels.proofs.Work.{deferred-none, deferred-pre}
 use borrow.Author.Needs.{needs}
 use Rattle.panels.proofs.later_columns.Statement.{statement}
 use Rattle.panels.proofs.later_columns.Tie as tie
-use Rattle.panels.proofs.later_columns.Reads as reads
-use Rattle.panels.proofs.later_columns.Lts as lts
-use Rattle.deferred.proofs.deferred_update.Reads as deferred-update-reads
 
 returns : tie.Need-returns
 returns c = deferred-none _ _ _ _ _ _ _ _ (c .if1 .taken)

@@ -1,36 +1,103 @@
--- `panels::panels` meets its contract. Invariant: the lengths stay, the run from kb on of what the slices hold is the run from 0 on of what they held,
--- and the pivots before kb are noted. Measure: the columns that are left. Assumes nothing.
-use Prim.Native.Nat.{ℕ, _+_, _*_, _<_, _≤_, _-_}
-use mathlib.Core.Path.{_≡_, refl, sym, _∙_, ap}
-use native.Mathlib.Omega.{arith}
+-- `panels::panels` meets its contract. Invariant: the lengths stay, the run from kb on of what the slices hold is the run from 0 on of what they
+-- held, and the pivots before kb are noted. Measure: the columns that are left. Assumes nothing.
+use Prim.Native.Nat.{ℕ, _+_, _≤_, _-_}
+use mathlib.Core.Path.{_≡_, refl, _∙_}
 use lib.ListN.{length}
 use borrow.Author.Needs.{needs}
 use Rattle.model.specs.Matrix.{bytes}
-use Rattle.whole.specs.Whole.{wholePanelsOf}
+use Rattle.model.specs.Head.{State}
+use Rattle.whole.specs.Whole.{WholeRun, wholePanelsOf}
 use Rattle.panels.specs.Turn.{between}
 use Rattle.bunch_kaufman.specs.Terms.{NotedTo}
-use Rattle.panels.proofs.Turns.{run-begin, run-more, run-stop, run-done, turn-pre, holds-same, noted-more, done-leaves, end-leaves, stopped-leaves, begun, further, inside}
+use Rattle.panels.proofs.Turns.{run-begin, run-more, run-stop, run-done, turn-pre, holds-same, noted-more}
+use Rattle.panels.proofs.Turns.{done-leaves, end-leaves, stopped-leaves, begun, further, inside}
 use Rattle.panels.proofs.panels.Statement.{statement}
 use Rattle.panels.proofs.panels.Tie as tie
-use Rattle.panels.proofs.panels.Reads as reads
-use Rattle.panels.proofs.panels.Lts as lts
-use Rattle.panels.proofs.panel_end.Reads as panel-end-reads
-use Rattle.panels.proofs.turn.Reads as turn-reads
 
 abbrev Inv-loop : tie.InvT-loop
-Inv-loop panel₀ d₀ sub₀ amounts₀ blocks₀ lifts₀ order₀ partners₀ work₀ nrow ncol nb mode limit kb₀ rounds₀ panel d sub amounts blocks lifts order partners work kb rounds =
-    (kb ≤ ncol) × (length panel ≡ length panel₀) × (length d ≡ length d₀) × (length sub ≡ length sub₀) × (length amounts ≡ length amounts₀) × (length blocks ≡ length blocks₀) × (length lifts ≡ length lifts₀) × (length order ≡ length order₀) × (length partners ≡ length partners₀) × (length work ≡ length work₀)
-    × (wholePanelsOf mode limit nrow ncol nb (ncol - kb) kb (between nrow panel d sub amounts blocks lifts order partners rounds) ≡ wholePanelsOf mode limit nrow ncol nb ncol 0 (between nrow panel₀ d₀ sub₀ amounts₀ blocks₀ lifts₀ order₀ partners₀ 0))
+Inv-loop panel₀ d₀ sub₀ amounts₀ blocks₀ lifts₀ order₀ partners₀ work₀ nrow ncol nb mode limit kb₀ rounds₀
+    panel d sub amounts blocks lifts order partners work kb rounds =
+    (kb ≤ ncol)
+    × (length panel ≡ length panel₀)
+    × (length d ≡ length d₀)
+    × (length sub ≡ length sub₀)
+    × (length amounts ≡ length amounts₀)
+    × (length blocks ≡ length blocks₀)
+    × (length lifts ≡ length lifts₀)
+    × (length order ≡ length order₀)
+    × (length partners ≡ length partners₀)
+    × (length work ≡ length work₀)
+    × (wholePanelsOf mode limit nrow ncol nb (ncol - kb) kb (between nrow panel d sub amounts blocks lifts order partners rounds)
+    ≡ wholePanelsOf mode limit nrow ncol nb ncol 0 (between nrow panel₀ d₀ sub₀ amounts₀ blocks₀ lifts₀ order₀ partners₀ 0))
     × NotedTo kb (kb + 1) rounds (bytes blocks) (bytes partners)
 
 abbrev μ-loop : tie.MeasureT-loop
-μ-loop panel₀ d₀ sub₀ amounts₀ blocks₀ lifts₀ order₀ partners₀ work₀ nrow ncol nb mode limit kb₀ rounds₀ panel d sub amounts blocks lifts order partners work kb rounds =
+μ-loop panel₀ d₀ sub₀ amounts₀ blocks₀ lifts₀ order₀ partners₀ work₀ nrow ncol nb mode limit kb₀ rounds₀
+    panel d sub amounts blocks lifts order partners work kb rounds =
     ncol - kb
+
+-- ---- the places that a need looks back to
+
+-- from the loop's head to the function's entry
+abbrev entry : tie.At-loop Inv-loop μ-loop → tie.Start Inv-loop μ-loop
+entry c = c .before .before .before .before .before .before .before .before .before .before
+
+-- from `panel_end` to the loop's head, and from `turn` to `panel_end`
+abbrev looped : tie.After-panel-end Inv-loop μ-loop → tie.At-loop Inv-loop μ-loop
+looped c = c .before .before
+
+abbrev bounded : tie.After-turn Inv-loop μ-loop → tie.After-panel-end Inv-loop μ-loop
+bounded c = c .before .before .before .before .before .before .before .before .before .before
+
+-- from the return of a refusal, and from the rounds of a panel that did not stop, to `turn`
+abbrev refused : tie.After-enum-told Inv-loop μ-loop → tie.After-turn Inv-loop μ-loop
+refused c =
+    c .before .before .before .before .before .before .before .before .before .before
+    .before .before .before .before .before .before .before .before .before .before
+
+abbrev turned : tie.After-ran Inv-loop μ-loop → tie.After-turn Inv-loop μ-loop
+turned c =
+    c .before .before .before .before .before .before .before .before .before .before
+    .before .before .before .before .before .before .before .before .before .before
+
+-- ---- what the buffers hold
+
+-- at the entry, and the run from there
+abbrev given : tie.Start Inv-loop μ-loop → State
+given c =
+    let a = c .args in
+    between (a .nrow) (a .panel .now) (a .d .now) (a .sub .now) (a .amounts .now) (a .blocks .now) (a .lifts .now) (a .order .now)
+    (a .partners .now) 0
+
+abbrev whole : tie.Start Inv-loop μ-loop → WholeRun
+whole c = let a = c .args in wholePanelsOf (a .mode) (a .limit) (a .nrow) (a .ncol) (a .nb) (a .ncol) 0 (given c)
+
+-- at the loop's head
+abbrev held : tie.At-loop Inv-loop μ-loop → State
+held c =
+    let l = c .loop in
+    between (entry c .args .nrow) (l .panel) (l .d) (l .sub) (l .amounts) (l .blocks) (l .lifts) (l .order) (l .partners) (l .rounds)
+
+-- after `turn`, by the rounds
+abbrev left : tie.After-turn Inv-loop μ-loop → ℕ → State
+left c =
+    let l = c .turn .last in
+    between (entry (looped (bounded c)) .args .nrow) (l .0) (l .1 .0) (l .1 .1 .0) (l .1 .1 .1 .0) (l .1 .1 .1 .1 .0) (l .1 .1 .1 .1 .1 .0)
+    (l .1 .1 .1 .1 .1 .1 .0) (l .1 .1 .1 .1 .1 .1 .1 .0)
+
+-- its block bytes and exchange partners
+abbrev blocks-left : tie.After-turn Inv-loop μ-loop → ℕ → ℕ
+blocks-left c = bytes (c .turn .last .1 .1 .1 .1 .0)
+
+abbrev partners-left : tie.After-turn Inv-loop μ-loop → ℕ → ℕ
+partners-left c = bytes (c .turn .last .1 .1 .1 .1 .1 .1 .1 .0)
+
+-- ---- the needs
 
 loop-holds : tie.Need-loop-holds Inv-loop μ-loop
 loop-holds c =
     let start = c .before .before .before .before .before .before .before .before .before in
-    let pre = start .pre in (
+    let a = start .args in (
       search needs,
       refl,
       refl,
@@ -41,8 +108,8 @@ loop-holds c =
       refl,
       refl,
       refl,
-      run-begin _ _ _ _ _ _,
-      pre .1 .1,
+      run-begin (a .mode) (a .limit) (a .nrow) (a .ncol) (a .nb) (given start),
+      start .pre .1 .1,
     )
 
 panel-end-requires : tie.Need-panel-end-requires Inv-loop μ-loop
@@ -50,13 +117,14 @@ panel-end-requires c κs = search needs
 
 turn-requires : tie.Need-turn-requires Inv-loop μ-loop
 turn-requires c κs =
-    let looped = c .before .before .before .before .before .before .before .before .before .before .before in
-    let inv = looped .loop .inv in
-    let pre = looped .before .before .before .before .before .before .before .before .before .before .pre in (
-      turn-pre _ _ _ _ _ _ _ _ _ _ _ (pre .0) (inv .1) (inv .9) (c .before .before .before .before .before .before .before .before .before .before .loop-test .taken) (c .before .before .before .before .before .before .before .before .before .panel-end .ensures),
+    let p = c .before .before .before .before .before .before .before .before .before in
+    let test = p .before .loop-test .taken in
+    let inv = looped p .loop .inv in
+    let pre = entry (looped p) .pre in (
+      turn-pre _ _ _ _ _ _ _ _ _ _ _ (pre .0) (inv .1) (inv .9) test (p .panel-end .ensures),
       (
         holds-same _ _ _ _ _ _ _ _ _ _ _ _ _ _ _ _ (pre .1 .0) (inv .2) (inv .3) (inv .4) (inv .5) (inv .6) (inv .7) (inv .8),
-        noted-more _ _ _ _ _ _ (inv .11) (begun _ _ _ _ (pre .0 .some) (c .before .before .before .before .before .before .before .before .before .before .loop-test .taken) (c .before .before .before .before .before .before .before .before .before .panel-end .ensures)),
+        noted-more _ _ _ _ _ _ (inv .11) (begun _ _ _ _ (pre .0 .some) test (p .panel-end .ensures)),
       ),
     )
 
@@ -95,30 +163,33 @@ same-length-9 c = search needs
 
 returns : tie.Need-returns Inv-loop μ-loop
 returns c =
-    let called = c .before .before .before .before .before .before .before .before .before .before .before .before .before .before .before .before .before .before .before .before in
-    let looped = called .before .before .before .before .before .before .before .before .before .before .before .before in
-    let inv = looped .loop .inv in
-    let pre = looped .before .before .before .before .before .before .before .before .before .before .pre in
+    let t = refused c in
+    let p = bounded t in
+    let l = looped p .loop in
+    let start = entry (looped p) in
+    let a = start .args in
     let told = c .enum-told .given .1 in (
-      run-stop _ _ _ _ _ (pre .0 .some) _ _ _ _ _ _ _ _ (inv .10) (called .before .before .before .before .before .before .before .before .before .before .before .loop-test .taken) (called .before .before .before .before .before .before .before .before .before .before .panel-end .ensures) (called .turn .ensures .0) told,
-      stopped-leaves _ _ _ _ _ _ (called .turn .ensures .1) told,
+      run-stop (a .mode) (a .limit) (a .nrow) (a .ncol) (a .nb) (start .pre .0 .some) (l .kb) (p .panel-end .result) (held (looped p)) (left t)
+          (left t) (t .turn .result) _ (whole start) (l .inv .10) (p .before .loop-test .taken) (p .panel-end .ensures) (t .turn .ensures .0) told,
+      stopped-leaves (p .panel-end .result) (a .ncol) (t .turn .result) _ (blocks-left t) (partners-left t) (t .turn .ensures .1) told,
     )
 
 loop-less : tie.Need-loop-less Inv-loop μ-loop
 loop-less c =
-    let called = c .before .before .before .before .before .before .before .before .before .before .before .before .before .before .before .before .before .before .before .before .before in
-    let looped = called .before .before .before .before .before .before .before .before .before .before .before .before in
-    further _ _ _ _ (looped .before .before .before .before .before .before .before .before .before .before .pre .0 .some) (called .before .before .before .before .before .before .before .before .before .before .before .loop-test .taken) (called .before .before .before .before .before .before .before .before .before .before .panel-end .ensures)
+    let p = bounded (turned (c .before)) in
+    further _ _ _ _ (entry (looped p) .pre .0 .some) (p .before .loop-test .taken) (p .panel-end .ensures)
 
 loop-again : tie.Need-loop-again Inv-loop μ-loop
 loop-again c =
-    let called = c .before .before .before .before .before .before .before .before .before .before .before .before .before .before .before .before .before .before .before .before .before in
-    let looped = called .before .before .before .before .before .before .before .before .before .before .before .before in
-    let inv = looped .loop .inv in
-    let pre = looped .before .before .before .before .before .before .before .before .before .before .pre in
-    let kept = called .turn .kept in
+    let t = turned (c .before) in
+    let p = bounded t in
+    let l = looped p .loop in
+    let start = entry (looped p) in
+    let a = start .args in
+    let inv = l .inv in
+    let kept = t .turn .kept in
     let told = c .before .ran .given .1 in (
-      inside _ _ _ _ (called .before .before .before .before .before .before .before .before .before .before .panel-end .ensures),
+      inside _ _ _ _ (p .panel-end .ensures),
       kept .0 ∙ inv .1,
       kept .1 .0 ∙ inv .2,
       kept .1 .1 .0 ∙ inv .3,
@@ -128,8 +199,9 @@ loop-again c =
       kept .1 .1 .1 .1 .1 .1 .0 ∙ inv .7,
       kept .1 .1 .1 .1 .1 .1 .1 .0 ∙ inv .8,
       kept .1 .1 .1 .1 .1 .1 .1 .1 .0 ∙ inv .9,
-      run-more _ _ _ _ _ (pre .0 .some) _ _ _ _ _ _ _ (inv .10) (called .before .before .before .before .before .before .before .before .before .before .before .loop-test .taken) (called .before .before .before .before .before .before .before .before .before .before .panel-end .ensures) (called .turn .ensures .0) told,
-      done-leaves _ _ _ _ _ (called .turn .ensures .1) told,
+      run-more (a .mode) (a .limit) (a .nrow) (a .ncol) (a .nb) (start .pre .0 .some) (l .kb) (p .panel-end .result) _ (held (looped p)) (left t)
+          (t .turn .result) (whole start) (inv .10) (p .before .loop-test .taken) (p .panel-end .ensures) (t .turn .ensures .0) told,
+      done-leaves (p .panel-end .result) _ (t .turn .result) (blocks-left t) (partners-left t) (t .turn .ensures .1) told,
     )
 
 same-length-10 : tie.Need-same-length-10 Inv-loop μ-loop
@@ -161,8 +233,14 @@ same-length-18 c = search needs
 
 returns-2 : tie.Need-returns-2 Inv-loop μ-loop
 returns-2 c =
-    let inv = c .before .loop .inv in
-    (run-done _ _ _ _ _ (c .before .before .before .before .before .before .before .before .before .before .before .pre .0 .some) _ _ _ (inv .10) (c .loop-test .left), end-leaves _ _ _ _ _ (inv .11) (c .loop-test .left) (inv .0))
+    let head = c .before in
+    let start = entry head in
+    let a = start .args in
+    let inv = head .loop .inv in (
+      run-done (a .mode) (a .limit) (a .nrow) (a .ncol) (a .nb) (start .pre .0 .some) (head .loop .kb) (held head) (whole start) (inv .10)
+          (c .loop-test .left),
+      end-leaves _ _ _ _ _ (inv .11) (c .loop-test .left) (inv .0),
+    )
 
 pub panels-spec : {M : Type 1} → statement M
 panels-spec =

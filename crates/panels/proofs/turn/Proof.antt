@@ -1,14 +1,125 @@
 -- `panels::turn` meets its contract: a panel that stops leaves its refusal; else the rows below and the later columns follow. Assumes nothing.
-use mathlib.Core.Path.{_∙_}
-use Rattle.panels.proofs.Work.{after-pre, steps-pre, turn-stopped, turn-done, leaves-done}
+use mathlib.Core.Path.{_≡_, _∙_}
+use mathlib.Core.List.{List}
+use Prim.Native.Nat.{ℕ, _*_}
+use lib.ListN.{length, take}
+use lib.Ieee.{Float}
 use borrow.Author.Needs.{needs}
+use Rattle.model.specs.Matrix.{bytes}
+use Rattle.model.specs.Head.{State}
+use Rattle.tail.specs.Tail.{StepsPre}
+use Rattle.bunch_kaufman.specs.Slices.{state}
+use Rattle.panels.specs.Turn.{between}
+use Rattle.panels.specs.Run.{AfterPre}
+use Rattle.panels.proofs.Work.{after-pre, steps-pre, turn-stopped, turn-done, leaves-done}
 use Rattle.panels.proofs.turn.Statement.{statement}
 use Rattle.panels.proofs.turn.Tie as tie
-use Rattle.panels.proofs.turn.Reads as reads
-use Rattle.panels.proofs.turn.Lts as lts
-use Rattle.panels.proofs.later_columns.Reads as later-columns-reads
-use Rattle.panels.proofs.rows_below.Reads as rows-below-reads
-use Rattle.panels.proofs.steps.Reads as steps-reads
+
+-- ---- the calls that a need looks back to
+
+-- from `steps` to the function's entry
+abbrev entry : tie.After-steps → tie.Start
+entry c =
+    c .before .before .before .before .before .before .before .before .before .before
+    .before .before .before .before .before .before .before .before .before
+
+-- from the return of a refusal to `steps`
+abbrev refused : tie.After-enum-told → tie.After-steps
+refused c =
+    c .before .before .before .before .before .before .before .before .before .before
+    .before .before .before .before .before .before .before .before .before .before
+
+-- from the rounds of a panel that did not stop to `steps`
+abbrev stepped : tie.After-ran → tie.After-steps
+stepped c =
+    c .before .before .before .before .before .before .before .before .before .before
+    .before .before .before .before .before .before .before .before .before .before
+
+-- from `rows_below` to those rounds, from `later_columns` to `rows_below`, from the end to `later_columns`
+abbrev went : tie.After-rows-below → tie.After-ran
+went c = c .before .before .before .before .before .before .before .before
+
+abbrev lowered : tie.After-later-columns → tie.After-rows-below
+lowered c = c .before .before .before .before .before .before .before .before .before
+
+abbrev updated : tie.After-slice-known21 → tie.After-later-columns
+updated c = c .before .before .before .before
+
+-- from the end to `steps`
+abbrev first : tie.After-slice-known21 → tie.After-steps
+first c = stepped (went (lowered (updated c)))
+
+-- ---- what the buffers hold
+
+-- after `steps`, one by one
+abbrev work-left : tie.After-steps → List Float
+work-left s = s .steps .last .1 .0
+
+abbrev d-left : tie.After-steps → List Float
+d-left s = s .steps .last .1 .1 .0
+
+abbrev sub-left : tie.After-steps → List Float
+sub-left s = s .steps .last .1 .1 .1 .0
+
+abbrev amounts-left : tie.After-steps → List Float
+amounts-left s = s .steps .last .1 .1 .1 .1 .0
+
+abbrev blocks-left : tie.After-steps → List ℕ
+blocks-left s = s .steps .last .1 .1 .1 .1 .1 .0
+
+abbrev lifts-left : tie.After-steps → List ℕ
+lifts-left s = s .steps .last .1 .1 .1 .1 .1 .1 .0
+
+abbrev order-left : tie.After-steps → List ℕ
+order-left s = s .steps .last .1 .1 .1 .1 .1 .1 .1 .0
+
+abbrev partners-left : tie.After-steps → List ℕ
+partners-left s = s .steps .last .1 .1 .1 .1 .1 .1 .1 .1 .0
+
+-- the multipliers that the steps kept
+abbrev kept-part : tie.After-steps → List Float
+kept-part s = take (entry s .args .nb * entry s .args .nb) (work-left s)
+
+-- the state at the entry
+abbrev given : tie.Start → State
+given c =
+    let a = c .args in
+    between (a .nrow) (a .panel .now) (a .d .now) (a .sub .now) (a .amounts .now) (a .blocks .now) (a .lifts .now) (a .order .now)
+    (a .partners .now) (a .before)
+
+-- the state that the steps leave, by the rounds
+abbrev reached : tie.After-steps → ℕ → State
+reached s =
+    let a = entry s .args in
+    state (a .nrow) (a .nb) (a .kb) (a .ke) (s .steps .last .0) (kept-part s) (d-left s) (sub-left s) (amounts-left s) (blocks-left s)
+    (lifts-left s) (order-left s) (partners-left s)
+
+-- the same with no multiplier
+abbrev shown : tie.After-steps → ℕ → State
+shown s =
+    between (entry s .args .nrow) (s .steps .last .0) (d-left s) (sub-left s) (amounts-left s) (blocks-left s) (lifts-left s) (order-left s)
+    (partners-left s)
+
+-- ---- what `rows_below` and `later_columns` ask, once the steps were taken
+
+sizes : (s : tie.After-steps) (len : ℕ) → len ≡ length (entry s .args .panel .now)
+    → AfterPre (entry s .args .nrow) (entry s .args .ncol) (entry s .args .nb) (entry s .args .kb) (entry s .args .ke) len
+    (length (work-left s)) (length (d-left s)) (length (sub-left s)) (length (blocks-left s)) (length (partners-left s))
+sizes s len e =
+    let a = entry s .args in
+    let kept = s .steps .kept in
+    after-pre (a .nrow) (a .ncol) (a .nb) (a .kb) (a .ke) (a .mode) (a .limit) (length (a .panel .now)) (length (a .work .now))
+    (length (a .d .now)) (length (a .sub .now)) (length (a .amounts .now)) (length (a .blocks .now)) (length (a .lifts .now))
+    (length (a .order .now)) (length (a .partners .now)) len (length (work-left s)) (length (d-left s)) (length (sub-left s))
+    (length (blocks-left s)) (length (partners-left s)) (entry s .pre .0) (entry s .pre .1 .0) e
+    (kept .1 .0) (kept .1 .1 .0) (kept .1 .1 .1 .0) (kept .1 .1 .1 .1 .1 .0) (kept .1 .1 .1 .1 .1 .1 .1 .1 .0)
+
+noted : (g : tie.After-ran) → StepsPre (entry (stepped g) .args .ke) (bytes (blocks-left (stepped g))) (bytes (partners-left (stepped g)))
+noted g =
+    let s = stepped g in
+    steps-pre (entry s .args .ke) _ (s .steps .result) (bytes (blocks-left s)) (bytes (partners-left s)) (s .steps .ensures .1) (g .ran .given .1)
+
+-- ---- the needs
 
 steps-requires : tie.Need-steps-requires
 steps-requires c κs = search needs
@@ -48,29 +159,34 @@ same-length-9 c = search needs
 
 returns : tie.Need-returns
 returns c =
-    let called = c .before .before .before .before .before .before .before .before .before .before .before .before .before .before .before .before .before .before .before .before in
-    (turn-stopped _ _ _ _ _ _ _ _ _ _ _ (called .steps .ensures .0) (c .enum-told .given .1), called .steps .ensures .1)
+    let s = refused c in
+    let a = entry s .args in (
+      turn-stopped (a .mode) (a .limit) (a .nrow) (a .ncol) (a .kb) (a .ke) (s .steps .result) _ (reached s) (shown s) (given (entry s))
+          (s .steps .ensures .0) (c .enum-told .given .1),
+      s .steps .ensures .1,
+    )
 
 rows-below-requires : tie.Need-rows-below-requires
 rows-below-requires c κs =
-    let called = c .before .before .before .before .before .before .before .before .before .before .before .before .before .before .before .before .before .before .before .before .before .before .before .before .before .before .before in
-    let start = called .before .before .before .before .before .before .before .before .before .before .before .before .before .before .before .before .before .before .before in
-    (after-pre _ _ _ _ _ _ _ _ _ _ _ _ _ _ _ _ _ _ _ _ _ _ (start .pre .0) (start .pre .1 .0) (called .steps .kept .0) (called .steps .kept .1 .0) (called .steps .kept .1 .1 .0) (called .steps .kept .1 .1 .1 .0) (called .steps .kept .1 .1 .1 .1 .1 .0) (called .steps .kept .1 .1 .1 .1 .1 .1 .1 .1 .0), steps-pre _ _ _ _ _ (called .steps .ensures .1) (c .before .before .before .before .before .before .before .ran .given .1))
+    let g = c .before .before .before .before .before .before .before in
+    (sizes (stepped g) _ (stepped g .steps .kept .0), noted g)
 
 later-columns-requires : tie.Need-later-columns-requires
 later-columns-requires c κs =
-    let called = c .before .before .before .before .before .before .before .before .before .before .before .before .before .before .before .before .before .before .before .before .before .before .before .before .before .before .before .before .before .before .before .before .before .before .before .before in
-    let start = called .before .before .before .before .before .before .before .before .before .before .before .before .before .before .before .before .before .before .before in
-    (after-pre _ _ _ _ _ _ _ _ _ _ _ _ _ _ _ _ _ _ _ _ _ _ (start .pre .0) (start .pre .1 .0) (c .before .before .before .before .before .before .before .before .rows-below .kept .0 ∙ called .steps .kept .0) (called .steps .kept .1 .0) (called .steps .kept .1 .1 .0) (called .steps .kept .1 .1 .1 .0) (called .steps .kept .1 .1 .1 .1 .1 .0) (called .steps .kept .1 .1 .1 .1 .1 .1 .1 .1 .0), steps-pre _ _ _ _ _ (called .steps .ensures .1) (c .before .before .before .before .before .before .before .before .before .before .before .before .before .before .before .before .ran .given .1))
+    let r = c .before .before .before .before .before .before .before .before in
+    let g = went r in
+    (sizes (stepped g) _ (r .rows-below .kept .0 ∙ stepped g .steps .kept .0), noted g)
 
 same-length-10 : tie.Need-same-length-10
-same-length-10 c = c .before .before .before .before .later-columns .kept .0 ∙ c .before .before .before .before .before .before .before .before .before .before .before .before .before .rows-below .kept .0 ∙ c .before .before .before .before .before .before .before .before .before .before .before .before .before .before .before .before .before .before .before .before .before .before .before .before .before .before .before .before .before .before .before .before .before .before .before .before .before .before .before .before .before .steps .kept .0
+same-length-10 c =
+    let l = updated c in
+    l .later-columns .kept .0 ∙ lowered l .rows-below .kept .0 ∙ first c .steps .kept .0
 
 same-length-11 : tie.Need-same-length-11
-same-length-11 c = c .before .before .before .before .before .before .before .before .before .before .before .before .before .before .before .before .before .before .before .before .before .before .before .before .before .before .before .before .before .before .before .before .before .before .before .before .before .before .before .before .before .steps .kept .1 .1 .0
+same-length-11 c = first c .steps .kept .1 .1 .0
 
 same-length-12 : tie.Need-same-length-12
-same-length-12 c = c .before .before .before .before .before .before .before .before .before .before .before .before .before .before .before .before .before .before .before .before .before .before .before .before .before .before .before .before .before .before .before .before .before .before .before .before .before .before .before .before .before .steps .kept .1 .1 .1 .0
+same-length-12 c = first c .steps .kept .1 .1 .1 .0
 
 same-length-13 : tie.Need-same-length-13
 same-length-13 c = search needs
@@ -88,14 +204,20 @@ same-length-17 : tie.Need-same-length-17
 same-length-17 c = search needs
 
 same-length-18 : tie.Need-same-length-18
-same-length-18 c = c .before .before .before .before .later-columns .kept .1 .0 ∙ c .before .before .before .before .before .before .before .before .before .before .before .before .before .before .before .before .before .before .before .before .before .before .before .before .before .before .before .before .before .before .before .before .before .before .before .before .before .before .before .before .before .steps .kept .1 .0
+same-length-18 c = updated c .later-columns .kept .1 .0 ∙ first c .steps .kept .1 .0
 
 returns-2 : tie.Need-returns-2
 returns-2 c =
-    let called = c .before .before .before .before .before .before .before .before .before .before .before .before .before .before .before .before .before .before .before .before .before .before .before .before .before .before .before .before .before .before .before .before .before .before .before .before .before .before .before .before .before in
-    let told = c .before .before .before .before .before .before .before .before .before .before .before .before .before .before .before .before .before .before .before .before .before .ran .given .1 in (
-      turn-done _ _ _ _ _ _ _ _ _ _ _ _ _ _ _ _ _ _ _ _ _ (called .steps .ensures .0) told (c .before .before .before .before .before .before .before .before .before .before .before .before .before .rows-below .ensures) (c .before .before .before .before .later-columns .ensures),
-      leaves-done _ _ _ _ _ (called .steps .ensures .1) told,
+    let l = updated c in
+    let r = lowered l in
+    let told = went r .ran .given .1 in
+    let s = first c in
+    let a = entry s .args in (
+      turn-done (a .mode) (a .limit) (a .nrow) (a .ncol) (a .nb) (a .kb) (a .ke) _ (s .steps .result) (s .steps .last .0)
+          (r .rows-below .last .0) (l .later-columns .last .0) (d-left s) (sub-left s) (amounts-left s) (kept-part s) (blocks-left s)
+          (lifts-left s) (order-left s) (partners-left s) (given (entry s)) (s .steps .ensures .0) told (r .rows-below .ensures)
+          (l .later-columns .ensures),
+      leaves-done (a .ke) _ (s .steps .result) (bytes (blocks-left s)) (bytes (partners-left s)) (s .steps .ensures .1) told,
     )
 
 pub turn-spec : {M : Type 1} → statement M
