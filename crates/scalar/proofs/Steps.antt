@@ -103,9 +103,9 @@ line-second d u lo hi few =
     let a : u * u ≤ 75 * 2 ^ 19 * u = mul-le-mul-right u few in
     record { from = omega arith; over = omega arith; under = omega (arith, two-products u (61 * 2 ^ 18)) }
 
-pub first-octave : (d : ℕ) → LongPre d → d < 2 ^ 53 → Close d (d * 53 / 2 ^ 33 + 19 * 2 ^ 21)
+pub first-octave : (d : ℕ) → LongPre d → d < 2 ^ 53 → Close d (d * 106 / 2 ^ 34 + 19 * 2 ^ 21)
 first-octave d long h =
-    let u = d * 53 / 2 ^ 33 - 53 * 2 ^ 19 in
+    let u = d * 106 / 2 ^ 34 - 53 * 2 ^ 19 in
     subst (λ (q : ℕ). Close d q) (omega arith) (line-first d u (omega arith) (omega arith) (omega arith))
 
 pub second-octave : (d : ℕ) → LongPre d → 2 ^ 53 ≤ d → Close d (d * 75 / 2 ^ 34 + 215 * 2 ^ 18)
