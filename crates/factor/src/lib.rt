@@ -7,6 +7,7 @@ ghost use Prim.Native.Nat.{min, max};
 ghost use lib.ListN.{length};
 ghost use Rattle.model.specs.Factor.{entryCheck, factorOf};
 ghost use Rattle.model.specs.Answer.{sound};
+ghost use Rattle.scan.specs.Finite.{KnownFinite};
 ghost use Rattle.finish.specs.Buffers.{buffersOf};
 ghost use Rattle.factor.specs.Judge.{outcomeOf, refusalOf, acceptOf, judgeOf, Eliminated, JudgePre};
 use bunch_kaufman::Ran;
@@ -80,6 +81,7 @@ fn eliminate(
 fn accept(
     c: Settings,
     rounds: usize,
+    finite: bool,
     panel: &[f64],
     d: &[f64],
     sub: &[f64],
@@ -92,6 +94,7 @@ fn accept(
 ) -> Factored
     requires { ⌜ JudgePre (c .nrow) (c .ncol) (length (now panel)) (length (now d)) (length (now sub))
         (length (now marks)) (now blocks) ⌝ }
+    requires { ⌜ KnownFinite finite (now panel) ⌝ }
     ensures { λ r. ⌜ outcomeOf r (buffersOf (now (panel .entry)) (now (d .entry)) (now (sub .entry))
         (now (blocks .entry)) (now (lifts .entry)) (now (amounts .entry)) (now (order .entry)) (now (marks .exit))
         (now (work .exit)))
@@ -99,13 +102,13 @@ fn accept(
         (now (blocks .entry)) (now (lifts .entry)) (now (amounts .entry)) (now (order .entry)) (now (marks .entry))
         (now (work .entry))) ⌝ }
 {
-    scan::marks_of(panel, marks, c.ncol, c.nrow);
+    scan::marks_of(panel, marks, c.ncol, c.nrow, finite);
     grid::kernels::zero(work);
     let inertia = inertia::tally(d, sub, blocks);
     Factored::Accepted(Report { rounds, inertia })
 }
 
-// The result judged: zeros and refusal 9, or accepted.
+// The result judged: zeros and refusal 9, or accepted. One pass over the panel comes first, for the head and the marks.
 fn judge(
     c: Settings,
     rounds: usize,
@@ -127,7 +130,8 @@ fn judge(
         (now (blocks .entry)) (now (lifts .entry)) (now (amounts .entry)) (now (order .entry)) (now (marks .entry))
         (now (work .entry))) ⌝ }
 {
-    let found = finish::first_unsound(panel, d, sub, blocks, c.nrow, c.ncol);
+    let finite = scan::known_finite(panel);
+    let found = finish::first_unsound(panel, d, sub, blocks, c.nrow, c.ncol, finite);
     if let Found::At(k) = found {
         finish::zero_all(panel, d, sub, blocks, lifts, amounts, order, marks, work);
         return Factored::Refused(Refusal::NotFinite(k));
@@ -135,6 +139,7 @@ fn judge(
     accept(
         c,
         rounds,
+        finite,
         panel,
         d,
         sub,

@@ -7,18 +7,19 @@ use native.Mathlib.Nat.{pos-of-ne-zero}
 use native.Mathlib.Omega.{arith}
 use borrow.Author.Tests.{lt-ltb, le-leb, ne-eqb, not-true, not-false}
 use lib.Dec.{eqb}
-use lib.ListN.{getD}
+use lib.ListN.{length, getD}
 use lib.Ieee.{Float, nan}
 use Rattle.model.specs.Scalar.{_⊖_, _⊗_, reciprocalOf, isFinite}
-use Rattle.model.specs.Matrix.{Row, Mat, vec, bytes, headOf}
+use Rattle.model.specs.Matrix.{Row, Mat, view, vec, bytes, headOf}
 use Rattle.model.specs.Head.{State}
 use Rattle.model.specs.Factor.{everyFrom, pivotSound, columnSound, resultCheck}
 use Rattle.model.specs.Answer.{Check, sound, stop}
 use Rattle.grid.proofs.Laws.{col-in}
-use Rattle.scan.specs.Finite.{columnFinite}
+use Rattle.scan.specs.Finite.{columnFinite, KnownFinite}
 use Rattle.scan.specs.Greatest.{DownPre}
 use Rattle.scan.proofs.Laws.{every-same}
-use Rattle.finish.specs.Result.{pivotsOf, emitted, blockSound, endsBlock, PivotsPre, ResultPre}
+use Rattle.scan.proofs.Finite.{known-column}
+use Rattle.finish.specs.Result.{pivotsOf, emitted, blockSound, endsBlock, HeadPre, PivotsPre, ResultPre}
 
 -- ---- a pivot
 
@@ -52,9 +53,15 @@ module _ (ds subs : List Float) (bs : List ℕ) (k : ℕ) where
 
 -- ---- a column
 
-pub column-down : (nrow ncol len ds subs k : ℕ) (bs : List ℕ) → ResultPre nrow ncol len ds subs bs → k < ncol → DownPre nrow k k ncol len
-column-down nrow ncol len ds subs k bs h l =
-    record { up = omega arith; rows = h .rows; there = col-in nrow ncol k len (h .panel) l }
+pub column-down : (nrow ncol k len : ℕ) → HeadPre nrow ncol k len → DownPre nrow k k ncol len
+column-down nrow ncol k len h = record { up = omega (arith, h .column); rows = h .rows; there = col-in nrow ncol k len (h .panel) (h .column) }
+
+pub column-known : (nrow ncol k : ℕ) (xs : List Float) (b : Bool) → HeadPre nrow ncol k (length xs) → KnownFinite b xs → b ≡ true
+    → true ≡ columnFinite (view nrow xs) k k ncol
+column-known nrow ncol k xs b h w e = known-column xs b ncol nrow k k ncol (h .panel) w e (h .rows) (h .column)
+
+pub column-head : (nrow ncol len ds subs k : ℕ) (bs : List ℕ) → ResultPre nrow ncol len ds subs bs → k < ncol → HeadPre nrow ncol k len
+column-head nrow ncol len ds subs k bs h l = record { rows = h .rows; panel = h .panel; column = l }
 
 -- as its pivots have it
 pub column-pivots : (nrow ncol len ds subs : ℕ) (bs : List ℕ) → ResultPre nrow ncol len ds subs bs → PivotsPre ds subs bs

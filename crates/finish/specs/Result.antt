@@ -37,6 +37,12 @@ blockSound d11 d21 d22 = let det = blockOf d11 d21 d22 .det in isFinite det && i
 unfoldable pub endsBlock : (ℕ → ℕ) → ℕ → Bool
 endsBlock blocks k = ltb 0 k && begins blocks (k - 1)
 
+-- column k of the head of a panel of nrow rows and ncol columns
+pub record HeadPre (nrow ncol k len : ℕ) : Type 0 where
+  pub rows : ncol ≤ nrow
+  pub panel : len ≡ nrow * ncol
+  pub column : k < ncol
+
 -- n pivots, of which no block is cut off at the end
 pub record PivotsPre (n subs : ℕ) (bs : List ℕ) : Type 0 where
   pub sub : subs ≡ n

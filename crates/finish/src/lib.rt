@@ -7,7 +7,9 @@ ghost use lib.ListN.{length};
 ghost use Rattle.model.specs.Matrix.{view, vec, bytes, withPart, headOf};
 ghost use Rattle.model.specs.Factor.{pivotSound, columnSound, resultCheck, zeros};
 ghost use Rattle.finish.specs.Buffers.{buffersOf, inOrder, Begun, PartPre};
-ghost use Rattle.finish.specs.Result.{foundSays, pivotsOf, emitted, blockSound, endsBlock, PivotsPre, ResultPre};
+ghost use Rattle.scan.specs.Finite.{columnFinite, KnownFinite};
+ghost use Rattle.finish.specs.Result.{foundSays, pivotsOf, emitted, blockSound, endsBlock};
+ghost use Rattle.finish.specs.Result.{HeadPre, PivotsPre, ResultPre};
 use grid::kernels;
 use model::Elim;
 
@@ -112,6 +114,18 @@ fn pivot_sound(d: &[f64], sub: &[f64], blocks: &[u8], k: usize) -> bool
     ends_block(blocks, k) | scalar::is_finite(scalar::reciprocal(d[k]))
 }
 
+// Whether column k of the head is finite from its diagonal down. Where the panel is known to be finite it is not read.
+fn head_finite(panel: &[f64], nrow: usize, ncol: usize, k: usize, finite: bool) -> bool
+    requires { ⌜ HeadPre nrow ncol k (length (now panel)) ⌝ }
+    requires { ⌜ KnownFinite finite (now panel) ⌝ }
+    ensures { λ r. ⌜ r ≡ columnFinite (view nrow (now (panel .entry))) k k ncol ⌝ }
+{
+    if finite {
+        return true;
+    }
+    scan::column_finite(panel, nrow, k, k, ncol)
+}
+
 // Whether column k of the result is finite: d, subdiagonal, pivot, and the head from the diagonal down.
 fn column_sound(
     panel: &[f64],
@@ -121,19 +135,22 @@ fn column_sound(
     nrow: usize,
     ncol: usize,
     k: usize,
+    finite: bool,
 ) -> bool
     requires { ⌜ ResultPre nrow ncol (length (now panel)) (length (now d)) (length (now sub)) (now blocks) ⌝ }
+    requires { ⌜ KnownFinite finite (now panel) ⌝ }
     requires { ⌜ k < ncol ⌝ }
     ensures { λ r. ⌜ r ≡ columnSound ncol (emitted (view nrow (now (panel .entry)))
         (vec (now (d .entry))) (vec (now (sub .entry))) (bytes (now (blocks .entry)))) k ⌝ }
 {
     scalar::is_finite(d[k])
         & (scalar::is_finite(sub[k])
-            & (pivot_sound(d, sub, blocks, k) & scan::column_finite(panel, nrow, k, k, ncol)))
+            & (pivot_sound(d, sub, blocks, k) & head_finite(panel, nrow, ncol, k, finite)))
 }
 
 // Refusal 9, an added guard: the least column of the result that holds a number not finite.
-// in: the panel, d, subdiagonal and block bytes after the last column
+// in: the panel, d, subdiagonal and block bytes after the last column; finite, whether all numbers of the panel are
+// known to be
 pub fn first_unsound(
     panel: &[f64],
     d: &[f64],
@@ -141,13 +158,15 @@ pub fn first_unsound(
     blocks: &[u8],
     nrow: usize,
     ncol: usize,
+    finite: bool,
 ) -> Found
     requires { ⌜ ResultPre nrow ncol (length (now panel)) (length (now d)) (length (now sub)) (now blocks) ⌝ }
+    requires { ⌜ KnownFinite finite (now panel) ⌝ }
     ensures { λ r. ⌜ foundSays r ≡ resultCheck ncol (emitted (headOf ncol (view nrow (now (panel .entry))))
         (vec (now (d .entry))) (vec (now (sub .entry))) (bytes (now (blocks .entry)))) ncol 0 ⌝ }
 {
     for k in 0..ncol {
-        if !column_sound(panel, d, sub, blocks, nrow, ncol, k) {
+        if !column_sound(panel, d, sub, blocks, nrow, ncol, k, finite) {
             return Found::At(Elim(k));
         }
     }

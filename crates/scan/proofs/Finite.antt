@@ -5,9 +5,9 @@ use mathlib.Core.Bool.{Bool, true, false, not, cond, _&&_, false≢true}
 use mathlib.Core.List.{List}
 use native.Mathlib.Nat.{le-antisymm}
 use native.Mathlib.Omega.{arith}
-use borrow.Author.Tests.{not-true, not-false, lt-ltb, le-ltb}
+use borrow.Author.Tests.{not-true, not-false}
 use borrow.Rule.Slice.PartMut.{midOf}
-use lib.Dec.{eqb, ltb}
+use lib.Dec.{eqb}
 use lib.ListN.{length, getD}
 use lib.Ieee.{Float, nan}
 use Rattle.model.specs.Scalar.{isFinite}
@@ -17,7 +17,7 @@ use Rattle.model.specs.Factor.{everyFrom, columnCheck, columnsCheck, markOf}
 use Rattle.grid.proofs.Laws.{test, view-at, col-in, off-in, vec-part}
 use Rattle.grid.proofs.Parts.{column-at}
 use Rattle.scan.specs.Greatest.{DownPre}
-use Rattle.scan.specs.Finite.{markedBy, finiteFrom, longTailFinite, columnFinite, firstRow}
+use Rattle.scan.specs.Finite.{markedBy, finiteFrom, columnFinite, firstRow, KnownFinite}
 use Rattle.scan.proofs.Laws.{left, none, and-l, and-r, every-last, every-split, every-same, every-at, every-of}
 
 -- ---- a mark, the numbers of a list, and of a column
@@ -58,53 +58,41 @@ column-lent xs n j lo hi b u h e =
     e ∙ every-same (λ k. isFinite (part k)) (λ i. isFinite (view n xs i j)) (hi - lo) 0 lo
     (λ k g. ap isFinite (ap part (omega arith) ∙ column-at n xs j lo hi k h g))
 
--- ---- the numbers of a whole list: the eights first, then what is left, lent
+-- ---- the numbers of a whole list: the sixteens first, then what is left, lent
 
--- how many numbers stand in eights
-abbrev eights : List Float → ℕ
-eights xs = length xs / 8 * 8
+-- how many numbers stand in sixteens
+abbrev sixteens : List Float → ℕ
+sixteens xs = length xs / 16 * 16
 
-whole-parts : (xs : List Float) (m n : ℕ) → m ≤ n
-    → finiteFrom (vec xs) 0 n ≡ finiteFrom (vec xs) 0 m && finiteFrom (vec (midOf m (n - m) xs)) 0 (n - m)
+pub known-no : (xs : List Float) → KnownFinite false xs
+known-no xs = record { all = λ e. absurd (false≢true e) }
+
+pub known-rest : (xs : List Float) (b r : Bool) → (b ≡ true → finiteFrom (vec xs) 0 (sixteens xs) ≡ true) → not b ≡ false
+    → r ≡ finiteFrom (vec (midOf (sixteens xs) (length xs - sixteens xs) xs)) 0 (length xs - sixteens xs) → KnownFinite r xs
 unfolding finiteFrom
-whole-parts xs m n h =
+known-rest xs b r e t p =
+    let m : ℕ = sixteens xs in
+    let n : ℕ = length xs in
     let f : ℕ → Bool = λ k. isFinite (vec xs k) in
-    ap (λ (k : ℕ). everyFrom f k 0) (omega arith) ∙ every-split f m (n - m) 0
-    ∙ ap (λ (b : Bool). everyFrom f m 0 && b) (every-same f (λ k. isFinite (vec (midOf m (n - m) xs) k)) (n - m) (0 + m) 0
-    (λ k l. ap isFinite (ap (vec xs) (omega arith) ∙ sym (vec-part m n xs k l) ∙ ap (vec (midOf m (n - m) xs)) (omega arith))))
+    let rest : everyFrom f (n - m) (0 + m) ≡ r =
+    every-same f (λ k. isFinite (vec (midOf m (n - m) xs) k)) (n - m) (0 + m) 0
+    (λ k l. ap isFinite (ap (vec xs) (omega arith) ∙ sym (vec-part m n xs k l) ∙ ap (vec (midOf m (n - m) xs)) (omega arith))) ∙ sym p in
+    let all : everyFrom f n 0 ≡ everyFrom f m 0 && everyFrom f (n - m) (0 + m) = ap (λ (k : ℕ). everyFrom f k 0) (omega arith) ∙ every-split f m (n - m) 0 in
+    record { all = λ y. all ∙ rw (e (not-false b t), rest, y) }
 
-pub whole-no : (xs : List Float) (b : Bool) → b ≡ finiteFrom (vec xs) 0 (eights xs) → not b ≡ true → false ≡ finiteFrom (vec xs) 0 (length xs)
-whole-no xs b e t =
-    let no : finiteFrom (vec xs) 0 (eights xs) ≡ false = sym e ∙ not-true b t in
-    sym (whole-parts xs (eights xs) (length xs) (omega arith) ∙ rw no)
-
-pub whole-rest : (xs : List Float) (b r : Bool) → b ≡ finiteFrom (vec xs) 0 (eights xs) → not b ≡ false
-    → r ≡ finiteFrom (vec (midOf (eights xs) (length xs - eights xs) xs)) 0 (length xs - eights xs) → r ≡ finiteFrom (vec xs) 0 (length xs)
-whole-rest xs b r e t p =
-    let yes : finiteFrom (vec xs) 0 (eights xs) ≡ true = sym e ∙ not-false b t in
-    p ∙ sym (whole-parts xs (eights xs) (length xs) (omega arith) ∙ rw yes)
-
--- a panel whose tail is shorter than its head, and any other
-pub long-no : (xs : List Float) (c n : ℕ) → n - c < c → false ≡ longTailFinite xs c n
-unfolding longTailFinite
-long-no xs c n h = rw (lt-ltb (n - c) c h)
-
-pub long-is : (xs : List Float) (c n : ℕ) (r : Bool) → c ≤ n - c → r ≡ finiteFrom (vec xs) 0 (length xs) → r ≡ longTailFinite xs c n
-unfolding longTailFinite
-long-is xs c n r h e = rw (le-ltb (n - c) c h) e
-
--- where the answer is yes, every number is finite
-long-finite : (b q : Bool) → cond b false q ≡ true → q ≡ true
-long-finite true q e = absurd (false≢true e)
-long-finite false q e = e
-
-pub entry-finite : (xs : List Float) (c n i j : ℕ) → length xs ≡ n * c → longTailFinite xs c n ≡ true → i < n → j < c
+pub entry-finite : (xs : List Float) (b : Bool) (c n i j : ℕ) → length xs ≡ n * c → KnownFinite b xs → b ≡ true → i < n → j < c
     → isFinite (view n xs i j) ≡ true
-unfolding longTailFinite finiteFrom vec
-entry-finite xs c n i j l e h g =
+unfolding finiteFrom vec
+entry-finite xs b c n i j l w e h g =
     let f : ℕ → Bool = λ k. isFinite (getD xs k nan) in
-    ap isFinite (view-at n xs i j h) ∙ ap f (omega arith)
-    ∙ every-at f (length xs) 0 (i + j * n) (long-finite (ltb (n - c) c) _ e) (off-in n c i j (length xs) l h g)
+    ap isFinite (view-at n xs i j h) ∙ ap f (omega arith) ∙ every-at f (length xs) 0 (i + j * n) (w .all e) (off-in n c i j (length xs) l h g)
+
+-- so is a part of a column
+pub known-column : (xs : List Float) (b : Bool) (c n j lo hi : ℕ) → length xs ≡ n * c → KnownFinite b xs → b ≡ true → hi ≤ n → j < c
+    → true ≡ columnFinite (view n xs) j lo hi
+unfolding columnFinite
+known-column xs b c n j lo hi l w e h g =
+    sym (every-of (λ i. isFinite (view n xs i j)) (hi - lo) lo (λ i k. entry-finite xs b c n (lo + i) j l w e (omega arith) g))
 
 -- ---- the scan of the panel
 
@@ -140,9 +128,8 @@ columns-sound a n c (suc k) j f h =
     every-of (λ i. isFinite (a i j)) (n - j) j (λ i l. f (j + i) j (omega arith) (omega arith)) in
     rw (column-sound a j (n - j) j finite) (columns-sound a n c k (j + 1) f (omega arith))
 
-pub panel-sound : (xs : List Float) (n c : ℕ) (b : Bool) → length xs ≡ n * c → b ≡ longTailFinite xs c n → b ≡ true
-    → sound ≡ columnsCheck (view n xs) n c 0
-panel-sound xs n c b l e t = sym (columns-sound (view n xs) n c c 0 (λ p q. entry-finite xs c n p q l (sym e ∙ t)) (omega arith))
+pub panel-sound : (xs : List Float) (n c : ℕ) (b : Bool) → length xs ≡ n * c → KnownFinite b xs → b ≡ true → sound ≡ columnsCheck (view n xs) n c 0
+panel-sound xs n c b l w t = sym (columns-sound (view n xs) n c c 0 (λ p q. entry-finite xs b c n p q l w t) (omega arith))
 
 -- the check whole, C, from row i of column j on
 abbrev pub fromHere : Mat → ℕ → ℕ → ℕ → ℕ → Check

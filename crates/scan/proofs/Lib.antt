@@ -1,6 +1,6 @@
 -- Laws of the scans, lowest first.
 pub mod Laws
 pub mod Squares
-pub mod Zeros
+pub mod Sums
 pub mod Finite
 pub mod Marks

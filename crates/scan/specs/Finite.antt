@@ -1,13 +1,12 @@
 -- Numbers that are finite: one by one, in a whole list, down a column, and the scan of a whole panel with its declared answer as refusal 6 has it.
 -- Definitions only. Assumes nothing.
 use mathlib.Core.Path.{_≡_}
-use mathlib.Core.Bool.{Bool, false, cond}
+use mathlib.Core.Bool.{Bool, true, cond}
 use mathlib.Core.List.{List}
-use Prim.Native.Nat.{ℕ, _-_, _*_, _%_, _≤_}
-use lib.Dec.{ltb}
+use Prim.Native.Nat.{ℕ, _+_, _-_, _*_, _%_, _≤_}
 use lib.ListN.{length}
 use lib.Ieee.{Float}
-use Rattle.model.specs.Scalar.{isFinite}
+use Rattle.model.specs.Scalar.{_⊕_, isFinite}
 use Rattle.model.specs.Matrix.{Row, Mat, vec}
 use Rattle.model.specs.Answer.{Check, sound, stop}
 use Rattle.model.specs.Factor.{everyFrom}
@@ -22,9 +21,9 @@ markedBy m x = cond (isFinite x) m 1
 unfoldable pub finiteFrom : Row → ℕ → ℕ → Bool
 finiteFrom f i n = everyFrom (λ k. isFinite (f k)) n i
 
--- a panel of n rows and c columns has a tail no shorter than its head, and all of its numbers are finite, upper positions too
-unfoldable pub longTailFinite : List Float → ℕ → ℕ → Bool
-longTailFinite xs c n = cond (ltb (n - c) c) false (finiteFrom (vec xs) 0 (length xs))
+-- the sum of the numbers at i, i + 2, .. up to i + 14
+unfoldable pub everySecond : Row → ℕ → Float
+everySecond f i = ((f i ⊕ f (i + 2)) ⊕ (f (i + 4) ⊕ f (i + 6))) ⊕ ((f (i + 8) ⊕ f (i + 10)) ⊕ (f (i + 12) ⊕ f (i + 14)))
 
 -- rows lo up to hi of column j are finite
 unfoldable pub columnFinite : Mat → ℕ → ℕ → ℕ → Bool
@@ -39,9 +38,13 @@ abbrev pub checkOf : Scan → Check
 checkOf Clean = sound
 checkOf (At column row) = stop 6 (column .0) (row .0)
 
--- m numbers of a list, in eights
-pub record EightsPre (m len : ℕ) : Type 0 where
-  pub eights : m % 8 ≡ 0
+-- where b is true all numbers of the list are finite; where it is false nothing is said of them
+pub record KnownFinite (b : Bool) (xs : List Float) : Type 0 where
+  pub all : b ≡ true → finiteFrom (vec xs) 0 (length xs) ≡ true
+
+-- m numbers of a list, in sixteens
+pub record SixteensPre (m len : ℕ) : Type 0 where
+  pub sixteens : m % 16 ≡ 0
   pub there : m ≤ len
 
 -- a list that is a panel of n rows and c columns

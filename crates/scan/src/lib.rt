@@ -1,14 +1,15 @@
 // Scans that only read a panel: the greatest square, the first number that is not finite, the marks of the tail.
 // Each is equal to its definition in crates/model, not-a-number, ties and signed zeros included.
 ghost use mathlib.Core.Path.{_≡_};
-ghost use Prim.Native.Nat.{_+_, _-_, _≤_};
+ghost use mathlib.Core.Bool.{true};
+ghost use Prim.Native.Nat.{_+_, _-_, _<_, _≤_};
 ghost use lib.ListN.{length};
 ghost use Rattle.model.specs.Scalar.{squareOf};
 ghost use Rattle.model.specs.Matrix.{view, vec};
 ghost use Rattle.model.specs.Choice.{columnGreatest, rowGreatest};
 ghost use Rattle.model.specs.Factor.{columnsCheck};
-ghost use Rattle.scan.specs.Finite.{markedBy, finiteFrom, longTailFinite, columnFinite, firstRow, checkOf};
-ghost use Rattle.scan.specs.Finite.{EightsPre, PanelPre};
+ghost use Rattle.scan.specs.Finite.{markedBy, finiteFrom, columnFinite, firstRow, checkOf};
+ghost use Rattle.scan.specs.Finite.{everySecond, KnownFinite, SixteensPre, PanelPre};
 ghost use Rattle.scan.specs.Marks.{partMarked, marked, tailMarks, ColumnMarksPre, TailColumnPre, MarksPre};
 ghost use Rattle.scan.specs.Greatest.{found, better, greatestDown, greatestAlong};
 ghost use Rattle.scan.specs.Greatest.{DownPre, AlongPre, ColumnPre, RowPre, Within};
@@ -116,57 +117,44 @@ fn all_finite(xs: &[f64], n: usize) -> bool
     found == 0
 }
 
-// Whether the first m numbers, a multiple of eight, are finite: x * 0.0 is a zero for a finite x and else a
-// not-a-number, which no sum loses. Eight sums, so that the machine adds several at a time.
-fn eights_finite(xs: &[f64], m: usize) -> bool
-    requires { ⌜ EightsPre m (length (now xs)) ⌝ }
-    ensures { λ r. ⌜ r ≡ finiteFrom (vec (now (xs .entry))) 0 m ⌝ }
+// The sum of eight numbers, every second one from i on, added among themselves so that no addition waits for all others.
+fn every_second(xs: &[f64], i: usize) -> f64
+    requires { ⌜ i + 14 < length (now xs) ⌝ }
+    ensures { λ r. ⌜ r ≡ everySecond (vec (now (xs .entry))) i ⌝ }
 {
-    let mut s0 = 0.0;
-    let mut s1 = 0.0;
-    let mut s2 = 0.0;
-    let mut s3 = 0.0;
-    let mut s4 = 0.0;
-    let mut s5 = 0.0;
-    let mut s6 = 0.0;
-    let mut s7 = 0.0;
-    let mut i = 0;
-    while i < m {
-        s0 = s0 + xs[i] * 0.0;
-        s1 = s1 + xs[i + 1] * 0.0;
-        s2 = s2 + xs[i + 2] * 0.0;
-        s3 = s3 + xs[i + 3] * 0.0;
-        s4 = s4 + xs[i + 4] * 0.0;
-        s5 = s5 + xs[i + 5] * 0.0;
-        s6 = s6 + xs[i + 6] * 0.0;
-        s7 = s7 + xs[i + 7] * 0.0;
-        i += 8;
-    }
-    (s0 + s2) + (s4 + s6) + ((s1 + s3) + (s5 + s7)) == 0.0
+    ((xs[i] + xs[i + 2]) + (xs[i + 4] + xs[i + 6]))
+        + ((xs[i + 8] + xs[i + 10]) + (xs[i + 12] + xs[i + 14]))
 }
 
-// Whether all numbers are finite.
-fn whole_finite(xs: &[f64]) -> bool
-    ensures { λ r. ⌜ r ≡ finiteFrom (vec (now (xs .entry))) 0 (length (now (xs .entry))) ⌝ }
+// Whether the sum of the first m numbers, a multiple of sixteen, is finite: then each of them is, since no sum loses an
+// infinity or a not-a-number. A sum that overflows says nothing of its terms. Numbers at even and at odd places are added
+// apart, so that the machine adds two at a time.
+fn sum_finite(xs: &[f64], m: usize) -> bool
+    requires { ⌜ SixteensPre m (length (now xs)) ⌝ }
+    ensures { λ r. ⌜ (r ≡ true → finiteFrom (vec (now (xs .entry))) 0 m ≡ true) ⌝ }
+{
+    let mut s = 0.0;
+    let mut t = 0.0;
+    let mut i = 0;
+    while i < m {
+        s = s + every_second(xs, i);
+        t = t + every_second(xs, i + 1);
+        i += 16;
+    }
+    scalar::is_finite(s + t)
+}
+
+// Whether all numbers are known to be finite, by one pass over them. False says nothing: a panel has upper positions,
+// which do not count, and the sum of finite numbers can overflow.
+pub fn known_finite(xs: &[f64]) -> bool
+    ensures { λ r. ⌜ KnownFinite r (now (xs .entry)) ⌝ }
 {
     let n = xs.len();
-    let m = n / 8 * 8;
-    if !eights_finite(xs, m) {
+    let m = n / 16 * 16;
+    if !sum_finite(xs, m) {
         return false;
     }
     all_finite(&xs[m..n], n - m)
-}
-
-// Whether a panel has a tail no shorter than its head, and all of its numbers are finite, upper positions too.
-// Where the tail is short they would be up to half of the work, so such a panel is not looked at.
-fn long_tail_finite(xs: &[f64], ncol: usize, nrow: usize) -> bool
-    requires { ⌜ ncol ≤ nrow ⌝ }
-    ensures { λ r. ⌜ r ≡ longTailFinite (now (xs .entry)) ncol nrow ⌝ }
-{
-    if nrow - ncol < ncol {
-        return false;
-    }
-    whole_finite(xs)
 }
 
 // Whether rows lo up to hi of column j are finite.
@@ -220,13 +208,13 @@ fn first_by_columns(input: &[f64], ncol: usize, nrow: usize) -> Scan
     Scan::Clean
 }
 
-// The first number of the lower panel that is not finite, by column and then by row: refusal 6.
-// Where the tail is long one pass over all numbers comes first: if they are finite, there is none.
+// The first number of the lower panel that is not finite, by column and then by row: refusal 6. One pass over all numbers
+// comes first: where they are known to be finite, there is none.
 pub fn first_not_finite(input: &[f64], ncol: usize, nrow: usize) -> Scan
     requires { ⌜ PanelPre nrow ncol (length (now input)) ⌝ }
     ensures { λ r. ⌜ checkOf r ≡ columnsCheck (view nrow (now (input .entry))) nrow ncol 0 ⌝ }
 {
-    if long_tail_finite(input, ncol, nrow) {
+    if known_finite(input) {
         return Scan::Clean;
     }
     first_by_columns(input, ncol, nrow)
@@ -256,14 +244,15 @@ fn mark_tail(marks: &mut [u8], panel: &[f64], ncol: usize, nrow: usize, j: usize
 }
 
 // The marks of the tail, by columns: 1 if a row holds a number not finite, else 0.
-// Where the tail is long one pass over all numbers comes first: if they are finite, the zeros stay.
+// in: panel; finite, whether all of its numbers are known to be: then the zeros stay / out: marks
 // origin: src/numeric/ldlt/bunch_kaufman.rs, fn ll_cdiv_emit
-pub fn marks_of(panel: &[f64], marks: &mut [u8], ncol: usize, nrow: usize)
+pub fn marks_of(panel: &[f64], marks: &mut [u8], ncol: usize, nrow: usize, finite: bool)
     requires { ⌜ MarksPre nrow ncol (length (now panel)) (length (now marks)) ⌝ }
+    requires { ⌜ KnownFinite finite (now panel) ⌝ }
     ensures { λ _. ⌜ now (marks .exit) ≡ tailMarks (view nrow (now (panel .entry))) ncol nrow ncol ⌝ }
 {
     grid::kernels::zero_bytes(marks);
-    if long_tail_finite(panel, ncol, nrow) {
+    if finite {
         return;
     }
     for j in 0..ncol {

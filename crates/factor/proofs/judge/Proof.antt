@@ -13,7 +13,7 @@ use Rattle.factor.proofs.judge.Tie as tie
 abbrev entry : tie.After-first-unsound-arg4 → tie.Start
 entry c =
     c .before .before .before .before .before .before .before .before .before .before
-    .before .before .before
+    .before .before .before .before .before
 
 -- from `zero_all` to the column that was found, and from the refusal's return to `zero_all`
 abbrev found : tie.After-zero-all → tie.After-found
@@ -53,12 +53,15 @@ outcome c =
     let a = entry (clean c .before .before .before) .args in
     let l = c .accept .last in
     outcomeOf (c .accept .result) (buffersOf (a .panel .now) (a .d .now) (a .sub .now) (a .blocks .now) (a .lifts .now) (a .amounts .now)
-    (a .order .now) (l .1 .1 .1 .1 .1 .1 .1 .1 .1 .0) (l .1 .1 .1 .1 .1 .1 .1 .1 .1 .1 .0))
+    (a .order .now) (l .1 .1 .1 .1 .1 .1 .1 .1 .1 .1 .0) (l .1 .1 .1 .1 .1 .1 .1 .1 .1 .1 .1 .0))
 
 -- ---- the needs
 
+known-finite-requires : tie.Need-known-finite-requires
+known-finite-requires c κs = search needs
+
 first-unsound-requires : tie.Need-first-unsound-requires
-first-unsound-requires c κs = result-pre _ _ _ _ _ _ _ (entry c .pre)
+first-unsound-requires c κs = (result-pre _ _ _ _ _ _ _ (entry c .pre), search needs)
 
 enum-known-found : tie.Need-enum-known-found
 enum-known-found c = search needs
@@ -149,6 +152,7 @@ pub judge-spec : {M : Type 1} → statement M
 judge-spec =
     tie.close
     (tie.spec
+    known-finite-requires
     first-unsound-requires
     enum-known-found
     zero-all-requires

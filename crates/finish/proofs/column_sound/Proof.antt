@@ -1,6 +1,6 @@
 -- `finish::column_sound` meets its contract: the product of the four tests is the definition's. Assumes nothing.
 use borrow.Author.Needs.{needs}
-use Rattle.finish.proofs.Result.{column-down, column-pivots, column-is}
+use Rattle.finish.proofs.Result.{column-head, column-pivots, column-is}
 use Rattle.finish.proofs.column_sound.Statement.{statement}
 use Rattle.finish.proofs.column_sound.Tie as tie
 
@@ -25,8 +25,8 @@ is-finite-requires-2 c κs = search needs
 pivot-sound-requires : tie.Need-pivot-sound-requires
 pivot-sound-requires c κs = (search column-pivots, search needs)
 
-column-finite-requires : tie.Need-column-finite-requires
-column-finite-requires c κs = search column-down
+head-finite-requires : tie.Need-head-finite-requires
+head-finite-requires c κs = (search column-head, search needs)
 
 returns : tie.Need-returns
 returns c = search column-is
@@ -42,5 +42,5 @@ column-sound-spec =
     shared-slice-read-is-finite-2
     is-finite-requires-2
     pivot-sound-requires
-    column-finite-requires
+    head-finite-requires
     returns)

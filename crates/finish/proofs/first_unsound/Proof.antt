@@ -11,12 +11,12 @@ use Rattle.finish.proofs.first_unsound.Statement.{statement}
 use Rattle.finish.proofs.first_unsound.Tie as tie
 
 abbrev Inv-loop : tie.InvT-loop
-Inv-loop panel d sub blocks nrow ncol k₀ k =
+Inv-loop panel d sub blocks nrow ncol finite k₀ k =
     (k ≤ ncol) × (resultCheck ncol (emitted (view nrow panel) (vec d) (vec sub) (bytes blocks)) (ncol - k) k
     ≡ resultCheck ncol (emitted (headOf ncol (view nrow panel)) (vec d) (vec sub) (bytes blocks)) ncol 0)
 
 abbrev μ-loop : tie.MeasureT-loop
-μ-loop panel d sub blocks nrow ncol k₀ k = ncol - k
+μ-loop panel d sub blocks nrow ncol finite k₀ k = ncol - k
 
 loop-holds : tie.Need-loop-holds Inv-loop μ-loop
 loop-holds c = search (needs, result-none)

@@ -1,4 +1,4 @@
--- `scan::marks_of` meets its contract. Where every number is finite the zeros are the marks. The invariant: the marks are those of the first j columns.
+-- `scan::marks_of` meets its contract. Where every number is known to be finite the zeros are the marks. The invariant: the marks are those of the first j columns.
 -- The measure is what is left of the columns. Assumes nothing.
 use Prim.Native.Nat.{_-_, _≤_}
 use mathlib.Core.Path.{_≡_}
@@ -11,16 +11,13 @@ use Rattle.scan.proofs.marks_of.Statement.{statement}
 use Rattle.scan.proofs.marks_of.Tie as tie
 
 abbrev Inv-loop : tie.InvT-loop
-Inv-loop panel marks₀ ncol nrow j₀ marks j = (j ≤ ncol) × (length marks ≡ nrow - ncol) × (marks ≡ tailMarks (view nrow panel) ncol nrow j)
+Inv-loop panel marks₀ ncol nrow finite j₀ marks j = (j ≤ ncol) × (length marks ≡ nrow - ncol) × (marks ≡ tailMarks (view nrow panel) ncol nrow j)
 
 abbrev μ-loop : tie.MeasureT-loop
-μ-loop panel marks₀ ncol nrow j₀ marks j = ncol - j
+μ-loop panel marks₀ ncol nrow finite j₀ marks j = ncol - j
 
 zero-bytes-requires : tie.Need-zero-bytes-requires Inv-loop μ-loop
 zero-bytes-requires c κs = search needs
-
-long-tail-finite-requires : tie.Need-long-tail-finite-requires Inv-loop μ-loop
-long-tail-finite-requires c κs = search needs
 
 same-length : tie.Need-same-length Inv-loop μ-loop
 same-length c = search needs
@@ -56,7 +53,6 @@ marks-of-spec =
     Inv-loop
     μ-loop
     zero-bytes-requires
-    long-tail-finite-requires
     same-length
     returns
     loop-holds

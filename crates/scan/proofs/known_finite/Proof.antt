@@ -1,17 +1,18 @@
--- `scan::whole_finite` meets its contract: the eights first, then what is left. Assumes nothing.
+-- `scan::known_finite` meets its contract: the sixteens first, then what is left. Assumes nothing.
 use borrow.Author.Needs.{needs}
-use Rattle.scan.proofs.Finite.{whole-no, whole-rest}
-use Rattle.scan.proofs.whole_finite.Statement.{statement}
-use Rattle.scan.proofs.whole_finite.Tie as tie
+use native.Mathlib.Omega.{arith}
+use Rattle.scan.proofs.Finite.{known-no, known-rest}
+use Rattle.scan.proofs.known_finite.Statement.{statement}
+use Rattle.scan.proofs.known_finite.Tie as tie
 
 mul-m : tie.Need-mul-m
 mul-m c = search needs
 
-eights-finite-requires : tie.Need-eights-finite-requires
-eights-finite-requires c κs = search needs
+sum-finite-requires : tie.Need-sum-finite-requires
+sum-finite-requires c κs = search needs
 
 returns : tie.Need-returns
-returns c = search (needs, whole-no)
+returns c = search (needs, known-no)
 
 mul-all-finite : tie.Need-mul-all-finite
 mul-all-finite c = search needs
@@ -32,14 +33,14 @@ all-finite-requires : tie.Need-all-finite-requires
 all-finite-requires c κs = search needs
 
 returns-2 : tie.Need-returns-2
-returns-2 c = search (needs, whole-rest)
+returns-2 c = search (needs, known-rest)
 
-pub whole-finite-spec : {M : Type 1} → statement M
-whole-finite-spec =
+pub known-finite-spec : {M : Type 1} → statement M
+known-finite-spec =
     tie.close
     (tie.spec
     mul-m
-    eights-finite-requires
+    sum-finite-requires
     returns
     mul-all-finite
     sub-all-finite
