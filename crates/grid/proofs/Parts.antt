@@ -33,11 +33,11 @@ abbrev back : List Float → ℕ → ℕ → List Float → List Float
 back xs lo hi ys = putMid lo (hi - lo) xs ys
 
 -- a row of places seen as a matrix of n rows: of a list it is `view`
-abbrev rowView : ℕ → Row → Mat
+abbrev pub rowView : ℕ → Row → Mat
 rowView n f = λ i j. cond (ltb i n) (f (i + j * n)) nan
 
 -- a run of places within one column is a part of that column
-view-part : (n : ℕ) (f g : Row) (j lo hi : ℕ) (W N : Row) → hi ≤ n → g ≡ withPart f (lo + j * n) (hi + j * n) W
+pub view-part : (n : ℕ) (f g : Row) (j lo hi : ℕ) (W N : Row) → hi ≤ n → g ≡ withPart f (lo + j * n) (hi + j * n) W
     → ((a : ℕ) → lo ≤ a → a < hi → W (a + j * n) ≡ N a) → rowView n g ≡ withColumn (rowView n f) j lo hi N
 unfolding withPart withColumn
 view-part n f g j lo hi W N h e same =
@@ -211,7 +211,7 @@ run-back xs ys a x e N′ h g l ly w =
     (λ q. rw (q, no (leb x t)))))
 
 -- what is lent of column c, in a part that begins in row lo of column k
-later-at : (n : ℕ) (xs : List Float) (k c lo e a s : ℕ) → a < n → lo + k * n + s ≡ a + c * n → s < e - (lo + k * n)
+pub later-at : (n : ℕ) (xs : List Float) (k c lo e a s : ℕ) → a < n → lo + k * n + s ≡ a + c * n → s < e - (lo + k * n)
     → vec (part xs (lo + k * n) e) s ≡ view n xs a c
 unfolding vec view
 later-at n xs k c lo e a s h o l = rw (lt-ltb a n h) (vec-part (lo + k * n) e xs s l ∙ ap (λ (x : ℕ). getD xs x nan) o)

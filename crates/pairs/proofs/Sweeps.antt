@@ -18,7 +18,7 @@ use Rattle.grid.proofs.Laws.{in-panel, col-in}
 use Rattle.eliminate.specs.Eliminate.{inPanel, region}
 use Rattle.eliminate.proofs.Buffer.{kept-at}
 use Rattle.eliminate.proofs.Region.{region-none, region-step, region-before}
-use Rattle.pairs.specs.Pairs.{lessAt, stepped, steppedTwice, sweptFirst, sweptBoth, ownBy, PairPre}
+use Rattle.pairs.specs.Pairs.{lessAt, stepped, steppedTwice, sweptFirst, sweptBoth, ownBy, PairPre, KeptPre}
 use Rattle.pairs.proofs.Column.{last-from, last-within, wide-last, single-last}
 
 -- ---- the exchange of places
@@ -71,9 +71,18 @@ module _ (wide other : Bool) (nrow ncol nb kb ke k l f kq len lenM : ℕ) (pre :
         high = omega (arith, place-under ke f kq j (p .last) (pre .row) g);
       }
 
-  -- a multiplier's place in the buffer
-  pub kept-in : (row c : ℕ) → kb ≤ row → row < ke → kb ≤ c → c < ke → In nb (row - kb) (c - kb) lenM
-  kept-in row c h g u v = in-panel nb nb (row - kb) (c - kb) lenM (pre .square) (omega (arith, pre .width)) (omega (arith, pre .width))
+  -- what reading a multiplier of the first pivot asks
+  pub first-kept : (j : ℕ) → l ≤ j → j < ke → KeptPre nb kb ke (exchangedPlace f kq j) k lenM
+  first-kept j h g =
+      let p = placed in
+      let row = row-in j (exchangedPlace f kq j) h g refl in
+      record { square = pre .square; width = pre .width; low = row .low; high = row .high; from = p .from; to = omega arith }
+
+  pub first-kept-next : (j : ℕ) → l ≤ j → j < ke → KeptPre nb kb ke (exchangedPlace f kq j) (k + 1) lenM
+  first-kept-next j h g =
+      let p = placed in
+      let row = row-in j (exchangedPlace f kq j) h g refl in
+      record { square = pre .square; width = pre .width; low = row .low; high = row .high; from = omega arith; to = omega arith }
 
   pub later-than-first : (j : ℕ) → l ≤ j → j < ke → LaterPre nrow (lastOf k wide) j ke nrow len
   later-than-first j h g =
@@ -113,33 +122,46 @@ module _ (wide other : Bool) (nrow ncol nb kb ke k l f kq len lenM : ℕ) (pre :
     pub second-own : RowsPre nrow (lastOf l other) ke nrow len′
     second-own = record { col = column (lastOf l other) (let p = placed in omega (arith, pre .last)); up = up; rows = omega arith }
 
+-- ---- what reading a multiplier asks, past both pivots: of the first, and of the second
+
+module _ {wide other : Bool} {nrow ncol nb kb ke k l f kq len lenM : ℕ} (pre : PairPre wide other nrow ncol nb kb ke k l f kq len lenM) where
+  at : Placed kb ke k l f kq
+  at = placed wide other nrow ncol nb kb ke k l f kq len lenM pre
+
+  pub both-kept : (j : ℕ) → f < j → j < ke → KeptPre nb kb ke (exchangedPlace f kq j) k lenM
+  both-kept j h g = let p = at in first-kept wide other nrow ncol nb kb ke k l f kq len lenM pre j (omega arith) g
+
+  pub both-kept-next : (j : ℕ) → f < j → j < ke → KeptPre nb kb ke (exchangedPlace f kq j) (k + 1) lenM
+  both-kept-next j h g = let p = at in first-kept-next wide other nrow ncol nb kb ke k l f kq len lenM pre j (omega arith) g
+
+  pub second-kept : (j : ℕ) → f < j → j < ke → KeptPre nb kb ke j l lenM
+  second-kept j h g =
+      let p = at in
+      record { square = pre .square; width = pre .width; low = omega arith; high = g; from = omega arith; to = omega arith }
+
+  pub second-kept-next : (j : ℕ) → f < j → j < ke → KeptPre nb kb ke j (l + 1) lenM
+  second-kept-next j h g =
+      let p = at in
+      record { square = pre .square; width = pre .width; low = omega arith; high = g; from = omega arith; to = omega arith }
+
+-- ---- a multiplier that was read
+
+pub kept-in : (nb kb ke row c lenM : ℕ) → KeptPre nb kb ke row c lenM → In nb (row - kb) (c - kb) lenM
+kept-in nb kb ke row c lenM pre =
+    in-panel nb nb (row - kb) (c - kb) lenM (pre .square) (omega (arith, pre .width)) (omega (arith, pre .width))
+
+pub kept-read : (nb kb ke row c lenM : ℕ) (B : Mat) (m : Float) → KeptPre nb kb ke row c lenM → m ≡ B (row - kb) (c - kb) → m ≡ inPanel kb ke B row c
+kept-read nb kb ke row c lenM B m pre e = e ∙ kept-at kb ke B row c (pre .low) (pre .high) (pre .from) (pre .to)
+
 -- ---- a turn, by the multipliers that were read
 
-pub first-turn : (M Q B : Mat) (wide : Bool) (kb ke k row stood j n : ℕ) (m1 m2 : Float) → kb ≤ row → row < ke → kb ≤ k → k + 1 < ke → row ≡ stood
-    → m1 ≡ B (row - kb) (k - kb) → m2 ≡ B (row - kb) (k + 1 - kb) → Q ≡ withColumn M j ke n (stepped wide M k j m1 m2)
-    → Q ≡ withColumn M j ke n (stepped wide M k j (inPanel kb ke B stood k) (inPanel kb ke B stood (k + 1)))
-first-turn M Q B wide kb ke k row stood j n m1 m2 h g u v e e1 e2 q =
-    q ∙ rw (e1, e2, kept-at kb ke B row k h g u (omega arith), kept-at kb ke B row (k + 1) h g (omega arith) v, e)
+pub first-turn : (M Q : Mat) (wide : Bool) (k j lo n : ℕ) (m1 m2 w1 w2 : Float) → m1 ≡ w1 → m2 ≡ w2 → Q ≡ withColumn M j lo n (stepped wide M k j m1 m2)
+    → Q ≡ withColumn M j lo n (stepped wide M k j w1 w2)
+first-turn M Q wide k j lo n m1 m2 w1 w2 e1 e2 q = q ∙ rw (e1, e2)
 
-pub both-turn : (M Q B : Mat) (wide other : Bool) (kb ke k l row stood j n : ℕ) (m1 m2 m3 m4 : Float) → kb ≤ row → row < ke → kb ≤ k → k + 1 < ke
-    → kb ≤ j → j < ke → kb ≤ l → l + 1 < ke → row ≡ stood
-    → m1 ≡ B (row - kb) (k - kb) → m2 ≡ B (row - kb) (k + 1 - kb) → m3 ≡ B (j - kb) (l - kb) → m4 ≡ B (j - kb) (l + 1 - kb)
-    → Q ≡ withColumn M j ke n (steppedTwice wide other M k l j m1 m2 m3 m4)
-    → Q
-    ≡ withColumn M j ke n
-    (steppedTwice wide other M k l j (inPanel kb ke B stood k) (inPanel kb ke B stood (k + 1)) (inPanel kb ke B j l) (inPanel kb ke B j (l + 1)))
-both-turn M Q B wide other kb ke k l row stood j n m1 m2 m3 m4 h g u v x y z w e e1 e2 e3 e4 q =
-    q ∙ rw (
-      e1,
-      e2,
-      e3,
-      e4,
-      kept-at kb ke B row k h g u (omega arith),
-      kept-at kb ke B row (k + 1) h g (omega arith) v,
-      e,
-      kept-at kb ke B j l x y z (omega arith),
-      kept-at kb ke B j (l + 1) x y (omega arith) w,
-    )
+pub both-turn : (M Q : Mat) (wide other : Bool) (k l j lo n : ℕ) (m1 m2 m3 m4 w1 w2 w3 w4 : Float) → m1 ≡ w1 → m2 ≡ w2 → m3 ≡ w3 → m4 ≡ w4
+    → Q ≡ withColumn M j lo n (steppedTwice wide other M k l j m1 m2 m3 m4) → Q ≡ withColumn M j lo n (steppedTwice wide other M k l j w1 w2 w3 w4)
+both-turn M Q wide other k l j lo n m1 m2 m3 m4 w1 w2 w3 w4 e1 e2 e3 e4 q = q ∙ rw (e1, e2, e3, e4)
 
 -- ---- the sweeps
 

@@ -3,9 +3,9 @@
 -- Definitions only. Assumes nothing.
 use Prim.Native.Nat.{ℕ, _+_, _*_, _<_, _≤_}
 use mathlib.Core.Path.{_≡_}
-use mathlib.Core.Bool.{Bool, cond}
-use lib.Ieee.{Float}
-use Rattle.model.specs.Scalar.{_⊖_, _⊗_, reciprocalOf}
+use mathlib.Core.Bool.{Bool, cond, not, _&&_}
+use lib.Ieee.{Float, eq}
+use Rattle.model.specs.Scalar.{_⊖_, _⊗_, zeroF, reciprocalOf}
 use Rattle.model.specs.Matrix.{Row, Mat, withColumn, exchangedPlace}
 use Rattle.model.specs.Step.{Step, one, two, lessMultiple, rowAfterStep}
 use Rattle.model.specs.Head.{lastOf}
@@ -57,6 +57,10 @@ ownBy wide M k lo hi b =
     let single = withColumn M k lo hi (times (columnOf M k) (reciprocalOf (b .d11))) in
     cond wide block single
 
+-- neither of two multipliers is a zero of either sign
+unfoldable pub neitherZero : Float → Float → Bool
+neitherZero a b = not (eq a zeroF) && not (eq b zeroF)
+
 -- ---- what the functions ask
 
 -- the panel and the multipliers' buffer; pivots at k and right after it at l, within columns kb to ke; the second exchanged its last column f with kq
@@ -71,3 +75,12 @@ pub record PairPre (wide other : Bool) (nrow ncol nb kb ke k l f kq len lenM : �
   pub last : f ≡ lastOf l other
   pub reach : f ≤ kq
   pub row : kq < ke
+
+-- a multiplier of row j in column c, kept in the buffer of columns kb to ke
+pub record KeptPre (nb kb ke j c lenM : ℕ) : Type 0 where
+  pub square : lenM ≡ nb * nb
+  pub width : ke ≤ kb + nb
+  pub low : kb ≤ j
+  pub high : j < ke
+  pub from : kb ≤ c
+  pub to : c < ke

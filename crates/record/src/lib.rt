@@ -12,7 +12,7 @@ use model::Settings;
 
 // The bytes of the longest stream that is not refused: 24, 6 and 8 for each of 64·16 numbers. A stream that goes on
 // asks what its first LONGEST + 1 bytes ask (`asked-prefix` of proofs/Laws.antt), so no more need be read.
-pub const LONGEST: usize = 8222;
+pub const LONGEST: usize = 30 + 8 * (64 * 16);
 
 // What a stream asks: a factor call with these settings; or it is turned away, with number 20, 21 or 22 at place 0, 0.
 pub enum Asked {

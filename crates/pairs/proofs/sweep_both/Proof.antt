@@ -7,7 +7,8 @@ use borrow.Author.Needs.{needs}
 use Rattle.model.specs.Matrix.{view}
 use Rattle.eliminate.specs.Eliminate.{inPanel}
 use Rattle.pairs.specs.Pairs.{sweptBoth}
-use Rattle.pairs.proofs.Sweeps.{placed, both-none, both-step, both-end}
+use Rattle.pairs.proofs.Sweeps.{placed, both-none, both-end}
+use Rattle.pairs.proofs.Several.{both-join}
 use Rattle.pairs.proofs.sweep_both.Statement.{statement}
 use Rattle.pairs.proofs.sweep_both.Tie as tie
 
@@ -25,45 +26,31 @@ add-j c = search needs
 loop-holds : tie.Need-loop-holds Inv-loop μ-loop
 loop-holds c = let at = placed _ _ _ _ _ _ _ _ _ _ _ _ _ (c .before .before .pre) in (omega arith, omega arith, refl, both-none _ _ _ _ _ _ _ _ _ _ _)
 
-column-both-requires : tie.Need-column-both-requires Inv-loop μ-loop
-column-both-requires c κs = search needs
-
-add-j-2 : tie.Need-add-j-2 Inv-loop μ-loop
-add-j-2 c = search needs
+sweep-next-requires : tie.Need-sweep-next-requires Inv-loop μ-loop
+sweep-next-requires c κs = search needs
 
 loop-less : tie.Need-loop-less Inv-loop μ-loop
 loop-less c = search needs
 
 loop-again : tie.Need-loop-again Inv-loop μ-loop
 loop-again c =
-    let turn = c .before .before .before .before in
-    let inv = turn .before .loop .inv in
-    let pre = turn .before .before .before .before .pre in
+    let turn = c .before .before in
+    let inv = turn .before .before .before .loop .inv in
+    let pre = turn .before .before .before .before .before .before .pre in
     let at = placed _ _ _ _ _ _ _ _ _ _ _ _ _ pre in (
       search needs,
       search needs,
       search needs,
-      both-step _ _ _ _ _ _ _ _ _ _ _ _ _ _ (omega (arith, pre .next)) (omega (arith, pre .last)) (inv .0) (omega arith) (inv .3)
-          (c .before .before .column-both .ensures),
+      both-join _ _ _ _ _ _ _ _ _ _ _ _ _ _ _ (omega (arith, pre .next)) (omega (arith, pre .last)) (inv .0) (search needs) (inv .3)
+          (turn .sweep-next .ensures .0),
     )
 
 same-length : tie.Need-same-length Inv-loop μ-loop
 same-length c = search needs
 
 returns : tie.Need-returns Inv-loop μ-loop
-returns c = let inv = c .before .loop .inv in both-end _ _ _ _ _ _ _ _ _ _ _ _ _ _ (inv .1) (search needs) (inv .3)
+returns c = search (needs, both-end)
 
 pub sweep-both-spec : {M : Type 1} → statement M
 sweep-both-spec =
-    tie.close
-    (tie.spec
-    Inv-loop
-    μ-loop
-    add-j
-    loop-holds
-    column-both-requires
-    add-j-2
-    loop-less
-    loop-again
-    same-length
-    returns)
+    tie.close (tie.spec Inv-loop μ-loop add-j loop-holds sweep-next-requires loop-less loop-again same-length returns)

@@ -1,0 +1,152 @@
+-- `pairs::four_singles` meets its contract: four columns, or none. Assumes nothing.
+use borrow.Author.Needs.{needs}
+use native.Mathlib.Omega.{arith}
+use Rattle.pairs.proofs.Sweeps.{both-kept, second-kept, both-none}
+use Rattle.pairs.proofs.Several.{four-columns, four-done}
+use Rattle.pairs.proofs.four_singles.Statement.{statement}
+use Rattle.pairs.proofs.four_singles.Tie as tie
+
+multiplier-before-requires : tie.Need-multiplier-before-requires
+multiplier-before-requires c κs =
+    let start = c .before .before in
+    let at = start .pre .1 in
+    both-kept (start .pre .0) _ (omega arith) (omega arith)
+
+multiplier-requires : tie.Need-multiplier-requires
+multiplier-requires c κs =
+    let start = c .before .before .before in
+    let at = start .pre .1 in
+    second-kept (start .pre .0) _ (omega arith) (omega arith)
+
+add-multiplier-before : tie.Need-add-multiplier-before
+add-multiplier-before c = search needs
+
+multiplier-before-requires-2 : tie.Need-multiplier-before-requires-2
+multiplier-before-requires-2 c κs =
+    let start = c .before .before .before .before in
+    let at = start .pre .1 in
+    both-kept (start .pre .0) _ (omega arith) (omega arith)
+
+add-multiplier : tie.Need-add-multiplier
+add-multiplier c = search needs
+
+multiplier-requires-2 : tie.Need-multiplier-requires-2
+multiplier-requires-2 c κs =
+    let start = c .before .before .before .before .before in
+    let at = start .pre .1 in
+    second-kept (start .pre .0) _ (omega arith) (omega arith)
+
+add-multiplier-before-2 : tie.Need-add-multiplier-before-2
+add-multiplier-before-2 c = search needs
+
+multiplier-before-requires-3 : tie.Need-multiplier-before-requires-3
+multiplier-before-requires-3 c κs =
+    let start = c .before .before .before .before .before .before in
+    let at = start .pre .1 in
+    both-kept (start .pre .0) _ (omega arith) (omega arith)
+
+add-multiplier-2 : tie.Need-add-multiplier-2
+add-multiplier-2 c = search needs
+
+multiplier-requires-3 : tie.Need-multiplier-requires-3
+multiplier-requires-3 c κs =
+    let start = c .before .before .before .before .before .before .before in
+    let at = start .pre .1 in
+    second-kept (start .pre .0) _ (omega arith) (omega arith)
+
+add-multiplier-before-3 : tie.Need-add-multiplier-before-3
+add-multiplier-before-3 c = search needs
+
+multiplier-before-requires-4 : tie.Need-multiplier-before-requires-4
+multiplier-before-requires-4 c κs =
+    let start = c .before .before .before .before .before .before .before .before in
+    let at = start .pre .1 in
+    both-kept (start .pre .0) _ (omega arith) (omega arith)
+
+add-multiplier-3 : tie.Need-add-multiplier-3
+add-multiplier-3 c = search needs
+
+multiplier-requires-4 : tie.Need-multiplier-requires-4
+multiplier-requires-4 c κs =
+    let start = c .before .before .before .before .before .before .before .before .before in
+    let at = start .pre .1 in
+    second-kept (start .pre .0) _ (omega arith) (omega arith)
+
+neither-zero-requires : tie.Need-neither-zero-requires
+neither-zero-requires c κs = search needs
+
+neither-zero-requires-2 : tie.Need-neither-zero-requires-2
+neither-zero-requires-2 c κs = search needs
+
+neither-zero-requires-3 : tie.Need-neither-zero-requires-3
+neither-zero-requires-3 c κs = search needs
+
+neither-zero-requires-4 : tie.Need-neither-zero-requires-4
+neither-zero-requires-4 c κs = search needs
+
+less-two-of-four-requires : tie.Need-less-two-of-four-requires
+less-two-of-four-requires c κs =
+    let read = c .before .before .before .before .before .before in
+    let start = read .before .before .before .before .before .before .before .before .before .before in
+    four-columns (start .pre .0) (start .pre .1 .0) (start .pre .1 .1)
+
+add-result : tie.Need-add-result
+add-result c =
+    let read = c .before .before .before .before .before .before .before .before .before in
+    let start = read .before .before .before .before .before .before .before .before .before .before in
+    let at = start .pre .1 in
+    search needs
+
+same-length : tie.Need-same-length
+same-length c = search needs
+
+returns : tie.Need-returns
+returns c =
+    let tested = c .before .before .before .before in
+    let d = tested .before in
+    let read = tested .before .before .before .before .before in
+    let start = read .before .before .before .before .before .before .before .before .before .before in (
+      four-done _ _ _ _ _ _ _ _ _ _ (start .pre .0 .next) (start .pre .0 .last) (start .pre .1 .0) (start .pre .1 .1)
+          (read .before .before .before .before .before .before .before .multiplier-before .ensures)
+          (read .before .before .before .before .before .before .multiplier .ensures)
+          (read .before .before .before .before .before .multiplier-before2 .ensures) (read .before .before .before .before .multiplier2 .ensures)
+          (read .before .before .before .multiplier-before3 .ensures) (read .before .before .multiplier3 .ensures)
+          (read .before .multiplier-before4 .ensures) (read .multiplier4 .ensures)
+          (d .before .before .before .neither-zero .ensures) (d .before .before .neither-zero2 .ensures) (d .before .neither-zero3 .ensures)
+          (d .neither-zero4 .ensures) (tested .if1 .taken) (c .before .before .less-two-of-four .ensures),
+      (omega arith, start .pre .1 .1),
+    )
+
+returns-2 : tie.Need-returns-2
+returns-2 c =
+    let start = c .before .before .before .before .before .before .before .before .before .before .before .before .before .before .before in
+    let at = start .pre .1 in
+    (both-none _ _ _ _ _ _ _ _ _ _ _, (omega arith, omega arith))
+
+pub four-singles-spec : {M : Type 1} → statement M
+four-singles-spec =
+    tie.close
+    (tie.spec
+    multiplier-before-requires
+    multiplier-requires
+    add-multiplier-before
+    multiplier-before-requires-2
+    add-multiplier
+    multiplier-requires-2
+    add-multiplier-before-2
+    multiplier-before-requires-3
+    add-multiplier-2
+    multiplier-requires-3
+    add-multiplier-before-3
+    multiplier-before-requires-4
+    add-multiplier-3
+    multiplier-requires-4
+    neither-zero-requires
+    neither-zero-requires-2
+    neither-zero-requires-3
+    neither-zero-requires-4
+    less-two-of-four-requires
+    add-result
+    same-length
+    returns
+    returns-2)

@@ -1,0 +1,122 @@
+-- `pairs::single_block_two` meets its contract: two columns, or none. Assumes nothing.
+use borrow.Author.Needs.{needs}
+use native.Mathlib.Omega.{arith}
+use Rattle.pairs.proofs.Sweeps.{placed, both-kept, second-kept, second-kept-next, both-none}
+use Rattle.pairs.proofs.Several.{single-block-columns, single-block-done}
+use Rattle.pairs.proofs.single_block_two.Statement.{statement}
+use Rattle.pairs.proofs.single_block_two.Tie as tie
+
+multiplier-before-requires : tie.Need-multiplier-before-requires
+multiplier-before-requires c κs =
+    let start = c .before .before in
+    let at = start .pre .1 in
+    both-kept (start .pre .0) _ (omega arith) (omega arith)
+
+multiplier-requires : tie.Need-multiplier-requires
+multiplier-requires c κs =
+    let start = c .before .before .before in
+    let at = start .pre .1 in
+    second-kept (start .pre .0) _ (omega arith) (omega arith)
+
+add-multiplier : tie.Need-add-multiplier
+add-multiplier c =
+    let start = c .before .before .before .before in
+    let at = placed _ _ _ _ _ _ _ _ _ _ _ _ _ (start .pre .0) in
+    search needs
+
+multiplier-requires-2 : tie.Need-multiplier-requires-2
+multiplier-requires-2 c κs =
+    let start = c .before .before .before .before in
+    let at = start .pre .1 in
+    second-kept-next (start .pre .0) _ (omega arith) (omega arith)
+
+add-multiplier-before : tie.Need-add-multiplier-before
+add-multiplier-before c = search needs
+
+multiplier-before-requires-2 : tie.Need-multiplier-before-requires-2
+multiplier-before-requires-2 c κs =
+    let start = c .before .before .before .before .before in
+    let at = start .pre .1 in
+    both-kept (start .pre .0) _ (omega arith) (omega arith)
+
+add-multiplier-2 : tie.Need-add-multiplier-2
+add-multiplier-2 c = search needs
+
+multiplier-requires-3 : tie.Need-multiplier-requires-3
+multiplier-requires-3 c κs =
+    let start = c .before .before .before .before .before .before in
+    let at = start .pre .1 in
+    second-kept (start .pre .0) _ (omega arith) (omega arith)
+
+add-multiplier-3 : tie.Need-add-multiplier-3
+add-multiplier-3 c = search needs
+
+add-multiplier-4 : tie.Need-add-multiplier-4
+add-multiplier-4 c =
+    let start = c .before .before .before .before .before .before .before in
+    let at = placed _ _ _ _ _ _ _ _ _ _ _ _ _ (start .pre .0) in
+    search needs
+
+multiplier-requires-4 : tie.Need-multiplier-requires-4
+multiplier-requires-4 c κs =
+    let start = c .before .before .before .before .before .before .before in
+    let at = start .pre .1 in
+    second-kept-next (start .pre .0) _ (omega arith) (omega arith)
+
+neither-zero-requires : tie.Need-neither-zero-requires
+neither-zero-requires c κs = search needs
+
+less-three-of-two-requires : tie.Need-less-three-of-two-requires
+less-three-of-two-requires c κs =
+    let start = c .before .before .before .before .before .before .before .before .before .before .before in
+    single-block-columns (start .pre .0) (start .pre .1 .0) (start .pre .1 .1)
+
+add-result : tie.Need-add-result
+add-result c =
+    let start = c .before .before .before .before .before .before .before .before .before .before .before .before .before .before in
+    let at = start .pre .1 in
+    search needs
+
+same-length : tie.Need-same-length
+same-length c = search needs
+
+returns : tie.Need-returns
+returns c =
+    let tested = c .before .before .before .before in
+    let read = tested .before .before in
+    let start = read .before .before .before .before .before .before .before .before in (
+      single-block-done _ _ _ _ _ _ _ _ _ _ (start .pre .0 .next) (start .pre .0 .last) (start .pre .1 .0) (start .pre .1 .1)
+          (read .before .before .before .before .before .multiplier-before .ensures) (read .before .before .before .before .multiplier .ensures)
+          (read .before .before .before .multiplier2 .ensures) (read .before .before .multiplier-before2 .ensures)
+          (read .before .multiplier3 .ensures) (read .multiplier4 .ensures) (tested .before .neither-zero .ensures) (tested .if1 .taken)
+          (c .before .before .less-three-of-two .ensures),
+      (omega arith, start .pre .1 .1),
+    )
+
+returns-2 : tie.Need-returns-2
+returns-2 c =
+    let start = c .before .before .before .before .before .before .before .before .before .before in
+    let at = start .pre .1 in
+    (both-none _ _ _ _ _ _ _ _ _ _ _, (omega arith, omega arith))
+
+pub single-block-two-spec : {M : Type 1} → statement M
+single-block-two-spec =
+    tie.close
+    (tie.spec
+    multiplier-before-requires
+    multiplier-requires
+    add-multiplier
+    multiplier-requires-2
+    add-multiplier-before
+    multiplier-before-requires-2
+    add-multiplier-2
+    multiplier-requires-3
+    add-multiplier-3
+    add-multiplier-4
+    multiplier-requires-4
+    neither-zero-requires
+    less-three-of-two-requires
+    add-result
+    same-length
+    returns
+    returns-2)

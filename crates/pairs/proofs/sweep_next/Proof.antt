@@ -1,0 +1,47 @@
+-- `pairs::sweep_next` meets its contract: several columns, or one. Assumes nothing.
+use native.Mathlib.Omega.{arith}
+use borrow.Author.Needs.{needs}
+use Rattle.pairs.proofs.Several.{both-more}
+use Rattle.pairs.proofs.sweep_next.Statement.{statement}
+use Rattle.pairs.proofs.sweep_next.Tie as tie
+
+several-next-requires : tie.Need-several-next-requires
+several-next-requires c κs = search needs
+
+same-length : tie.Need-same-length
+same-length c = search needs
+
+returns : tie.Need-returns
+returns c = search needs
+
+column-both-requires : tie.Need-column-both-requires
+column-both-requires c κs = search needs
+
+add-result : tie.Need-add-result
+add-result c = search needs
+
+same-length-2 : tie.Need-same-length-2
+same-length-2 c = search needs
+
+returns-2 : tie.Need-returns-2
+returns-2 c =
+    let left = c .before .before .before .before in
+    let passed = left .before .before .before in
+    let start = passed .before .before .before .before in
+    let at = start .pre .1 in (
+      both-more _ _ _ _ _ _ _ _ _ _ _ _ _ _ (start .pre .0 .next) (start .pre .0 .last) (start .pre .1 .0) (omega arith)
+          (passed .several-next .ensures .1 .0) (search needs) (passed .several-next .ensures .0) (c .before .before .column-both .ensures),
+      (search needs, search needs),
+    )
+
+pub sweep-next-spec : {M : Type 1} → statement M
+sweep-next-spec =
+    tie.close
+    (tie.spec
+    several-next-requires
+    same-length
+    returns
+    column-both-requires
+    add-result
+    same-length-2
+    returns-2)

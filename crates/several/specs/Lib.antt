@@ -1,0 +1,2 @@
+-- What several later columns become in one pass.
+pub mod Several
