@@ -10,14 +10,15 @@ use borrow.Rule.Slice.PartMut.{midOf}
 use lib.Dec.{eqb}
 use lib.ListN.{length, getD}
 use lib.Ieee.{Float, nan}
-use Rattle.model.specs.Scalar.{isFinite}
+use Rattle.model.specs.Scalar.{_⊕_, isFinite}
 use Rattle.model.specs.Matrix.{Row, Mat, view, vec}
 use Rattle.model.specs.Answer.{Check, sound, stop, orElse}
 use Rattle.model.specs.Factor.{everyFrom, columnCheck, columnsCheck, markOf}
 use Rattle.grid.proofs.Laws.{test, view-at, col-in, off-in, vec-part}
 use Rattle.grid.proofs.Parts.{column-at}
 use Rattle.scan.specs.Greatest.{DownPre}
-use Rattle.scan.specs.Finite.{markedBy, finiteFrom, columnFinite, firstRow, KnownFinite}
+use Rattle.scan.specs.Finite.{markedBy, finiteFrom, evens, sumFinite, columnFinite, firstRow, KnownFinite}
+use Rattle.scan.proofs.Sums.{both-terms}
 use Rattle.scan.proofs.Laws.{left, none, and-l, and-r, every-last, every-split, every-same, every-at, every-of}
 
 -- ---- a mark, the numbers of a list, and of a column
@@ -64,21 +65,45 @@ column-lent xs n j lo hi b u h e =
 abbrev sixteens : List Float → ℕ
 sixteens xs = length xs / 16 * 16
 
-pub known-no : (xs : List Float) → KnownFinite false xs
-known-no xs = record { all = λ e. absurd (false≢true e) }
+pub sum-no : (xs : List Float) (b : Bool) → b ≡ isFinite (evens (vec xs) 0 (sixteens xs / 16) ⊕ evens (vec xs) 1 (sixteens xs / 16)) → not b ≡ true
+    → false ≡ sumFinite xs
+unfolding sumFinite
+sum-no xs b e t =
+    let count : sixteens xs / 16 ≡ length xs / 16 = omega arith in
+    let no : isFinite (evens (vec xs) 0 (length xs / 16) ⊕ evens (vec xs) 1 (length xs / 16)) ≡ false = sym (e ∙ rw count) ∙ not-true b t in
+    sym (rw no)
 
-pub known-rest : (xs : List Float) (b r : Bool) → (b ≡ true → finiteFrom (vec xs) 0 (sixteens xs) ≡ true) → not b ≡ false
-    → r ≡ finiteFrom (vec (midOf (sixteens xs) (length xs - sixteens xs) xs)) 0 (length xs - sixteens xs) → KnownFinite r xs
-unfolding finiteFrom
-known-rest xs b r e t p =
+pub sum-rest : (xs : List Float) (b r : Bool) → b ≡ isFinite (evens (vec xs) 0 (sixteens xs / 16) ⊕ evens (vec xs) 1 (sixteens xs / 16)) → not b ≡ false
+    → r ≡ finiteFrom (vec (midOf (sixteens xs) (length xs - sixteens xs) xs)) 0 (length xs - sixteens xs) → r ≡ sumFinite xs
+unfolding sumFinite finiteFrom
+sum-rest xs b r e t p =
     let m : ℕ = sixteens xs in
     let n : ℕ = length xs in
     let f : ℕ → Bool = λ k. isFinite (vec xs k) in
-    let rest : everyFrom f (n - m) (0 + m) ≡ r =
-    every-same f (λ k. isFinite (vec (midOf m (n - m) xs) k)) (n - m) (0 + m) 0
-    (λ k l. ap isFinite (ap (vec xs) (omega arith) ∙ sym (vec-part m n xs k l) ∙ ap (vec (midOf m (n - m) xs)) (omega arith))) ∙ sym p in
-    let all : everyFrom f n 0 ≡ everyFrom f m 0 && everyFrom f (n - m) (0 + m) = ap (λ (k : ℕ). everyFrom f k 0) (omega arith) ∙ every-split f m (n - m) 0 in
-    record { all = λ y. all ∙ rw (e (not-false b t), rest, y) }
+    let count : m / 16 ≡ length xs / 16 = omega arith in
+    let yes : isFinite (evens (vec xs) 0 (length xs / 16) ⊕ evens (vec xs) 1 (length xs / 16)) ≡ true = sym (e ∙ rw count) ∙ not-false b t in
+    let rest : everyFrom f (n - m) m ≡ r =
+    every-same f (λ k. isFinite (vec (midOf m (n - m) xs) k)) (n - m) m 0
+    (λ k l. ap isFinite (sym (vec-part m n xs k l) ∙ ap (vec (midOf m (n - m) xs)) (omega arith))) ∙ sym p in
+    sym (rw (yes, rest))
+
+-- where the pass answers yes, every number is finite
+pub sum-known : (xs : List Float) (b : Bool) → b ≡ sumFinite xs → KnownFinite b xs
+unfolding sumFinite finiteFrom
+sum-known xs b e =
+    let m : ℕ = length xs / 16 * 16 in
+    let f : ℕ → Bool = λ k. isFinite (vec xs k) in
+    let sums : Bool = isFinite (evens (vec xs) 0 (length xs / 16) ⊕ evens (vec xs) 1 (length xs / 16)) in
+    let after : Bool = everyFrom f (length xs - m) m in
+    let parts : everyFrom f (length xs) 0 ≡ everyFrom f m 0 && everyFrom f (length xs - m) (0 + m) =
+    ap (λ (k : ℕ). everyFrom f k 0) {y = m + (length xs - m)} (omega arith) ∙ every-split f m (length xs - m) 0 in
+    record {
+      all =
+          λ y.
+          let first : everyFrom f m 0 ≡ true = both-terms (vec xs) (length xs / 16) (and-l sums after (sym e ∙ y)) in
+          let rest : everyFrom f (length xs - m) (0 + m) ≡ true = ap (everyFrom f (length xs - m)) {y = m} (omega arith) ∙ and-r sums after (sym e ∙ y) in
+          parts ∙ rw (first, rest);
+    }
 
 pub entry-finite : (xs : List Float) (b : Bool) (c n i j : ℕ) → length xs ≡ n * c → KnownFinite b xs → b ≡ true → i < n → j < c
     → isFinite (view n xs i j) ≡ true
@@ -128,8 +153,8 @@ columns-sound a n c (suc k) j f h =
     every-of (λ i. isFinite (a i j)) (n - j) j (λ i l. f (j + i) j (omega arith) (omega arith)) in
     rw (column-sound a j (n - j) j finite) (columns-sound a n c k (j + 1) f (omega arith))
 
-pub panel-sound : (xs : List Float) (n c : ℕ) (b : Bool) → length xs ≡ n * c → KnownFinite b xs → b ≡ true → sound ≡ columnsCheck (view n xs) n c 0
-panel-sound xs n c b l w t = sym (columns-sound (view n xs) n c c 0 (λ p q. entry-finite xs b c n p q l w t) (omega arith))
+pub panel-sound : (xs : List Float) (n c : ℕ) (b : Bool) → length xs ≡ n * c → b ≡ sumFinite xs → b ≡ true → sound ≡ columnsCheck (view n xs) n c 0
+panel-sound xs n c b l e t = sym (columns-sound (view n xs) n c c 0 (λ p q. entry-finite xs b c n p q l (sum-known xs b e) t) (omega arith))
 
 -- the check whole, C, from row i of column j on
 abbrev pub fromHere : Mat → ℕ → ℕ → ℕ → ℕ → Check

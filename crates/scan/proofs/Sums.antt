@@ -2,14 +2,16 @@
 use Prim.Native.Nat.{ℕ, zero, suc, _+_, _-_, _*_, _/_, _%_, _<_, _≤_}
 use mathlib.Core.Path.{_≡_, refl, sym, _∙_, ap}
 use mathlib.Core.Bool.{Bool, true, false}
+use native.Mathlib.Nat.{le-antisymm}
 use native.Mathlib.Omega.{arith}
 use borrow.Author.Tests.{ltb-true, ltb-false, eqb-true, eqb-false}
 use lib.Dec.{ltb, eqb}
 use lib.Ieee.{Float, nan, inf, fin, add}
-use Rattle.model.specs.Scalar.{_⊕_, isFinite}
+use Rattle.model.specs.Scalar.{_⊕_, zeroF, isFinite}
+use Rattle.model.specs.Factor.{everyFrom}
 use Rattle.model.specs.Matrix.{Row}
 use Rattle.grid.proofs.Laws.{test}
-use Rattle.scan.specs.Finite.{finiteFrom, everySecond}
+use Rattle.scan.specs.Finite.{everySecond, evens}
 use Rattle.scan.proofs.Laws.{every-of}
 
 -- ---- two terms
@@ -52,40 +54,47 @@ eight-terms f i e (suc (suc (suc (suc (suc (suc zero)))))) h = plus-l _ _ (plus-
 eight-terms f i e (suc (suc (suc (suc (suc (suc (suc zero))))))) h = plus-r _ _ (plus-r _ _ (plus-r _ _ e))
 eight-terms f i e (suc (suc (suc (suc (suc (suc (suc (suc u)))))))) h = absurd (omega arith)
 
--- ---- every second number of a list
+-- ---- the sums of a list's sixteens
 
--- where the sum s is finite, so are the numbers at p, p + 2, p + 4, .. before i
-unfoldable pub Told : Float → Row → ℕ → ℕ → Type 0
-Told s f p i = isFinite s ≡ true → (k : ℕ) → 2 * k + p < i → isFinite (f (2 * k + p)) ≡ true
-
-pub told-none : (s : Float) (f : Row) (p : ℕ) → Told s f p 0
-unfolding Told
-told-none s f p e k h = absurd (omega arith)
-
--- eight terms more
-told-more : (f : Row) (s y : Float) (p i q : ℕ) → q ≡ i + p → p < 2 → i % 16 ≡ 0 → Told s f p i → y ≡ everySecond f q
-    → Told (s ⊕ y) f p (i + 16)
-unfolding Told
-told-more f s y p i q a l t w d e k h =
-    let terms : isFinite (everySecond f (i + p)) ≡ true = sym (ap isFinite (d ∙ ap (everySecond f) a)) ∙ plus-r s y e in
-    test (ltb (2 * k + p) i)
-    (λ b. w (plus-l s y e) k (ltb-true (2 * k + p) i b))
-    (λ b. ap (λ (n : ℕ). isFinite (f n)) (omega (arith, ltb-false (2 * k + p) i b))
-    ∙ eight-terms f (i + p) terms (k - i / 2) (omega (arith, ltb-false (2 * k + p) i b)))
-
-pub told-even : (f : Row) (s y : Float) (i : ℕ) → i % 16 ≡ 0 → Told s f 0 i → y ≡ everySecond f i → Told (s ⊕ y) f 0 (i + 16)
-told-even f s y i t w d = told-more f s y 0 i i (omega arith) (omega arith) t w d
-
-pub told-odd : (f : Row) (s y : Float) (i : ℕ) → i % 16 ≡ 0 → Told s f 1 i → y ≡ everySecond f (i + 1) → Told (s ⊕ y) f 1 (i + 16)
-told-odd f s y i t w d = told-more f s y 1 i (i + 1) (omega arith) (omega arith) t w d
+-- a term of a sum that is finite
+evens-terms : (f : Row) (p n : ℕ) → isFinite (evens f p n) ≡ true → (k : ℕ) → k < 8 * n → isFinite (f (2 * k + p)) ≡ true
+unfolding evens
+evens-terms f p zero e k h = absurd (omega arith)
+evens-terms f p (suc n) e k h =
+    test (ltb k (8 * n))
+    (λ b. evens-terms f p n (plus-l _ _ e) k (ltb-true k (8 * n) b))
+    (λ b. ap (λ (i : ℕ). isFinite (f i)) (omega (arith, ltb-false k (8 * n) b))
+    ∙ eight-terms f (16 * n + p) (plus-r _ _ e) (k - 8 * n) (omega (arith, ltb-false k (8 * n) b)))
 
 -- both sums
-pub told-end : (f : Row) (i m : ℕ) (s t : Float) (r : Bool) → i ≤ m → m ≤ i → Told s f 0 i → Told t f 1 i → r ≡ isFinite (s ⊕ t)
-    → r ≡ true → finiteFrom f 0 m ≡ true
-unfolding Told finiteFrom
-told-end f i m s t r h l a b e y =
-    let sum : isFinite (s ⊕ t) ≡ true = sym e ∙ y in
-    every-of (λ k. isFinite (f k)) m 0 (λ k g.
+pub both-terms : (f : Row) (n : ℕ) → isFinite (evens f 0 n ⊕ evens f 1 n) ≡ true → everyFrom (λ k. isFinite (f k)) (n * 16) 0 ≡ true
+both-terms f n e =
+    every-of (λ k. isFinite (f k)) (n * 16) 0 (λ k g.
     test (eqb (k % 2) 0)
-    (λ p. ap (λ (n : ℕ). isFinite (f n)) (omega (arith, eqb-true (k % 2) 0 p)) ∙ a (plus-l s t sum) (k / 2) (omega (arith, eqb-true (k % 2) 0 p)))
-    (λ p. ap (λ (n : ℕ). isFinite (f n)) (omega (arith, eqb-false (k % 2) 0 p)) ∙ b (plus-r s t sum) (k / 2) (omega (arith, eqb-false (k % 2) 0 p))))
+    (λ b. ap (λ (i : ℕ). isFinite (f i)) (omega (arith, eqb-true (k % 2) 0 b))
+    ∙ evens-terms f 0 n (plus-l _ _ e) (k / 2) (omega (arith, eqb-true (k % 2) 0 b)))
+    (λ b. ap (λ (i : ℕ). isFinite (f i)) (omega (arith, eqb-false (k % 2) 0 b))
+    ∙ evens-terms f 1 n (plus-r _ _ e) (k / 2) (omega (arith, eqb-false (k % 2) 0 b))))
+
+-- ---- a turn of the loop, and its end
+
+pub evens-none : (f : Row) (p : ℕ) → zeroF ≡ evens f p (0 / 16)
+unfolding evens
+evens-none f p = refl
+
+evens-more : (f : Row) (s y : Float) (p i q : ℕ) → q ≡ i + p → i % 16 ≡ 0 → s ≡ evens f p (i / 16) → y ≡ everySecond f q → s ⊕ y ≡ evens f p ((i + 16) / 16)
+unfolding evens
+evens-more f s y p i q h t e d =
+    let next : (i + 16) / 16 ≡ suc (i / 16) = omega arith in
+    let at : q ≡ 16 * (i / 16) + p = omega arith in
+    rw (next, e, d, at)
+
+pub evens-even : (f : Row) (s y : Float) (i : ℕ) → i % 16 ≡ 0 → s ≡ evens f 0 (i / 16) → y ≡ everySecond f i → s ⊕ y ≡ evens f 0 ((i + 16) / 16)
+evens-even f s y i t e d = evens-more f s y 0 i i (omega arith) t e d
+
+pub evens-odd : (f : Row) (s y : Float) (i : ℕ) → i % 16 ≡ 0 → s ≡ evens f 1 (i / 16) → y ≡ everySecond f (i + 1) → s ⊕ y ≡ evens f 1 ((i + 16) / 16)
+evens-odd f s y i t e d = evens-more f s y 1 i (i + 1) (omega arith) t e d
+
+pub evens-end : (f : Row) (i m : ℕ) (s t : Float) (r : Bool) → i ≤ m → m ≤ i → s ≡ evens f 0 (i / 16) → t ≡ evens f 1 (i / 16) → r ≡ isFinite (s ⊕ t)
+    → r ≡ isFinite (evens f 0 (m / 16) ⊕ evens f 1 (m / 16))
+evens-end f i m s t r h l a b e = let same : i ≡ m = le-antisymm h l in e ∙ rw (a, b, same)

@@ -1,15 +1,14 @@
 // Scans that only read a panel: the greatest square, the first number that is not finite, the marks of the tail.
 // Each is equal to its definition in crates/model, not-a-number, ties and signed zeros included.
 ghost use mathlib.Core.Path.{_≡_};
-ghost use mathlib.Core.Bool.{true};
-ghost use Prim.Native.Nat.{_+_, _-_, _<_, _≤_};
+ghost use Prim.Native.Nat.{_+_, _-_, _/_, _<_, _≤_};
 ghost use lib.ListN.{length};
-ghost use Rattle.model.specs.Scalar.{squareOf};
+ghost use Rattle.model.specs.Scalar.{_⊕_, squareOf, isFinite};
 ghost use Rattle.model.specs.Matrix.{view, vec};
 ghost use Rattle.model.specs.Choice.{columnGreatest, rowGreatest};
 ghost use Rattle.model.specs.Factor.{columnsCheck};
 ghost use Rattle.scan.specs.Finite.{markedBy, finiteFrom, columnFinite, firstRow, checkOf};
-ghost use Rattle.scan.specs.Finite.{everySecond, KnownFinite, SixteensPre, PanelPre};
+ghost use Rattle.scan.specs.Finite.{everySecond, evens, sumFinite, KnownFinite, SixteensPre, PanelPre};
 ghost use Rattle.scan.specs.Marks.{partMarked, marked, tailMarks, ColumnMarksPre, TailColumnPre, MarksPre};
 ghost use Rattle.scan.specs.Greatest.{found, better, greatestDown, greatestAlong};
 ghost use Rattle.scan.specs.Greatest.{DownPre, AlongPre, ColumnPre, RowPre, Within};
@@ -131,7 +130,7 @@ fn every_second(xs: &[f64], i: usize) -> f64
 // apart, so that the machine adds two at a time.
 fn sum_finite(xs: &[f64], m: usize) -> bool
     requires { ⌜ SixteensPre m (length (now xs)) ⌝ }
-    ensures { λ r. ⌜ (r ≡ true → finiteFrom (vec (now (xs .entry))) 0 m ≡ true) ⌝ }
+    ensures { λ r. ⌜ r ≡ isFinite (evens (vec (now (xs .entry))) 0 (m / 16) ⊕ evens (vec (now (xs .entry))) 1 (m / 16)) ⌝ }
 {
     let mut s = 0.0;
     let mut t = 0.0;
@@ -144,10 +143,10 @@ fn sum_finite(xs: &[f64], m: usize) -> bool
     scalar::is_finite(s + t)
 }
 
-// Whether all numbers are known to be finite, by one pass over them. False says nothing: a panel has upper positions,
-// which do not count, and the sum of finite numbers can overflow.
+// Whether all numbers are known to be finite, by one pass over them: then they are (`sum-known` of proofs/Finite.antt).
+// False says nothing of them: a panel has upper positions, which do not count, and the sum of finite numbers can overflow.
 pub fn known_finite(xs: &[f64]) -> bool
-    ensures { λ r. ⌜ KnownFinite r (now (xs .entry)) ⌝ }
+    ensures { λ r. ⌜ r ≡ sumFinite (now (xs .entry)) ⌝ }
 {
     let n = xs.len();
     let m = n / 16 * 16;

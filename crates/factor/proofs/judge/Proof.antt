@@ -1,5 +1,6 @@
 -- `factor::judge` meets its contract: refusal 9 leaves zeros, else the call is accepted. Assumes nothing.
 use Rattle.model.specs.Factor.{Buffers, Outcome}
+use Rattle.scan.proofs.Finite.{sum-known}
 use Rattle.finish.specs.Buffers.{buffersOf}
 use Rattle.factor.specs.Judge.{outcomeOf}
 use Rattle.factor.proofs.Judged.{result-pre, judge-refused, judge-accepted}
@@ -61,7 +62,7 @@ known-finite-requires : tie.Need-known-finite-requires
 known-finite-requires c κs = search needs
 
 first-unsound-requires : tie.Need-first-unsound-requires
-first-unsound-requires c κs = (result-pre _ _ _ _ _ _ _ (entry c .pre), search needs)
+first-unsound-requires c κs = (result-pre _ _ _ _ _ _ _ (entry c .pre), search (needs, sum-known))
 
 enum-known-found : tie.Need-enum-known-found
 enum-known-found c = search needs
@@ -110,7 +111,7 @@ enum-told : tie.Need-enum-told
 enum-told c = search needs
 
 accept-requires : tie.Need-accept-requires
-accept-requires c κs = search needs
+accept-requires c κs = search (needs, sum-known)
 
 same-length-10 : tie.Need-same-length-10
 same-length-10 c = search needs

@@ -1,7 +1,7 @@
 -- `scan::known_finite` meets its contract: the sixteens first, then what is left. Assumes nothing.
 use borrow.Author.Needs.{needs}
 use native.Mathlib.Omega.{arith}
-use Rattle.scan.proofs.Finite.{known-no, known-rest}
+use Rattle.scan.proofs.Finite.{sum-no, sum-rest}
 use Rattle.scan.proofs.known_finite.Statement.{statement}
 use Rattle.scan.proofs.known_finite.Tie as tie
 
@@ -12,7 +12,7 @@ sum-finite-requires : tie.Need-sum-finite-requires
 sum-finite-requires c κs = search needs
 
 returns : tie.Need-returns
-returns c = search (needs, known-no)
+returns c = search (needs, sum-no)
 
 mul-all-finite : tie.Need-mul-all-finite
 mul-all-finite c = search needs
@@ -33,7 +33,7 @@ all-finite-requires : tie.Need-all-finite-requires
 all-finite-requires c κs = search needs
 
 returns-2 : tie.Need-returns-2
-returns-2 c = search (needs, known-rest)
+returns-2 c = search (needs, sum-rest)
 
 pub known-finite-spec : {M : Type 1} → statement M
 known-finite-spec =
