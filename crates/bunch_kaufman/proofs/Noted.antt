@@ -50,6 +50,10 @@ places-swap xs p q h l =
     at-q : getD xs p 0 ≡ getD xs (cond (eqb q p) q p) (cond (eqb q p) q p)
     at-q = test (eqb q p) (λ z. rw (z, eqb-true q p z) (any-default xs p 0 p h)) (λ z. rw z (any-default xs p 0 p h))
 
+-- two exchanges, one after the other
+pub swapped-twice : (f g h : ℕ → ℕ) (k p e kp : ℕ) → g ≡ swapped f k p → h ≡ swapped g e kp → h ≡ swapped (swapped f k p) e kp
+swapped-twice f g h k p e kp x y = y ∙ rw x
+
 -- ---- the record
 
 pub noted-is : (s : Pivots) (d′ sub′ am′ : Row) (bl′ li′ or′ pa′ : ℕ → ℕ) (k e b : ℕ) (v : Pivot) → b ≡ byteOf (v .two)
@@ -58,8 +62,8 @@ pub noted-is : (s : Pivots) (d′ sub′ am′ : Row) (bl′ li′ or′ pa′ :
     → am′ ≡ put (put (s .amounts) e (v .amount)) k (v .amount)
     → bl′ ≡ put (put (s .blocks) e 0) k b
     → li′ ≡ put (put (s .lifts) e (v .lifted)) k (v .lifted)
-    → or′ ≡ swapped (s .order) e (v .kp)
-    → pa′ ≡ put (s .partners) k (v .kp)
+    → or′ ≡ swapped (swapped (s .order) k (v .p)) e (v .kp)
+    → pa′ ≡ put (put (s .partners) e (v .p)) k (v .kp)
     → record { d = d′; sub = sub′; amounts = am′; blocks = bl′; lifts = li′; order = or′; partners = pa′ } ≡ noted s k e v
 unfolding noted
 noted-is s d′ sub′ am′ bl′ li′ or′ pa′ k e b v eb h1 h2 h3 h4 h5 h6 h7 = rw (h1, h2, h3, h4, h5, h6, h7, eb)

@@ -100,7 +100,7 @@ took-in ke k T v g e = subst (λ (u : Taken). TakenIn ke k u) e g
 pub note-pre : {ke k e ld ls la lb ll lo lp ld₀ ls₀ la₀ lb₀ ll₀ lo₀ lp₀ : ℕ} {T : Taken} {v : Pivot}
     → TakenIn ke k T → T ≡ Took v → e ≡ lastOf k (v .two) → NotesPre ke ld₀ ls₀ la₀ lb₀ ll₀ lo₀ lp₀
     → ld ≡ ld₀ → ls ≡ ls₀ → la ≡ la₀ → lb ≡ lb₀ → ll ≡ ll₀ → lo ≡ lo₀ → lp ≡ lp₀
-    → NotePre k e (v .kp) ld ls la lb ll lo lp
+    → NotePre k e (v .p) (v .kp) ld ls la lb ll lo lp
 note-pre {ke} {k} {T = T} {v = v} g z l h e1 e2 e3 e4 e5 e6 e7 =
     let w = took-in ke k T v g z in
     let m = last-ge k (v .two) in
@@ -116,6 +116,7 @@ note-pre {ke} {k} {T = T} {v = v} g z l h e1 e2 e3 e4 e5 e6 e7 =
       order = omega (arith, h .order);
       partners = omega (arith, h .partners);
       row = omega (arith, h .order);
+      first = omega (arith, h .order, w .first);
     }
 
 pub rounds-fit : (ke k r : ℕ) (T : Taken) (v : Pivot) → TakenIn ke k T → T ≡ Took v → r ≤ 64 * k → k < ke → ke ≤ 128 → Fits w64 (r + v .rounds)

@@ -8,7 +8,7 @@ use Rattle.model.specs.Scalar.{zeroF}
 use Rattle.model.specs.Matrix.{Mat, exchanged}
 use Rattle.model.specs.Choice as choice
 use Rattle.model.specs.Step.{blockOf}
-use Rattle.model.specs.Head.{settledOne, settledTwo, headOne, headTwo, keptOne, keptTwo, Tried, afterOne, afterTwo, tryBy, tryOf}
+use Rattle.model.specs.Head.{settledOne, settledTwo, headOne, headTwo, keptOne, keptTwo, Tried, afterOne, afterTwo, tryBlock, tryBy, tryOf}
 use Rattle.model.specs.declared.Mode.{Mode}
 use Rattle.model.specs.declared.Mode.the-variants.{Fail, Lift}
 use Rattle.model.specs.declared.Block.{Block as Numbers}
@@ -17,6 +17,7 @@ use Rattle.model.specs.declared.Refusal.the-variants.{ZeroPivot, Rounds}
 use Rattle.model.proofs.Bounds.{Good, try-good}
 use Rattle.grid.specs.Grid.{In}
 use Rattle.grid.proofs.Laws.{in-panel}
+use Rattle.scan.specs.Greatest.{Within}
 use Rattle.rule.specs.Answers.{chosenIs, ChosenWithin, settledOneIs, settledTwoIs}
 use Rattle.rule.specs.declared.Choice.{Choice}
 use Rattle.rule.specs.declared.Choice.the-variants.{ZeroColumn, Single, Block}
@@ -55,7 +56,7 @@ single-stop ke k kp A M B N mode x S e s z = single-by ke (k .0) kp A M mode x S
 pub single-took : (ke k kp : ℕ) (A M B B′ M′ : Mat) (mode : Mode) (x d amount : Float) (lifted : ℕ) (S : one.OneSettled)
     → x ≡ A kp kp → settledOneIs S ≡ settledOne mode x → S ≡ one.the-variants.Number d lifted amount → B ≡ exchanged k kp ke A
     → B′ ≡ headOne ke k d B → M′ ≡ keptOne ke k d B M
-    → tried (Took (record { kp = kp; two = false; d11 = d; d21 = zeroF; d22 = zeroF; lifted = lifted; amount = amount; rounds = 0 })) B′ M′
+    → tried (Took (record { p = k; kp = kp; two = false; d11 = d; d21 = zeroF; d22 = zeroF; lifted = lifted; amount = amount; rounds = 0 })) B′ M′
     ≡ singleOf ke A M mode k kp
 unfolding tried
 single-took ke k kp A M B B′ M′ mode x d amount lifted S e s z b b′ m′ =
@@ -63,32 +64,32 @@ single-took ke k kp A M B B′ M′ mode x d amount lifted S e s z b b′ m′ =
 
 -- ---- a block: B is the matrix exchanged, b its block, S the settlement, B′ and M′ what is left
 
-pair-by : (ke k kp limit : ℕ) (A M B : Mat) (mode : Mode) (b : Numbers) (S o : two.TwoSettled) → B ≡ exchanged (k + 1) kp ke A → b ≡ blockIn B k
-    → settledTwoIs S ≡ settledTwo mode limit b → S ≡ o → afterTwo ke A M k kp (settledTwoIs o) ≡ pairOf ke A M mode limit k kp
+pair-by : (ke k p kp limit : ℕ) (A M B : Mat) (mode : Mode) (b : Numbers) (S o : two.TwoSettled) → B ≡ exchanged (k + 1) kp ke A → b ≡ blockIn B k
+    → settledTwoIs S ≡ settledTwo mode limit b → S ≡ o → afterTwo ke A M k p kp (settledTwoIs o) ≡ pairOf ke A M mode limit k p kp
 unfolding pairOf
-pair-by ke k kp limit A M B mode b S o x e s z =
-    ap (afterTwo ke A M k kp) (ap settledTwoIs (sym z) ∙ s ∙ ap (settledTwo mode limit) (e ∙ ap (λ (P : Mat). blockIn P k) x))
+pair-by ke k p kp limit A M B mode b S o x e s z =
+    ap (afterTwo ke A M k p kp) (ap settledTwoIs (sym z) ∙ s ∙ ap (settledTwo mode limit) (e ∙ ap (λ (P : Mat). blockIn P k) x))
 
-pub pair-stop : (ke : ℕ) (k : Elim) (kp limit : ℕ) (A M B N : Mat) (mode : Mode) (b : Numbers) (S : two.TwoSettled)
+pub pair-stop : (ke : ℕ) (k : Elim) (p kp limit : ℕ) (A M B N : Mat) (mode : Mode) (b : Numbers) (S : two.TwoSettled)
     → B ≡ exchanged (k .0 + 1) kp ke A → b ≡ blockIn B (k .0) → settledTwoIs S ≡ settledTwo mode limit b → S ≡ two.the-variants.ZeroPivot
-    → tried (Refused (ZeroPivot k)) B N ≡ pairOf ke A M mode limit (k .0) kp
+    → tried (Refused (ZeroPivot k)) B N ≡ pairOf ke A M mode limit (k .0) p kp
 unfolding tried
-pair-stop ke k kp limit A M B N mode b S x e s z = pair-by ke (k .0) kp limit A M B mode b S two.the-variants.ZeroPivot x e s z
+pair-stop ke k p kp limit A M B N mode b S x e s z = pair-by ke (k .0) p kp limit A M B mode b S two.the-variants.ZeroPivot x e s z
 
-pub pair-rounds : (ke : ℕ) (k : Elim) (kp limit : ℕ) (A M B N : Mat) (mode : Mode) (b : Numbers) (S : two.TwoSettled)
+pub pair-rounds : (ke : ℕ) (k : Elim) (p kp limit : ℕ) (A M B N : Mat) (mode : Mode) (b : Numbers) (S : two.TwoSettled)
     → B ≡ exchanged (k .0 + 1) kp ke A → b ≡ blockIn B (k .0) → settledTwoIs S ≡ settledTwo mode limit b → S ≡ two.the-variants.Rounds
-    → tried (Refused (Rounds k)) B N ≡ pairOf ke A M mode limit (k .0) kp
+    → tried (Refused (Rounds k)) B N ≡ pairOf ke A M mode limit (k .0) p kp
 unfolding tried
-pair-rounds ke k kp limit A M B N mode b S x e s z = pair-by ke (k .0) kp limit A M B mode b S two.the-variants.Rounds x e s z
+pair-rounds ke k p kp limit A M B N mode b S x e s z = pair-by ke (k .0) p kp limit A M B mode b S two.the-variants.Rounds x e s z
 
-pub pair-took : (ke k kp limit : ℕ) (A M B B′ M′ : Mat) (mode : Mode) (b v : Numbers) (amount : Float) (lifted rounds : ℕ) (S : two.TwoSettled)
+pub pair-took : (ke k p kp limit : ℕ) (A M B B′ M′ : Mat) (mode : Mode) (b v : Numbers) (amount : Float) (lifted rounds : ℕ) (S : two.TwoSettled)
     → B ≡ exchanged (k + 1) kp ke A → b ≡ blockIn B k → settledTwoIs S ≡ settledTwo mode limit b → S ≡ two.the-variants.Numbers v lifted amount rounds
     → B′ ≡ headTwo ke k v B → M′ ≡ keptTwo ke k v B M
-    → tried (Took (record { kp = kp; two = true; d11 = v .d11; d21 = v .d21; d22 = v .d22; lifted = lifted; amount = amount; rounds = rounds })) B′ M′
-    ≡ pairOf ke A M mode limit k kp
+    → tried (Took (record { p = p; kp = kp; two = true; d11 = v .d11; d21 = v .d21; d22 = v .d22; lifted = lifted; amount = amount; rounds = rounds })) B′ M′
+    ≡ pairOf ke A M mode limit k p kp
 unfolding tried
-pair-took ke k kp limit A M B B′ M′ mode b v amount lifted rounds S x e s z b′ m′ =
-    rw (m′, b′, x) (pair-by ke k kp limit A M B mode b S (two.the-variants.Numbers v lifted amount rounds) x e s z)
+pair-took ke k p kp limit A M B B′ M′ mode b v amount lifted rounds S x e s z b′ m′ =
+    rw (m′, b′, x) (pair-by ke k p kp limit A M B mode b S (two.the-variants.Numbers v lifted amount rounds) x e s z)
 
 -- ---- a zero column
 
@@ -102,10 +103,10 @@ zero-single ke k A M mode floor R e r = r ∙ rw e
 
 -- ---- the choice, by its answer C
 
-by-choice : (ke : ℕ) (A M : Mat) (mode : Mode) (limit k : ℕ) (C o : Choice) → chosenIs C ≡ choice.chooseOf A k ke → C ≡ o
-    → tryBy ke A M mode limit k (chosenIs o) ≡ tryOf ke A M mode limit k
+by-choice : (ke : ℕ) (A M : Mat) (mode : Mode) (limit k : ℕ) (C o : Choice) → chosenIs k C ≡ choice.chooseOf A k ke → C ≡ o
+    → tryBy ke A M mode limit k (chosenIs k o) ≡ tryOf ke A M mode limit k
 unfolding tryOf
-by-choice ke A M mode limit k C o c z = ap (tryBy ke A M mode limit k) (ap chosenIs (sym z) ∙ c)
+by-choice ke A M mode limit k C o c z = ap (tryBy ke A M mode limit k) (ap (chosenIs k) (sym z) ∙ c)
 
 zero-by : (ke : ℕ) (A M : Mat) (mode : Mode) (limit k : ℕ) → zeroOf ke A M mode k ≡ tryBy ke A M mode limit k choice.zeroColumn
 unfolding zeroOf
@@ -117,10 +118,15 @@ unfolding singleOf
 one-by ke A M Fail limit k kp = refl
 one-by ke A M (Lift floor) limit k kp = refl
 
-two-by : (ke : ℕ) (A M : Mat) (mode : Mode) (limit k kp : ℕ) → pairOf ke A M mode limit k kp ≡ tryBy ke A M mode limit k (choice.block kp)
+two-by : (ke : ℕ) (A M : Mat) (mode : Mode) (limit k p kp : ℕ) → pairOf ke (exchanged k p ke A) M mode limit k p kp ≡ tryBy ke A M mode limit k (choice.block p kp)
 unfolding pairOf
-two-by ke A M Fail limit k kp = refl
-two-by ke A M (Lift floor) limit k kp = refl
+two-by ke A M Fail limit k p kp = refl
+two-by ke A M (Lift floor) limit k p kp = refl
+
+-- the first exchange, then the block
+pub moved-by : (ke k p kp limit : ℕ) (A B M : Mat) (mode : Mode) (R : Tried) → B ≡ exchanged k p ke A → R ≡ pairOf ke B M mode limit k p kp
+    → R ≡ pairOf ke (exchanged k p ke A) M mode limit k p kp
+moved-by ke k p kp limit A B M mode R e r = r ∙ ap (λ (P : Mat). pairOf ke P M mode limit k p kp) e
 
 -- ---- what the answer keeps to
 
@@ -132,14 +138,14 @@ fail-limit ke A M limit k = by (choice.chooseOf A k ke)
     by : (o : choice.Choice) → tryBy ke A M Fail limit k o ≡ tryBy ke A M Fail 0 k o
     by choice.zeroColumn = refl
     by (choice.single kp) = refl
-    by (choice.block kp) = refl
+    by (choice.block p kp) = refl
 
 tried-in : (ke k limit : ℕ) (T : Taken) (A′ M′ : Mat) (R : Tried) → limit ≤ 64 → Good ke limit k R → tried T A′ M′ ≡ R → ByColumn T → TakenIn ke k T
 unfolding tried
 tried-in ke k limit (Refused r) A′ M′ R l g e h = h
 tried-in ke k limit (Took v) A′ M′ R l g e h =
     let w = subst (Good ke limit k) (sym e) g in
-    record { last = w .last; row = w .row; few = omega (arith, w .few) }
+    record { last = w .last; row = w .row; first = w .first; few = omega (arith, w .few) }
 
 kept : (ke : ℕ) (A M : Mat) (mode : Mode) (limit k : ℕ) (T : Taken) (A′ M′ : Mat)
     → k < ke → LimitPre mode limit → ByColumn T → tried T A′ M′ ≡ tryOf ke A M mode limit k → (tried T A′ M′ ≡ tryOf ke A M mode limit k) × TakenIn ke k T
@@ -155,25 +161,27 @@ pub single-pre : (nrow ncol nb kb ke k kp len lenM : ℕ) (C : Choice) → StepP
 single-pre nrow ncol nb kb ke k kp len lenM C h z g = let w = subst (ChosenWithin k ke) z g in record { at = h; from = w .low; row = w .high }
 
 pub pair-pre : (nrow ncol nb kb ke k kp len lenM : ℕ) (C : Choice) → StepPre nrow ncol nb kb ke k k len lenM → C ≡ Block kp → ChosenWithin k ke C
-    → PivotPre nrow ncol nb kb ke k (k + 1) kp len lenM
+    → PivotPre nrow ncol nb kb ke k (k + 1) kp len lenM × Within k ke k
 pair-pre nrow ncol nb kb ke k kp len lenM C h z g =
-    let w = subst (ChosenWithin k ke) z g in
-    record { at = record { sizes = h .sizes; from = h .from; last = omega (arith, w .low, w .high) }; from = w .low; row = w .high }
+    let w = subst (ChosenWithin k ke) z g in (
+      record { at = record { sizes = h .sizes; from = h .from; last = omega (arith, w .low, w .high) }; from = w .low; row = w .high },
+      record { low = omega arith; high = omega (arith, w .low, w .high) },
+    )
 
 pub step-zero : (ke : ℕ) (A M A′ M′ : Mat) (mode : Mode) (limit k : ℕ) (C : Choice) (T : Taken) → k < ke → LimitPre mode limit
-    → chosenIs C ≡ choice.chooseOf A k ke → C ≡ ZeroColumn → tried T A′ M′ ≡ zeroOf ke A M mode k → ByColumn T
+    → chosenIs k C ≡ choice.chooseOf A k ke → C ≡ ZeroColumn → tried T A′ M′ ≡ zeroOf ke A M mode k → ByColumn T
     → (tried T A′ M′ ≡ tryOf ke A M mode limit k) × TakenIn ke k T
 step-zero ke A M A′ M′ mode limit k C T h l c z r b =
     kept ke A M mode limit k T A′ M′ h l b (r ∙ zero-by ke A M mode limit k ∙ by-choice ke A M mode limit k C ZeroColumn c z)
 
 pub step-single : (ke : ℕ) (A M A′ M′ : Mat) (mode : Mode) (limit k kp : ℕ) (C : Choice) (T : Taken) → k < ke → LimitPre mode limit
-    → chosenIs C ≡ choice.chooseOf A k ke → C ≡ Single kp → tried T A′ M′ ≡ singleOf ke A M mode k kp → ByColumn T
+    → chosenIs k C ≡ choice.chooseOf A k ke → C ≡ Single kp → tried T A′ M′ ≡ singleOf ke A M mode k kp → ByColumn T
     → (tried T A′ M′ ≡ tryOf ke A M mode limit k) × TakenIn ke k T
 step-single ke A M A′ M′ mode limit k kp C T h l c z r b =
     kept ke A M mode limit k T A′ M′ h l b (r ∙ one-by ke A M mode limit k kp ∙ by-choice ke A M mode limit k C (Single kp) c z)
 
 pub step-pair : (ke : ℕ) (A M A′ M′ : Mat) (mode : Mode) (limit k kp : ℕ) (C : Choice) (T : Taken) → k < ke → LimitPre mode limit
-    → chosenIs C ≡ choice.chooseOf A k ke → C ≡ Block kp → tried T A′ M′ ≡ pairOf ke A M mode limit k kp → ByColumn T
+    → chosenIs k C ≡ choice.chooseOf A k ke → C ≡ Block kp → tried T A′ M′ ≡ pairOf ke (exchanged k k ke A) M mode limit k k kp → ByColumn T
     → (tried T A′ M′ ≡ tryOf ke A M mode limit k) × TakenIn ke k T
 step-pair ke A M A′ M′ mode limit k kp C T h l c z r b =
-    kept ke A M mode limit k T A′ M′ h l b (r ∙ two-by ke A M mode limit k kp ∙ by-choice ke A M mode limit k C (Block kp) c z)
+    kept ke A M mode limit k T A′ M′ h l b (r ∙ two-by ke A M mode limit k k kp ∙ by-choice ke A M mode limit k C (Block kp) c z)

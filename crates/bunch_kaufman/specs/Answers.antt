@@ -3,7 +3,7 @@ use mathlib.Core.Path.{_≡_}
 use Prim.Native.Nat.{ℕ, _+_}
 use Rattle.model.specs.Matrix.{Mat, exchanged}
 use Rattle.model.specs.Choice.{zeroColumn}
-use Rattle.model.specs.Head.{State, settledOne, settledTwo, Tried, refusedAt, took, afterOne, afterTwo, tryBy, Progress, stopped, going}
+use Rattle.model.specs.Head.{State, settledOne, settledTwo, Tried, refusedAt, took, afterOne, afterTwo, tryBlock, tryBy, Progress, stopped, going}
 use Rattle.model.specs.Answer.{Said, refused, accepted, turnedAway}
 use Rattle.model.specs.declared.Mode.{Mode}
 use Rattle.model.specs.declared.Refusal.{Refusal}
@@ -41,9 +41,9 @@ ColumnOnly r = turnedAway {A = Report} r ≡ refused (numberOf r) (placeOf r) 0
 unfoldable pub singleOf : ℕ → Mat → Mat → Mode → ℕ → ℕ → Tried
 singleOf ke a m mode k kp = afterOne ke a m k kp (settledOne mode (a kp kp))
 
--- a block at k and k + 1, with row kp exchanged for k + 1
-unfoldable pub pairOf : ℕ → Mat → Mat → Mode → ℕ → ℕ → ℕ → Tried
-pairOf ke a m mode limit k kp = afterTwo ke a m k kp (settledTwo mode limit (blockIn (exchanged (k + 1) kp ke a) k))
+-- a block at k and k + 1, with row kp exchanged for k + 1, after p was exchanged for k
+unfoldable pub pairOf : ℕ → Mat → Mat → Mode → ℕ → ℕ → ℕ → ℕ → Tried
+pairOf ke a m mode limit k p kp = tryBlock ke a m mode limit k p kp
 
 -- a zero column, where the limit plays no part
 unfoldable pub zeroOf : ℕ → Mat → Mat → Mode → ℕ → Tried

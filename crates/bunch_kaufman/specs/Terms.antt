@@ -17,6 +17,7 @@ use Rattle.bunch_kaufman.specs.declared.Ran.the-variants.{Stopped, Done}
 pub record PivotIn (ke k : ℕ) (v : Pivot) : Type 0 where
   pub last : lastOf k (v .two) < ke
   pub row : v .kp < ke
+  pub first : v .p < ke
   pub few : v .rounds ≤ 64
 
 -- of a step's answer
@@ -80,8 +81,16 @@ pub record NotesPre (ke ld ls la lb ll lo lp : ℕ) : Type 0 where
   pub order : ke ≤ lo
   pub partners : ke ≤ lp
 
--- and so are a pivot's columns k to e, and its row kp
-pub record NotePre (k e kp ld ls la lb ll lo lp : ℕ) : Type 0 where
+-- columns k to e and rows p and kp are there in the order, the columns in the partners
+pub record ExchangesPre (k e p kp lo lp : ℕ) : Type 0 where
+  pub from : k ≤ e
+  pub order : e < lo
+  pub first : p < lo
+  pub row : kp < lo
+  pub partners : e < lp
+
+-- and so are a pivot's columns k to e, and its rows p and kp
+pub record NotePre (k e p kp ld ls la lb ll lo lp : ℕ) : Type 0 where
   pub from : k ≤ e
   pub d : e < ld
   pub sub : e < ls
@@ -91,3 +100,4 @@ pub record NotePre (k e kp ld ls la lb ll lo lp : ℕ) : Type 0 where
   pub order : e < lo
   pub partners : e < lp
   pub row : kp < lo
+  pub first : p < lo

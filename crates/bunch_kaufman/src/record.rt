@@ -7,7 +7,7 @@ ghost use lib.ListN.{length};
 ghost use Rattle.model.specs.Matrix.{vec, bytes, places, put, swapped};
 ghost use Rattle.model.specs.Head.{lastOf, byteOf, noted};
 ghost use Rattle.bunch_kaufman.specs.Slices.{pivots};
-ghost use Rattle.bunch_kaufman.specs.Terms.{NotePre};
+ghost use Rattle.bunch_kaufman.specs.Terms.{NotePre, ExchangesPre};
 use model::Pivot;
 
 // y at e, then x at k: what belongs to a pivot's two columns, where e is its last. A 1x1 keeps x.
@@ -28,16 +28,41 @@ fn put_both_bytes(v: &mut [u8], k: usize, e: usize, x: u8, y: u8)
     v[k] = x;
 }
 
-// The exchange of e and kp by the step at k: in the order, and as its partner. The two may be one.
-fn put_exchange(order: &mut [usize], partners: &mut [usize], k: usize, e: usize, kp: usize)
-    requires { ⌜ (e < length (now order)) × (kp < length (now order)) × (k < length (now partners)) ⌝ }
+// The exchange of e and kp in the order. The two may be one.
+fn put_swap(order: &mut [usize], e: usize, kp: usize)
+    requires { ⌜ (e < length (now order)) × (kp < length (now order)) ⌝ }
     ensures { λ _. ⌜ places (now (order .exit)) ≡ swapped (places (now (order .entry))) e kp ⌝ }
-    ensures { λ _. ⌜ bytes (now (partners .exit)) ≡ put (bytes (now (partners .entry))) k kp ⌝ }
 {
     let a = order[e];
     order[e] = order[kp];
     order[kp] = a;
-    partners[k] = kp;
+}
+
+// y at e, then x at k, of rows.
+fn put_both_rows(v: &mut [usize], k: usize, e: usize, x: usize, y: usize)
+    requires { ⌜ (k < length (now v)) × (e < length (now v)) ⌝ }
+    ensures { λ _. ⌜ bytes (now (v .exit)) ≡ put (put (bytes (now (v .entry))) e y) k x ⌝ }
+{
+    v[e] = y;
+    v[k] = x;
+}
+
+// The exchanges of the step in columns k to e: k with p, then e with kp, in the order; and the rows as its partners.
+fn put_exchange(
+    order: &mut [usize],
+    partners: &mut [usize],
+    k: usize,
+    e: usize,
+    p: usize,
+    kp: usize,
+)
+    requires { ⌜ ExchangesPre k e p kp (length (now order)) (length (now partners)) ⌝ }
+    ensures { λ _. ⌜ places (now (order .exit)) ≡ swapped (swapped (places (now (order .entry))) k p) e kp ⌝ }
+    ensures { λ _. ⌜ bytes (now (partners .exit)) ≡ put (put (bytes (now (partners .entry))) e p) k kp ⌝ }
+{
+    put_swap(order, k, p);
+    put_swap(order, e, kp);
+    put_both_rows(partners, k, e, kp, p);
 }
 
 // The last column of a pivot at k.
@@ -68,7 +93,7 @@ pub fn note(
     e: usize,
     v: Pivot,
 )
-    requires { ⌜ NotePre k e (v .kp) (length (now d)) (length (now sub)) (length (now amounts)) (length (now blocks))
+    requires { ⌜ NotePre k e (v .p) (v .kp) (length (now d)) (length (now sub)) (length (now amounts)) (length (now blocks))
         (length (now lifts)) (length (now order)) (length (now partners)) ⌝ }
     ensures { λ _. ⌜ pivots (now (d .exit)) (now (sub .exit)) (now (amounts .exit)) (now (blocks .exit))
         (now (lifts .exit)) (now (order .exit)) (now (partners .exit))
@@ -82,5 +107,5 @@ pub fn note(
     put_both(amounts, k, e, v.amount, v.amount);
     put_both_bytes(blocks, k, e, b, 0);
     put_both_bytes(lifts, k, e, v.lifted, v.lifted);
-    put_exchange(order, partners, k, e, v.kp);
+    put_exchange(order, partners, k, e, v.p, v.kp);
 }

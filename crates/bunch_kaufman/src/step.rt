@@ -4,7 +4,8 @@
 ghost use mathlib.Core.Path.{_≡_};
 ghost use Prim.Native.Nat.{_+_};
 ghost use lib.ListN.{length};
-ghost use Rattle.model.specs.Matrix.{view};
+ghost use Rattle.model.specs.Matrix.{view, exchanged};
+ghost use Rattle.scan.specs.Greatest.{Within};
 ghost use Rattle.model.specs.Head.{tryOf};
 ghost use Rattle.eliminate.specs.Eliminate.{inPanel};
 ghost use Rattle.bunch_kaufman.specs.Slices.{blockIn};
@@ -57,6 +58,7 @@ fn single(
     exchange::exchange_if(panel, nrow, ncol, k, kp, ke);
     eliminate::head_one(panel, mult, nrow, ncol, nb, kb, ke, k, d);
     Taken::Took(Pivot {
+        p: k,
         kp,
         two: false,
         d11: d,
@@ -68,7 +70,7 @@ fn single(
     })
 }
 
-// A block at k and k + 1: row kp exchanged with k + 1, settled by the mode, eliminated.
+// A block at k and k + 1: row kp exchanged with k + 1, settled by the mode, eliminated. Row p was exchanged with k before.
 fn pair(
     panel: &mut [f64],
     mult: &mut [f64],
@@ -78,13 +80,14 @@ fn pair(
     kb: usize,
     ke: usize,
     k: usize,
+    p: usize,
     kp: usize,
     mode: Mode,
     limit: usize,
 ) -> Taken
     requires { ⌜ PivotPre nrow ncol nb kb ke k (k + 1) kp (length (now panel)) (length (now mult)) ⌝ }
     ensures { λ r. ⌜ tried r (view nrow (now (panel .exit))) (inPanel kb ke (view nb (now (mult .exit))))
-        ≡ pairOf ke (view nrow (now (panel .entry))) (inPanel kb ke (view nb (now (mult .entry)))) mode limit k kp ⌝ }
+        ≡ pairOf ke (view nrow (now (panel .entry))) (inPanel kb ke (view nb (now (mult .entry)))) mode limit k p kp ⌝ }
     ensures { λ r. ⌜ ByColumn r ⌝ }
 {
     exchange::exchange_if(panel, nrow, ncol, k + 1, kp, ke);
@@ -100,6 +103,7 @@ fn pair(
         } => {
             eliminate::head_two(panel, mult, nrow, ncol, nb, kb, ke, k, block);
             Taken::Took(Pivot {
+                p,
                 kp,
                 two: true,
                 d11: block.d11,
@@ -111,6 +115,31 @@ fn pair(
             })
         }
     }
+}
+
+// A block of rows p and kp: p exchanged with k, then the block.
+fn moved_pair(
+    panel: &mut [f64],
+    mult: &mut [f64],
+    nrow: usize,
+    ncol: usize,
+    nb: usize,
+    kb: usize,
+    ke: usize,
+    k: usize,
+    p: usize,
+    kp: usize,
+    mode: Mode,
+    limit: usize,
+) -> Taken
+    requires { ⌜ PivotPre nrow ncol nb kb ke k (k + 1) kp (length (now panel)) (length (now mult)) ⌝ }
+    requires { ⌜ Within k ke p ⌝ }
+    ensures { λ r. ⌜ tried r (view nrow (now (panel .exit))) (inPanel kb ke (view nb (now (mult .exit))))
+        ≡ pairOf ke (exchanged k p ke (view nrow (now (panel .entry)))) (inPanel kb ke (view nb (now (mult .entry)))) mode limit k p kp ⌝ }
+    ensures { λ r. ⌜ ByColumn r ⌝ }
+{
+    exchange::exchange_if(panel, nrow, ncol, k, p, ke);
+    pair(panel, mult, nrow, ncol, nb, kb, ke, k, p, kp, mode, limit)
 }
 
 // A column that the column test finds zero: refused in Fail, a 1x1 from its own row in Lift.
@@ -159,6 +188,6 @@ pub fn step(
     match choice {
         Choice::ZeroColumn => zero_column(panel, mult, nrow, ncol, nb, kb, ke, k, mode),
         Choice::Single(kp) => single(panel, mult, nrow, ncol, nb, kb, ke, k, kp, mode),
-        Choice::Block(kp) => pair(panel, mult, nrow, ncol, nb, kb, ke, k, kp, mode, limit),
+        Choice::Block(kp) => moved_pair(panel, mult, nrow, ncol, nb, kb, ke, k, k, kp, mode, limit),
     }
 }

@@ -116,11 +116,17 @@ pub record Kept (ncol k : ℕ) (p : Pivots) : Type 0 where
   pub order : Permutes ncol (p .order)
   pub blocks : Paired k (p .blocks)
 
+last-from : (k : ℕ) (two : Bool) → k ≤ lastOf k two
+unfolding lastOf
+last-from k true = omega arith
+last-from k false = omega arith
+
 noted-kept : (ncol ke limit k : ℕ) (p : Pivots) (v : Pivot) → ke ≤ ncol → GoodPivot ke limit k v → Kept ncol k p
     → Kept ncol (lastOf k (v .two) + 1) (noted p k (lastOf k (v .two)) v)
 unfolding noted stepBytes
 noted-kept ncol ke limit k p v h g w = record {
-  order = swapped-permutes ncol (p .order) (lastOf k (v .two)) (v .kp) (omega (arith, g .last)) (omega (arith, g .row)) (w .order);
+  order = swapped-permutes ncol (swapped (p .order) k (v .p)) (lastOf k (v .two)) (v .kp) (omega (arith, g .last)) (omega (arith, g .row))
+      (swapped-permutes ncol (p .order) k (v .p) (omega (arith, g .last, last-from k (v .two))) (omega (arith, g .first)) (w .order));
   blocks = step-paired (p .blocks) k (v .two) (w .blocks);
 }
 
@@ -128,11 +134,6 @@ noted-kept ncol ke limit k p v h g w = record {
 abbrev Ended : ℕ → ℕ → Progress → Type 0
 Ended ncol ke (stopped n p) = Unit {0}
 Ended ncol ke (going k s) = (k ≡ ke) × Kept ncol ke (s .pivots)
-
-last-from : (k : ℕ) (two : Bool) → k ≤ lastOf k two
-unfolding lastOf
-last-from k true = omega arith
-last-from k false = omega arith
 
 after-kept : (ncol ke limit k : ℕ) (s : State) (f : ℕ → State → Progress) (t : Tried) → ke ≤ ncol → Good ke limit k t → Kept ncol k (s .pivots)
     → ((m : ℕ) (u : State) → k < m → m ≤ ke → Kept ncol m (u .pivots) → Ended ncol ke (f m u)) → Ended ncol ke (after t s k f)

@@ -13,7 +13,7 @@ use Rattle.model.specs.Scalar.{_⊕_, _⊗_, _⊘_, zeroF, squareOf, mag
 use Rattle.model.specs.Root.{sqrtOf, alpha, roundRoot, isqrt, wholeRoot}
 use Rattle.model.specs.Matrix.{Row, Mat, exchanged}
 use Rattle.model.specs.Choice.{Greatest, greatest, noneYet, columnGreatest, rowGreatest, Choice, zeroColumn, single, block, chooseOf}
-use Rattle.model.specs.Head.{SettledOne, oneRefused, oneIs, settledOne, SettledTwo, twoRefused, twoIs, raisedFrom, settledTwo, barOf, liftStepOf, growthFloorOf, Tried, refusedAt, took, afterOne, afterTwo, tryBy, tryOf, lastOf}
+use Rattle.model.specs.Head.{SettledOne, oneRefused, oneIs, settledOne, SettledTwo, twoRefused, twoIs, raisedFrom, settledTwo, barOf, liftStepOf, growthFloorOf, Tried, refusedAt, took, afterOne, afterTwo, tryBlock, tryBy, tryOf, lastOf}
 use Rattle.model.specs.Step.{blockOf}
 use Rattle.model.specs.declared.Mode.{Mode}
 use Rattle.model.specs.declared.Mode.the-variants.{Fail, Lift}
@@ -49,7 +49,7 @@ greatest-where f lo (suc n) best =
 abbrev pub Chosen : ℕ → ℕ → Choice → Type 0
 Chosen k ke zeroColumn = Unit {0}
 Chosen k ke (single kp) = (k ≤ kp) × (kp < ke)
-Chosen k ke (block kp) = (k < kp) × (kp < ke)
+Chosen k ke (block p kp) = (k < kp) × (kp < ke) × (k ≤ p) × (p < ke)
 
 either-chosen : (k ke : ℕ) (t : Bool) (a b : Choice) → Chosen k ke a → Chosen k ke b → Chosen k ke (cond t a b)
 either-chosen k ke true a b p q = p
@@ -90,12 +90,12 @@ none-chosen k ke x rest h =
     ⊎-elim (λ t. rw t (either-chosen k ke (eq (maximumOf (magnitudeOf x) zeroF) zeroF) zeroColumn (single k) tt (omega arith, h))) (λ t. rw t tt) (own-or-zero x)
 
 some-chosen : (k ke at : ℕ) (zero own row other : Bool) → k < at → at < ke
-    → Chosen k ke (cond zero zeroColumn (cond own (single k) (cond row (single k) (cond other (single at) (block at)))))
+    → Chosen k ke (cond zero zeroColumn (cond own (single k) (cond row (single k) (cond other (single at) (block k at)))))
 some-chosen k ke at true own row other l r = tt
 some-chosen k ke at false true row other l r = (omega arith, omega arith)
 some-chosen k ke at false false true other l r = (omega arith, omega arith)
 some-chosen k ke at false false false true l r = (omega arith, omega arith)
-some-chosen k ke at false false false false l r = (l, r)
+some-chosen k ke at false false false false l r = (l, r, omega arith, omega arith)
 
 -- a block's two rows are different rows of the panel, so it never crosses ke
 pub choose-in : (a : Mat) (k ke : ℕ) → k < ke → Chosen k ke (chooseOf a k ke)
@@ -120,6 +120,7 @@ pub record GoodPivot (ke limit k : ℕ) (v : Pivot) : Type 0 where
   pub last : lastOf k (v .two) < ke
   pub from : lastOf k (v .two) ≤ v .kp
   pub row : v .kp < ke
+  pub first : v .p < ke
   pub few : v .rounds ≤ limit
 
 abbrev pub Good : ℕ → ℕ → ℕ → Tried → Type 0
@@ -154,25 +155,24 @@ module _ (ke : ℕ) (a m : Mat) (limit k : ℕ) where
   one-good : (kp : ℕ) (s : SettledOne) → k ≤ kp → kp < ke → Good ke limit k (afterOne ke a m k kp s)
   unfolding lastOf
   one-good kp (oneRefused n) l r = tt
-  one-good kp (oneIs d b x) l r = record { last = omega arith; from = l; row = r; few = omega arith }
+  one-good kp (oneIs d b x) l r = record { last = omega arith; from = l; row = r; first = omega arith; few = omega arith }
 
-  two-good : (kp : ℕ) (s : SettledTwo) → FewRounds limit s → k < kp → kp < ke → Good ke limit k (afterTwo ke a m k kp s)
+  two-good : (p kp : ℕ) (s : SettledTwo) → FewRounds limit s → k < kp → kp < ke → p < ke → Good ke limit k (afterTwo ke a m k p kp s)
   unfolding lastOf
-  two-good kp (twoRefused n) f l r = tt
-  two-good kp (twoIs b y x n) f l r = record { last = omega arith; from = omega arith; row = r; few = f }
+  two-good p kp (twoRefused n) f l r h = tt
+  two-good p kp (twoIs b y x n) f l r h = record { last = omega arith; from = omega arith; row = r; first = h; few = f }
 
-  -- the block read after the exchange
-  abbrev blockBy : ℕ → Block
-  blockBy kp = blockOf (exchanged (k + 1) kp ke a k k) (exchanged (k + 1) kp ke a (k + 1) k) (exchanged (k + 1) kp ke a (k + 1) (k + 1))
+  block-good : (mode : Mode) (p kp : ℕ) → k < kp → kp < ke → p < ke → Good ke limit k (tryBlock ke a m mode limit k p kp)
+  block-good mode p kp = two-good p kp (settledTwo mode limit _) (settled-few mode limit _)
 
+module _ (ke : ℕ) (a m : Mat) (limit k : ℕ) where
   by-good : (mode : Mode) (c : Choice) → k < ke → Chosen k ke c → Good ke limit k (tryBy ke a m mode limit k c)
   by-good Fail zeroColumn h p = tt
-  by-good (Lift floor) zeroColumn h p = one-good k (settledOne (Lift floor) (a k k)) (omega arith) h
-  by-good Fail (single kp) h p = one-good kp (settledOne Fail (a kp kp)) (p .0) (p .1)
-  by-good (Lift floor) (single kp) h p = one-good kp (settledOne (Lift floor) (a kp kp)) (p .0) (p .1)
-  by-good Fail (block kp) h p = two-good kp (settledTwo Fail limit (blockBy kp)) (settled-few Fail limit (blockBy kp)) (p .0) (p .1)
-  by-good (Lift floor) (block kp) h p =
-      two-good kp (settledTwo (Lift floor) limit (blockBy kp)) (settled-few (Lift floor) limit (blockBy kp)) (p .0) (p .1)
+  by-good (Lift floor) zeroColumn h p = one-good ke a m limit k k (settledOne (Lift floor) (a k k)) (omega arith) h
+  by-good Fail (single kp) h p = one-good ke a m limit k kp (settledOne Fail (a kp kp)) (p .0) (p .1)
+  by-good (Lift floor) (single kp) h p = one-good ke a m limit k kp (settledOne (Lift floor) (a kp kp)) (p .0) (p .1)
+  by-good Fail (block q kp) h p = block-good ke (exchanged k q ke a) m limit k Fail q kp (p .0) (p .1) (p .3)
+  by-good (Lift floor) (block q kp) h p = block-good ke (exchanged k q ke a) m limit k (Lift floor) q kp (p .0) (p .1) (p .3)
 
 pub try-good : (ke : ℕ) (a m : Mat) (mode : Mode) (limit k : ℕ) → k < ke → Good ke limit k (tryOf ke a m mode limit k)
 unfolding tryOf

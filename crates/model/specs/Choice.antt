@@ -30,11 +30,11 @@ columnGreatest a k ke = greatest (λ i. a i k) (k + 1) (ke - (k + 1)) (noneYet k
 unfoldable pub rowGreatest : Mat → ℕ → ℕ → ℕ → Greatest
 rowGreatest a k ke r = greatest (λ i. a i r) (r + 1) (ke - (r + 1)) (greatest (a r) k (r - k) (noneYet k))
 
--- the column test finds zero; a 1x1 with the row that is exchanged with k; a block with the row that is exchanged with k + 1
+-- the column test finds zero; a 1x1 with the row that is exchanged with k; a block with the row that is exchanged with k and then the one with k + 1
 pub data Choice : Type 0 where
   zeroColumn : Choice
   single : ℕ → Choice
-  block : ℕ → Choice
+  block : (p kp : ℕ) → Choice
 
 -- the tests in document 01's order
 unfoldable pub chooseOf : Mat → ℕ → ℕ → Choice
@@ -44,7 +44,7 @@ chooseOf a k ke =
     let colmax = sqrtOf (c .square) in
     let bar = alpha ⊗ colmax in
     let rowmax = sqrtOf (rowGreatest a k ke (c .at) .square) in
-    let exchangedDiagonal = cond (le (alpha ⊗ rowmax) (magnitudeOf (a (c .at) (c .at)))) (single (c .at)) (block (c .at)) in
+    let exchangedDiagonal = cond (le (alpha ⊗ rowmax) (magnitudeOf (a (c .at) (c .at)))) (single (c .at)) (block k (c .at)) in
     let rowTest = cond (le (bar ⊗ (colmax ⊘ rowmax)) own) (single k) exchangedDiagonal in
     let ownDiagonal = cond (le bar own) (single k) rowTest in
     cond (eq (maximumOf own colmax) zeroF) zeroColumn ownDiagonal

@@ -106,29 +106,33 @@ module _ (ke : ℕ) (a₀ mult : Mat) where
   afterOne k kp (oneRefused n) = refusedAt n k
   afterOne k kp (oneIs d lifted amount) =
       let a = exchanged k kp ke a₀ in
-      took (record { kp = kp; two = false; d11 = d; d21 = zeroF; d22 = zeroF; lifted = lifted; amount = amount; rounds = 0 })
+      took (record { p = k; kp = kp; two = false; d11 = d; d21 = zeroF; d22 = zeroF; lifted = lifted; amount = amount; rounds = 0 })
       (headOne ke k d a) (keptOne ke k d a mult)
 
-  -- a block at k and k + 1, k + 1 exchanged with row kp
-  abbrev pub afterTwo : ℕ → ℕ → SettledTwo → Tried
-  afterTwo k kp (twoRefused n) = refusedAt n k
-  afterTwo k kp (twoIs b lifted amount rounds) =
+  -- a block at k and k + 1, k + 1 exchanged with row kp; k was exchanged with row p before
+  abbrev pub afterTwo : ℕ → ℕ → ℕ → SettledTwo → Tried
+  afterTwo k p kp (twoRefused n) = refusedAt n k
+  afterTwo k p kp (twoIs b lifted amount rounds) =
       let a = exchanged (k + 1) kp ke a₀ in
-      took (record { kp = kp; two = true; d11 = b .d11; d21 = b .d21; d22 = b .d22; lifted = lifted; amount = amount; rounds = rounds })
+      took (record { p = p; kp = kp; two = true; d11 = b .d11; d21 = b .d21; d22 = b .d22; lifted = lifted; amount = amount; rounds = rounds })
       (headTwo ke k b a) (keptTwo ke k b a mult)
 
-  -- the chosen 1x1 stands at row kp; the block is read after the exchange; a zero column is refusal 7 in Fail and a 1x1 in Lift
-  abbrev pub tryBy : Mode → ℕ → ℕ → Choice → Tried
-  tryBy Fail limit k zeroColumn = refusedAt 7 k
-  tryBy (Lift floor) limit k zeroColumn = afterOne k k (settledOne (Lift floor) (a₀ k k))
-  tryBy mode limit k (single kp) = afterOne k kp (settledOne mode (a₀ kp kp))
-  tryBy mode limit k (block kp) =
+  -- the block is read after the exchange
+  abbrev pub tryBlock : Mode → ℕ → ℕ → ℕ → ℕ → Tried
+  tryBlock mode limit k p kp =
       let a = exchanged (k + 1) kp ke a₀ in
-      afterTwo k kp (settledTwo mode limit (blockOf (a k k) (a (k + 1) k) (a (k + 1) (k + 1))))
+      afterTwo k p kp (settledTwo mode limit (blockOf (a k k) (a (k + 1) k) (a (k + 1) (k + 1))))
 
-  -- the step at k
-  unfoldable pub tryOf : Mode → ℕ → ℕ → Tried
-  tryOf mode limit k = tryBy mode limit k (chooseOf a₀ k ke)
+-- the chosen 1x1 stands at row kp; a block's first exchange comes before all else; a zero column is refusal 7 in Fail and a 1x1 in Lift
+abbrev pub tryBy : ℕ → Mat → Mat → Mode → ℕ → ℕ → Choice → Tried
+tryBy ke a mult Fail limit k zeroColumn = refusedAt 7 k
+tryBy ke a mult (Lift floor) limit k zeroColumn = afterOne ke a mult k k (settledOne (Lift floor) (a k k))
+tryBy ke a mult mode limit k (single kp) = afterOne ke a mult k kp (settledOne mode (a kp kp))
+tryBy ke a mult mode limit k (block p kp) = tryBlock ke (exchanged k p ke a) mult mode limit k p kp
+
+-- the step at k
+unfoldable pub tryOf : ℕ → Mat → Mat → Mode → ℕ → ℕ → Tried
+tryOf ke a mult mode limit k = tryBy ke a mult mode limit k (chooseOf a k ke)
 
 -- ---- what is noted of a pivot
 
@@ -148,8 +152,8 @@ noted p k e v =
       amounts = put (put (p .amounts) e (v .amount)) k (v .amount);
       blocks = put (put (p .blocks) e 0) k (byteOf (v .two));
       lifts = put (put (p .lifts) e (v .lifted)) k (v .lifted);
-      order = swapped (p .order) e (v .kp);
-      partners = put (p .partners) k (v .kp);
+      order = swapped (swapped (p .order) k (v .p)) e (v .kp);
+      partners = put (put (p .partners) e (v .p)) k (v .kp);
     }
 
 -- ---- a panel's steps in turn

@@ -56,7 +56,8 @@ rowAfterStep ke s r = eliminated s ke (λ j. r (exchangedPlace (movedColumn s) (
 
 -- ---- the record of pivots
 
--- d, subdiagonal, lift amounts; bytes 1 where a block begins and where a lift was; the order; the row that the step at k exchanged
+-- d, subdiagonal, lift amounts; bytes 1 where a block begins and where a lift was; the order; the rows exchanged: at a pivot's first column the one with its
+-- last column, at a block's second column the one that was exchanged with its first column before
 pub record Pivots : Type 0 where
   pub d : Row
   pub sub : Row
@@ -85,9 +86,21 @@ stepAt p mult k =
     let single = one k (p .partners k) (p .d k) (λ j. mult j k) in
     cond (begins (p .blocks) k) block single
 
+-- the row that the step at k exchanged with k before anything else: k itself at a 1x1
+unfoldable pub firstOf : Pivots → ℕ → ℕ
+firstOf p k = cond (begins (p .blocks) k) (p .partners (k + 1)) k
+
+-- a row below the panel, with that exchange made
+unfoldable pub arrived : Pivots → ℕ → Row → Row
+arrived p k r = λ j. r (exchangedPlace k (firstOf p k) j)
+
+-- and after the step at k
+unfoldable pub rowStepped : Pivots → Mat → ℕ → ℕ → Row → Row
+rowStepped p mult ke k r = rowAfterStep ke (stepAt p mult k) (arrived p k r)
+
 -- at most n steps from column k on, up to ke
 unfoldable pub rowAfterSteps : Pivots → Mat → ℕ → ℕ → ℕ → Row → Row
 rowAfterSteps p mult ke zero k r = r
 rowAfterSteps p mult ke (suc n) k r =
-    let next = rowAfterSteps p mult ke n (pastOf (p .blocks) k) (rowAfterStep ke (stepAt p mult k) r) in
+    let next = rowAfterSteps p mult ke n (pastOf (p .blocks) k) (rowStepped p mult ke k r) in
     cond (ltb k ke) next r

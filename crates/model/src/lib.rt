@@ -33,9 +33,11 @@ pub struct Block {
     pub det: f64,
 }
 
-// What a step took: the row exchanged with its last column, whether it is a block, its numbers (d21 and d22 are 0.0 of
-// a 1x1), the lift byte, the lift amount, the rounds that its lift used.
+// What a step took: the row exchanged with its first column before anything else (its own but for a rook block), the row
+// exchanged with its last column, whether it is a block, its numbers (d21 and d22 are 0.0 of a 1x1), the lift byte, the
+// lift amount, the rounds that its lift used.
 pub struct Pivot {
+    pub p: usize,
     pub kp: usize,
     pub two: bool,
     pub d11: f64,

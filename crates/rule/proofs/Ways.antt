@@ -25,10 +25,10 @@ pub diagonal-in : (n ncol k ke len i : ℕ) → ColumnPre n ncol k ke len → i 
 diagonal-in n ncol k ke len i p h = in-panel n ncol i i len (p .panel) (omega (arith, p .columns, p .rows)) (omega (arith, p .columns))
 
 -- a choice stands within the panel, a block's row below k
-pub chosen : (a : Mat) (k ke : ℕ) (c : Choice) → k < ke → chosenIs c ≡ chooseOf a k ke → (chosenIs c ≡ chooseOf a k ke) × ChosenWithin k ke c
+pub chosen : (a : Mat) (k ke : ℕ) (c : Choice) → k < ke → chosenIs k c ≡ chooseOf a k ke → (chosenIs k c ≡ chooseOf a k ke) × ChosenWithin k ke c
 chosen a k ke c h e = (e, go c (subst (λ (x : model.Choice). Chosen k ke x) (sym e) (choose-in a k ke h)))
   where
-    go : (c : Choice) → Chosen k ke (chosenIs c) → ChosenWithin k ke c
+    go : (c : Choice) → Chosen k ke (chosenIs k c) → ChosenWithin k ke c
     go ZeroColumn w = tt
     go (Single row) w = record { low = w .0; high = w .1 }
     go (Block row) w = record { low = omega (arith, w .0); high = w .1 }
@@ -110,6 +110,6 @@ module _ (a : Mat) (k ke : ℕ) (x own colmax t : Float) (g : Greatest) (ex : x 
         unfolding chooseOf
         way-other w = rw (← eg, ← ex, ← eo, ← ec, ← et, ← eb, ← er, ← ew, ← ey, ← eu, ← ef, h, p, q, w)
 
-        pub way-block : le reach other ≡ false → model.block (g .at) ≡ chooseOf a k ke
+        pub way-block : le reach other ≡ false → model.block k (g .at) ≡ chooseOf a k ke
         unfolding chooseOf
         way-block w = rw (← eg, ← ex, ← eo, ← ec, ← et, ← eb, ← er, ← ew, ← ey, ← eu, ← ef, h, p, q, w)

@@ -7,10 +7,11 @@ use Rattle.rule.specs.declared.Choice as choice
 use Rattle.rule.specs.declared.OneSettled as one
 use Rattle.rule.specs.declared.TwoSettled as two
 
-abbrev pub chosenIs : choice.Choice → model.Choice
-chosenIs choice.the-variants.ZeroColumn = model.zeroColumn
-chosenIs (choice.the-variants.Single row) = model.single row
-chosenIs (choice.the-variants.Block row) = model.block row
+-- at k
+abbrev pub chosenIs : ℕ → choice.Choice → model.Choice
+chosenIs k choice.the-variants.ZeroColumn = model.zeroColumn
+chosenIs k (choice.the-variants.Single row) = model.single row
+chosenIs k (choice.the-variants.Block row) = model.block k row
 
 -- the row exchanged stands within the panel that ends at ke, so a block never crosses ke
 abbrev pub ChosenWithin : ℕ → ℕ → choice.Choice → Type 0

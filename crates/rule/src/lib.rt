@@ -92,7 +92,7 @@ impl PivotRule {
     // origin: src/numeric/ldlt/bunch_kaufman.rs, fn ll_bk_panel_step
     pub fn choose(panel: &[f64], nrow: usize, ncol: usize, k: usize, ke: usize) -> Choice
         requires { ⌜ ColumnPre nrow ncol k ke (length (now panel)) ⌝ }
-        ensures { λ r. ⌜ chosenIs r ≡ chooseOf (view nrow (now (panel .entry))) k ke ⌝ }
+        ensures { λ r. ⌜ chosenIs k r ≡ chooseOf (view nrow (now (panel .entry))) k ke ⌝ }
         ensures { λ r. ⌜ ChosenWithin k ke r ⌝ }
     {
         let own = scalar::magnitude(grid::get(panel, nrow, k, k));

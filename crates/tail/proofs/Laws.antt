@@ -1,35 +1,35 @@
 -- A panel's steps on the rows below it: which fields of the record they read, one step taken off, the loop. Assumes nothing.
 use Prim.Native.Nat.{ℕ, zero, suc, _+_, _-_, _<_, _≤_}
 use mathlib.Core.Path.{_≡_, refl, sym, _∙_, ap, fun-ext}
-use mathlib.Core.Bool.{Bool, true, false}
+use mathlib.Core.Bool.{Bool, true, false, _&&_, true≢false}
 use mathlib.Core.List.{List}
 use native.Mathlib.Omega.{arith}
-use borrow.Author.Tests.{lt-ltb, le-ltb, ne-eqb, eqb-true}
-use lib.Dec.{ltb, eqb}
+use borrow.Author.Tests.{lt-ltb, le-ltb, ne-eqb, eqb-true, leb-true}
+use lib.Dec.{ltb, leb, eqb}
 use lib.ListN.{getD}
 use lib.Ieee.{Float, nan}
 use mir.Syntax.{w64}
 use mir.Val.{Fits}
 use Rattle.model.specs.Scalar.{zeroF}
-use Rattle.model.specs.Matrix.{Row, Mat, vec, bytes, within}
-use Rattle.model.specs.Step.{Step, one, two, Pivots, begins, blockAt, pastOf, stepAt, rowAfterStep, rowAfterSteps}
+use Rattle.model.specs.Matrix.{Row, Mat, vec, bytes, within, exchangedPlace}
+use Rattle.model.specs.Step.{Step, one, two, Pivots, begins, blockAt, pastOf, stepAt, firstOf, arrived, rowStepped, rowAfterStep, rowAfterSteps}
 use Rattle.model.specs.Head.{lastOf}
 use Rattle.model.specs.declared.Block.{Block}
-use Rattle.grid.specs.Rules.{columnOf}
-use Rattle.grid.proofs.Laws.{test}
+use Rattle.grid.specs.Rules.{columnOf, columnsExchanged, ExchangePre}
+use Rattle.grid.proofs.Laws.{test, col-in}
 use Rattle.whole.specs.Whole.{below}
 use Rattle.eliminate.specs.Eliminate.{TwoPre}
 use Rattle.pairs.specs.Pairs.{stepBy, rowAfterBoth, PairPre}
 use Rattle.pairs.proofs.Column.{last-from, wide-last, single-last}
-use Rattle.tail.specs.Tail.{pivotsOf, pivotAt, TailPre, StepsPre, NextPre}
+use Rattle.tail.specs.Tail.{pivotsOf, pivotAt, firstIn, arrivedIn, TailPre, ArrivePre, StepsPre, NextPre}
 
 -- ---- what a row's steps read of the record
 
 -- four fields decide; each of the two records has its own lifts, amounts and order
 module _ (p q : Pivots) (m : Mat) (hd : p .d ≡ q .d) (hs : p .sub ≡ q .sub) (hb : p .blocks ≡ q .blocks) (hp : p .partners ≡ q .partners) where
-  step-alike : (k : ℕ) → stepAt p m k ≡ stepAt q m k
-  unfolding stepAt
-  step-alike k = rw (hd, hs, hb, hp)
+  step-alike : (ke k : ℕ) → rowStepped p m ke k ≡ rowStepped q m ke k
+  unfolding rowStepped stepAt arrived firstOf
+  step-alike ke k = rw (hd, hs, hb, hp)
 
   row-alike : (ke n k : ℕ) (r : Row) → rowAfterSteps p m ke n k r ≡ rowAfterSteps q m ke n k r
   unfolding rowAfterSteps
@@ -37,9 +37,9 @@ module _ (p q : Pivots) (m : Mat) (hd : p .d ≡ q .d) (hs : p .sub ≡ q .sub) 
   row-alike ke (suc n) k r =
       test (ltb k ke)
       (λ t. rw t
-      (ap (λ (s : Step). rowAfterSteps p m ke n (pastOf (p .blocks) k) (rowAfterStep ke s r)) (step-alike k)
-      ∙ ap (λ (f : ℕ → ℕ). rowAfterSteps p m ke n (pastOf f k) (rowAfterStep ke (stepAt q m k) r)) hb
-      ∙ row-alike ke n (pastOf (q .blocks) k) (rowAfterStep ke (stepAt q m k) r)))
+      (ap (λ (s : Row → Row). rowAfterSteps p m ke n (pastOf (p .blocks) k) (s r)) (step-alike ke k)
+      ∙ ap (λ (f : ℕ → ℕ). rowAfterSteps p m ke n (pastOf f k) (rowStepped q m ke k r)) hb
+      ∙ row-alike ke n (pastOf (q .blocks) k) (rowStepped q m ke k r)))
       (λ t. rw t)
 
   pub steps-alike : (ke n k : ℕ) → rowAfterSteps p m ke n k ≡ rowAfterSteps q m ke n k
@@ -179,6 +179,78 @@ pub next-pre : (kb ke : ℕ) (bs ps : List ℕ) (k l r : ℕ) → kb ≤ k → k
 unfolding bytes
 next-pre kb ke bs ps k l r h o el g er u = record { from = h; here = o; next = el; inside = g; last = omega arith; reach = u }
 
+-- ---- the exchange before a step
+
+first-block : (bs ps : List ℕ) (k : ℕ) → getD bs k 0 ≡ 1 → firstIn bs ps k ≡ getD ps (k + 1) 0
+unfolding firstIn firstOf pivotsOf bytes
+first-block bs ps k h = rw h
+
+pub stays-single : (bs ps : List ℕ) (l : ℕ) → (getD bs l 0 ≡ 1 → ⊥) → firstIn bs ps l ≡ l
+unfolding firstIn firstOf pivotsOf bytes
+stays-single bs ps l h = rw (ne-eqb (getD bs l 0) 1 h)
+
+arrived-by : (bs ps : List ℕ) (k q : ℕ) (r : Row) → firstIn bs ps k ≡ q → arrivedIn bs ps k r ≡ (λ j. r (exchangedPlace k q j))
+unfolding arrivedIn arrived firstIn
+arrived-by bs ps k q r e = fun-ext λ j. ap (λ (x : ℕ). r (exchangedPlace k x j)) e
+
+module _ (M Q : Mat) (bs ps : List ℕ) (n ke k : ℕ) where
+  pub arrive-block : getD bs k 0 ≡ 1 → Q ≡ columnsExchanged M k (getD ps (k + 1) 0) ke n → Q ≡ below ke n (arrivedIn bs ps k) M
+  unfolding columnsExchanged below
+  arrive-block h q =
+      q ∙ (fun-ext λ i. fun-ext λ j. test (within ke n i) (λ t. rw t (ap (λ (f : Row). f j) (moved i))) (λ t. rw t))
+    where
+      moved : (i : ℕ) → (λ j. M i (exchangedPlace k (getD ps (k + 1) 0) j)) ≡ arrivedIn bs ps k (M i)
+      moved i = sym (arrived-by bs ps k (getD ps (k + 1) 0) (M i) (first-block bs ps k h))
+
+module _ (M : Mat) (bs ps : List ℕ) (n ke k : ℕ) where
+  pub arrive-single : (getD bs k 0 ≡ 1 → ⊥) → M ≡ below ke n (arrivedIn bs ps k) M
+  unfolding below
+  arrive-single h =
+      fun-ext λ i. test (within ke n i)
+      (λ t. rw t (sym (arrived-by bs ps k k (M i) (stays-single bs ps k h) ∙ (fun-ext λ j. ap (M i) (same j)))))
+      (λ t. rw t)
+    where
+      same : (j : ℕ) → exchangedPlace k k j ≡ j
+      same j = test (eqb j k) (λ t. rw t (sym (eqb-true j k t))) (λ t. rw t)
+
+pub arrive-pre : (nrow ncol ke k len lb lp : ℕ) (bs ps : List ℕ) → ArrivePre nrow ncol ke k len lb lp → StepsPre ke (bytes bs) (bytes ps) → getD bs k 0 ≡ 1
+    → ExchangePre nrow k (getD ps (k + 1) 0) ke nrow len
+unfolding bytes
+arrive-pre nrow ncol ke k len lb lp bs ps h s e =
+    let l : k + 1 < ke = s .pair k (h .here) e in
+    let q : getD ps (k + 1) 0 < ke = s .partner (k + 1) l in
+    record {
+      one = col-in nrow ncol k len (h .size) (omega (arith, h .here, h .cols));
+      other = col-in nrow ncol (getD ps (k + 1) 0) len (h .size) (omega (arith, h .cols));
+      up = omega (arith, h .cols, h .head);
+      rows = omega arith;
+    }
+
+pub arrive-place : (nrow ncol ke k len lb lp : ℕ) (bs ps : List ℕ) → ArrivePre nrow ncol ke k len lb lp → StepsPre ke (bytes bs) (bytes ps) → getD bs k 0 ≡ 1 → k + 1 < lp
+unfolding bytes
+arrive-place nrow ncol ke k len lb lp bs ps h s e = omega (arith, s .pair k (h .here) e, h .inPartners)
+
+pub stays-place : (ke l lb lp : ℕ) (bs ps : List ℕ) → l < ke → ke ≤ lp → StepsPre ke (bytes bs) (bytes ps) → getD bs l 0 ≡ 1 → l + 1 < lp
+unfolding bytes
+stays-place ke l lb lp bs ps h g s e = omega (arith, s .pair l h e)
+
+pub stays-block : (bs ps : List ℕ) (l : ℕ) → getD bs l 0 ≡ 1 → eqb (getD ps (l + 1) 0) l ≡ true → firstIn bs ps l ≡ l
+stays-block bs ps l h e = first-block bs ps l h ∙ eqb-true (getD ps (l + 1) 0) l e
+
+pub arrive-asks : (nrow ncol nb kb ke k len lenM ld ls lb lp : ℕ) → TailPre nrow ncol nb kb ke len lenM ld ls lb lp → k < ke → ArrivePre nrow ncol ke k len lb lp
+arrive-asks nrow ncol nb kb ke k len lenM ld ls lb lp h l =
+    record { size = h .size; head = h .head; cols = h .cols; here = l; inBlocks = h .inBlocks; inPartners = h .inPartners }
+
+pub stays-asks : (nrow ncol nb kb ke l len lenM ld ls lb lp : ℕ) → TailPre nrow ncol nb kb ke len lenM ld ls lb lp → l < ke → (l < ke) × (ke ≤ lb) × (ke ≤ lp)
+stays-asks nrow ncol nb kb ke l len lenM ld ls lb lp h g = (g, h .inBlocks, h .inPartners)
+
+-- both tests of a pair
+pub both-true : (x y : ℕ) (b : Bool) → leb x y && b ≡ true → b ≡ true
+both-true x y b e = test (leb x y) (λ t. rw t at e) (λ t. absurd (true≢false (sym (rw t at e))))
+
+pub both-last : (x y : ℕ) (b : Bool) → leb x y && b ≡ true → x ≤ y
+both-last x y b e = test (leb x y) (λ t. leb-true x y t) (λ t. absurd (true≢false (sym (rw t at e))))
+
 -- ---- the loop
 
 past-more : (bl : ℕ → ℕ) (k : ℕ) → k + 1 ≤ pastOf bl k
@@ -193,22 +265,22 @@ steps-fuel p m ke zero (suc l) k r h g = rw (le-ltb k ke (omega arith))
 steps-fuel p m ke (suc n) zero k r h g = rw (le-ltb k ke (omega arith))
 steps-fuel p m ke (suc n) (suc l) k r h g =
     test (ltb k ke)
-    (λ t. rw t (steps-fuel p m ke n l (pastOf (p .blocks) k) (rowAfterStep ke (stepAt p m k) r)
+    (λ t. rw t (steps-fuel p m ke n l (pastOf (p .blocks) k) (rowStepped p m ke k r)
     (omega (arith, past-more (p .blocks) k)) (omega (arith, past-more (p .blocks) k))))
     (λ t. rw t)
 
 -- one step taken off
 steps-open : (p : Pivots) (m : Mat) (ke k : ℕ) (r : Row) → k < ke
-    → rowAfterSteps p m ke (ke - k) k r ≡ rowAfterSteps p m ke (ke - pastOf (p .blocks) k) (pastOf (p .blocks) k) (rowAfterStep ke (stepAt p m k) r)
+    → rowAfterSteps p m ke (ke - k) k r ≡ rowAfterSteps p m ke (ke - pastOf (p .blocks) k) (pastOf (p .blocks) k) (rowStepped p m ke k r)
 unfolding rowAfterSteps
 steps-open p m ke k r h =
     let q : ke - k ≡ suc (ke - (k + 1)) = omega arith in
     ap (λ (f : ℕ). rowAfterSteps p m ke f k r) q
-    ∙ rw (lt-ltb k ke h) (steps-fuel p m ke (ke - (k + 1)) (ke - pastOf (p .blocks) k) (pastOf (p .blocks) k) (rowAfterStep ke (stepAt p m k) r)
+    ∙ rw (lt-ltb k ke h) (steps-fuel p m ke (ke - (k + 1)) (ke - pastOf (p .blocks) k) (pastOf (p .blocks) k) (rowStepped p m ke k r)
     (omega (arith, past-more (p .blocks) k)) (omega arith))
 
 steps-more : (p : Pivots) (m M N R : Mat) (n ke k : ℕ) → below ke n (rowAfterSteps p m ke (ke - k) k) M ≡ R → k < ke
-    → N ≡ below ke n (rowAfterStep ke (stepAt p m k)) M
+    → N ≡ below ke n (rowStepped p m ke k) M
     → below ke n (rowAfterSteps p m ke (ke - pastOf (p .blocks) k) (pastOf (p .blocks) k)) N ≡ R
 unfolding below
 steps-more p m M N R n ke k e h s =
@@ -219,27 +291,56 @@ one-by-one : (M : Mat) (n ke : ℕ) (a b : Step) → below ke n (rowAfterBoth ke
 unfolding below rowAfterBoth
 one-by-one M n ke a b = fun-ext λ i. test (within ke n i) (λ t. rw t) (λ t. rw t)
 
-steps-both : (p : Pivots) (m M N R : Mat) (n ke k l r : ℕ) → below ke n (rowAfterSteps p m ke (ke - k) k) M ≡ R → k < ke → l ≡ pastOf (p .blocks) k → l < ke
-    → r ≡ pastOf (p .blocks) l → N ≡ below ke n (rowAfterBoth ke (stepAt p m k) (stepAt p m l)) M → below ke n (rowAfterSteps p m ke (ke - r) r) N ≡ R
-steps-both p m M N R n ke k l r e h el g er s =
-    let first = below ke n (rowAfterStep ke (stepAt p m k)) M in
-    let after : below ke n (rowAfterSteps p m ke (ke - l) l) first ≡ R = rw el (steps-more p m M first R n ke k e h refl) in
-    rw er (steps-more p m first N R n ke l after g (s ∙ one-by-one M n ke (stepAt p m k) (stepAt p m l)))
+-- the exchange before a step, then the step
+arrived-step : (p : Pivots) (m M E : Mat) (n ke k : ℕ) → E ≡ below ke n (arrived p k) M → below ke n (rowAfterStep ke (stepAt p m k)) E ≡ below ke n (rowStepped p m ke k) M
+unfolding below rowStepped
+arrived-step p m M E n ke k e = rw e (fun-ext λ i. test (within ke n i) (λ t. rw t) (λ t. rw t))
 
-module _ (ds ss : List Float) (bs ps : List ℕ) (m M N : Mat) (n ke k l : ℕ) (here : k < ke) (el : l ≡ lastOf k (begins (bytes bs) k) + 1) where
-  pub turned-step : N ≡ below ke n (rowAfterStep ke (stepAt (pivotsOf ds ss bs ps) m k)) M
+-- no exchange before it
+stays-step : (p : Pivots) (m : Mat) (ke l : ℕ) → firstOf p l ≡ l → rowStepped p m ke l ≡ rowAfterStep ke (stepAt p m l)
+unfolding rowStepped arrived
+stays-step p m ke l e =
+    fun-ext λ r. ap (rowAfterStep ke (stepAt p m l)) (fun-ext λ j. ap r (ap (λ (q : ℕ). exchangedPlace l q j) e ∙ place-same l j))
+  where
+    place-same : (l j : ℕ) → exchangedPlace l l j ≡ j
+    place-same l j = test (eqb j l) (λ t. rw t (sym (eqb-true j l t))) (λ t. rw t)
+
+steps-both : (p : Pivots) (m M E N R : Mat) (n ke k l r : ℕ) → below ke n (rowAfterSteps p m ke (ke - k) k) M ≡ R → k < ke → l ≡ pastOf (p .blocks) k → l < ke
+    → r ≡ pastOf (p .blocks) l → E ≡ below ke n (arrived p k) M → firstOf p l ≡ l
+    → N ≡ below ke n (rowAfterBoth ke (stepAt p m k) (stepAt p m l)) E → below ke n (rowAfterSteps p m ke (ke - r) r) N ≡ R
+steps-both p m M E N R n ke k l r e h el g er a z s =
+    let first = below ke n (rowStepped p m ke k) M in
+    let after : below ke n (rowAfterSteps p m ke (ke - l) l) first ≡ R = rw el (steps-more p m M first R n ke k e h refl) in
+    rw er (steps-more p m first N R n ke l after g
+    (s ∙ one-by-one E n ke (stepAt p m k) (stepAt p m l) ∙ ap (below ke n (rowAfterStep ke (stepAt p m l))) (arrived-step p m M E n ke k a)
+    ∙ ap (λ (f : Row → Row). below ke n f first) (sym (stays-step p m ke l z))))
+
+-- the exchange before a step reads two arrays
+arrived-in : (ds ss : List Float) (bs ps : List ℕ) (k : ℕ) → arrivedIn bs ps k ≡ arrived (pivotsOf ds ss bs ps) k
+unfolding arrivedIn arrived firstOf pivotsOf
+arrived-in ds ss bs ps k = refl
+
+first-in : (ds ss : List Float) (bs ps : List ℕ) (k : ℕ) → firstIn bs ps k ≡ firstOf (pivotsOf ds ss bs ps) k
+unfolding firstIn firstOf pivotsOf
+first-in ds ss bs ps k = refl
+
+module _ (ds ss : List Float) (bs ps : List ℕ) (m M E N : Mat) (n ke k l : ℕ) (here : k < ke) (el : l ≡ lastOf k (begins (bytes bs) k) + 1)
+    (a : E ≡ below ke n (arrivedIn bs ps k) M) where
+  pub turned-step : N ≡ below ke n (rowAfterStep ke (stepAt (pivotsOf ds ss bs ps) m k)) E
       → below ke n (rowAfterSteps (pivotsOf ds ss bs ps) m ke (ke - l) l) N ≡ below ke n (rowAfterSteps (pivotsOf ds ss bs ps) m ke (ke - k) k) M
   unfolding pivotsOf
   turned-step s =
       let e : l ≡ pastOf (bytes bs) k = el ∙ past-of (bytes bs) k in
-      rw e (steps-more (pivotsOf ds ss bs ps) m M N _ n ke k refl here s)
+      rw e (steps-more (pivotsOf ds ss bs ps) m M N _ n ke k refl here
+      (s ∙ arrived-step (pivotsOf ds ss bs ps) m M E n ke k (a ∙ ap (λ (f : Row → Row). below ke n f M) (arrived-in ds ss bs ps k))))
 
-  pub turned-both : (r : ℕ) → l < ke → r ≡ lastOf l (begins (bytes bs) l) + 1
-      → N ≡ below ke n (rowAfterBoth ke (stepAt (pivotsOf ds ss bs ps) m k) (stepAt (pivotsOf ds ss bs ps) m l)) M
+  pub turned-both : (r : ℕ) → l < ke → r ≡ lastOf l (begins (bytes bs) l) + 1 → firstIn bs ps l ≡ l
+      → N ≡ below ke n (rowAfterBoth ke (stepAt (pivotsOf ds ss bs ps) m k) (stepAt (pivotsOf ds ss bs ps) m l)) E
       → below ke n (rowAfterSteps (pivotsOf ds ss bs ps) m ke (ke - r) r) N ≡ below ke n (rowAfterSteps (pivotsOf ds ss bs ps) m ke (ke - k) k) M
   unfolding pivotsOf
-  turned-both r h er s =
-      steps-both (pivotsOf ds ss bs ps) m M N _ n ke k l r refl here (el ∙ past-of (bytes bs) k) h (er ∙ past-of (bytes bs) l) s
+  turned-both r h er z s =
+      steps-both (pivotsOf ds ss bs ps) m M E N _ n ke k l r refl here (el ∙ past-of (bytes bs) k) h (er ∙ past-of (bytes bs) l)
+      (a ∙ ap (λ (f : Row → Row). below ke n f M) (arrived-in ds ss bs ps k)) (sym (first-in ds ss bs ps l) ∙ z) s
 
 pub past-first : (bs : List ℕ) (k l : ℕ) → l ≡ lastOf k (begins (bytes bs) k) + 1 → k < l
 past-first bs k l e = omega (arith, last-from k (begins (bytes bs) k))

@@ -3,11 +3,11 @@
 use Prim.Native.Nat.{ℕ, _+_, _*_, _<_, _≤_}
 use mathlib.Core.Path.{_≡_}
 use mathlib.Core.Bool.{Bool, cond}
-use mathlib.Core.List.{List}
+use mathlib.Core.List.{List, []}
 use lib.Ieee.{Float}
 use Rattle.model.specs.Scalar.{zeroF}
 use Rattle.model.specs.Matrix.{Row, vec, bytes}
-use Rattle.model.specs.Step.{Pivots, begins, blockAt}
+use Rattle.model.specs.Step.{Pivots, begins, blockAt, firstOf, arrived}
 use Rattle.model.specs.Head.{lastOf}
 use Rattle.model.specs.declared.Block.{Block}
 
@@ -15,6 +15,13 @@ use Rattle.model.specs.declared.Block.{Block}
 unfoldable pub pivotsOf : List Float → List Float → List ℕ → List ℕ → Pivots
 pivotsOf d sub blocks partners =
     record { d = vec d; sub = vec sub; amounts = λ i. zeroF; blocks = bytes blocks; lifts = λ i. 0; order = λ i. i; partners = bytes partners }
+
+-- the row exchanged with k before the step at k, and a row with that exchange made
+unfoldable pub firstIn : List ℕ → List ℕ → ℕ → ℕ
+firstIn blocks partners k = firstOf (pivotsOf [] [] blocks partners) k
+
+unfoldable pub arrivedIn : List ℕ → List ℕ → ℕ → Row → Row
+arrivedIn blocks partners k r = arrived (pivotsOf [] [] blocks partners) k r
 
 -- the pivot at k; of a 1x1 its number is d11, and the others are 0
 unfoldable pub pivotAt : Bool → Row → Row → ℕ → Block
@@ -29,6 +36,15 @@ pub record TailPre (nrow ncol nb kb ke len lenM ld ls lb lp : ℕ) : Type 0 wher
   pub width : ke ≤ kb + nb
   pub inD : ke ≤ ld
   pub inSub : ke ≤ ls
+  pub inBlocks : ke ≤ lb
+  pub inPartners : ke ≤ lp
+
+-- what the exchange before a step asks
+pub record ArrivePre (nrow ncol ke k len lb lp : ℕ) : Type 0 where
+  pub size : len ≡ nrow * ncol
+  pub head : ncol ≤ nrow
+  pub cols : ke ≤ ncol
+  pub here : k < ke
   pub inBlocks : ke ≤ lb
   pub inPartners : ke ≤ lp
 

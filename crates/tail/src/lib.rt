@@ -3,9 +3,11 @@
 // nothing else changes.
 use eliminate::below_one;
 use eliminate::below_two;
+use grid::columns;
 use model::Block;
 use pairs::below_pair;
 ghost use mathlib.Core.Path.{_≡_};
+ghost use mathlib.Core.Bool.{true};
 ghost use Prim.Native.Nat.{_+_, _-_, _<_, _≤_};
 ghost use lib.ListN.{length};
 ghost use Rattle.model.specs.Matrix.{view, vec, bytes};
@@ -14,7 +16,7 @@ ghost use Rattle.model.specs.Head.{lastOf};
 ghost use Rattle.whole.specs.Whole.{below};
 ghost use Rattle.eliminate.specs.Eliminate.{inPanel};
 ghost use Rattle.pairs.specs.Pairs.{rowAfterBoth};
-ghost use Rattle.tail.specs.Tail.{pivotsOf, pivotAt, TailPre, StepsPre, NextPre};
+ghost use Rattle.tail.specs.Tail.{pivotsOf, pivotAt, firstIn, arrivedIn, TailPre, ArrivePre, StepsPre, NextPre};
 
 // The block that begins at column k.
 fn block_at(d: &[f64], sub: &[f64], k: usize) -> Block
@@ -65,6 +67,38 @@ fn past(wide: bool, k: usize, columns: usize) -> usize
         return k + 2;
     }
     k + 1
+}
+
+// The exchange before the step at column k, on the rows from ke down: of a block's first column, where its row is another.
+fn arrive(
+    panel: &mut [f64],
+    blocks: &[u8],
+    partners: &[usize],
+    nrow: usize,
+    ncol: usize,
+    ke: usize,
+    k: usize,
+)
+    requires { ⌜ ArrivePre nrow ncol ke k (length (now panel)) (length (now blocks)) (length (now partners)) ⌝ }
+    requires { ⌜ StepsPre ke (bytes (now blocks)) (bytes (now partners)) ⌝ }
+    ensures { λ _. ⌜ view nrow (now (panel .exit))
+        ≡ below ke nrow (arrivedIn (now (blocks .entry)) (now (partners .entry)) k) (view nrow (now (panel .entry))) ⌝ }
+{
+    if blocks[k] == 1 {
+        columns::exchange(panel, nrow, k, partners[k + 1], ke, nrow);
+    }
+}
+
+// Whether the step at column l makes no exchange before its own.
+fn stays(blocks: &[u8], partners: &[usize], l: usize, ke: usize) -> bool
+    requires { ⌜ (l < ke) × (ke ≤ length (now blocks)) × (ke ≤ length (now partners)) ⌝ }
+    requires { ⌜ StepsPre ke (bytes (now blocks)) (bytes (now partners)) ⌝ }
+    ensures { λ r. ⌜ (r ≡ true → firstIn (now (blocks .entry)) (now (partners .entry)) l ≡ l) ⌝ }
+{
+    if blocks[l] == 1 {
+        return partners[l + 1] == l;
+    }
+    true
 }
 
 // The step at column k on the rows from ke down, lent from `ke + k·nrow` on.
@@ -154,8 +188,8 @@ fn tail_pair(
     );
 }
 
-// The step at column k on the rows from ke down, together with the one after it unless there is none or its exchange
-// goes back. The answer is the column after them.
+// The step at column k on the rows from ke down, together with the one after it unless there is none, its exchange goes
+// back, or it makes one before its own. The answer is the column after them.
 fn turn(
     panel: &mut [f64],
     mult: &[f64],
@@ -182,10 +216,11 @@ fn turn(
         (inPanel kb ke (view nb (now (mult .entry)))) ke (ke - k) k) (view nrow (now (panel .entry))) ⌝ }
     ensures { λ r. ⌜ k < r ⌝ }
 {
+    arrive(panel, blocks, partners, nrow, ncol, ke, k);
     let l = past(block_begins(blocks, k), k, ke);
     if l < ke {
         let r = past(block_begins(blocks, l), l, ke);
-        if r - 1 <= partners[l] {
+        if (r - 1 <= partners[l]) & stays(blocks, partners, l, ke) {
             tail_pair(
                 panel,
                 mult,

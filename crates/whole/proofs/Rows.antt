@@ -8,7 +8,7 @@ use lib.Dec.{ltb}
 use lib.Ieee.{Float}
 use Rattle.model.specs.Scalar.{_⊗_, zeroF}
 use Rattle.model.specs.Matrix.{Row, Mat, headOf, rowOf, exchangedPlace}
-use Rattle.model.specs.Step.{Step, one, two, rowAfterStep, Pivots, begins, pastOf, stepAt, rowAfterSteps}
+use Rattle.model.specs.Step.{Step, one, two, rowAfterStep, Pivots, begins, pastOf, stepAt, firstOf, arrived, rowStepped, rowAfterSteps}
 use Rattle.model.specs.Panel.{Panel, timesD, sumFrom, accOf, rowDeferred, rowAfterPanel}
 use Rattle.model.proofs.Cases.{test}
 use Rattle.whole.proofs.Masked.{ranged, within-past, head-at, head-up, place-under, one-alike, two-alike, one-past, two-past}
@@ -84,6 +84,33 @@ step-cut ke e s r w h =
     (λ j l. step-alike ke e s (rowOf e r) r j w h l (λ b z. row-at e r b z))
     (λ j l. step-past ke s (rowOf e r) j w (omega arith) ∙ row-past e r j l)
 
+-- a step with the exchange before it
+first-before : (ke : ℕ) (p : Pivots) (k : ℕ) → Inside ke p → k < ke → firstOf p k < ke
+unfolding firstOf
+first-before ke p k w h = test (begins (p .blocks) k) (λ t. rw t (w .partner (k + 1))) (λ t. rw t h)
+
+arrived-past : (ke : ℕ) (p : Pivots) (k : ℕ) (r : Row) (j : ℕ) → Inside ke p → k < ke → ke ≤ j → arrived p k r j ≡ r j
+unfolding arrived
+arrived-past ke p k r j w h l = ap r (place-past k (firstOf p k) ke j h (first-before ke p k w h) l)
+
+arrived-cut : (ke e : ℕ) (p : Pivots) (k : ℕ) (r : Row) → Inside ke p → k < ke → ke ≤ e → arrived p k (rowOf e r) ≡ rowOf e (arrived p k r)
+unfolding arrived
+arrived-cut ke e p k r w h l =
+    let q = first-before ke p k w h in
+    is-row e (arrived p k r) (arrived p k (rowOf e r))
+    (λ j x. row-at e r (exchangedPlace k (firstOf p k) j) (place-under k (firstOf p k) e j (omega arith) (omega arith) x))
+    (λ j x. ap (rowOf e r) (place-past k (firstOf p k) ke j h q (omega arith)) ∙ row-past e r j x)
+
+stepped-past : (ke : ℕ) (p : Pivots) (m : Mat) (k : ℕ) (r : Row) (j : ℕ) → Inside ke p → k < ke → ke ≤ j → rowStepped p m ke k r j ≡ r j
+unfolding rowStepped
+stepped-past ke p m k r j w h l = step-past ke (stepAt p m k) (arrived p k r) j (step-before ke p m k w h) l ∙ arrived-past ke p k r j w h l
+
+stepped-cut : (ke e : ℕ) (p : Pivots) (m : Mat) (k : ℕ) (r : Row) → Inside ke p → k < ke → ke ≤ e
+    → rowStepped p m ke k (rowOf e r) ≡ rowOf e (rowStepped p m ke k r)
+unfolding rowStepped
+stepped-cut ke e p m k r w h l =
+    ap (rowAfterStep ke (stepAt p m k)) (arrived-cut ke e p k r w h l) ∙ step-cut ke e (stepAt p m k) (arrived p k r) (step-before ke p m k w h) l
+
 -- ---- the panel's steps in turn
 
 module _ (p : Pivots) (m : Mat) (ke : ℕ) (w : Inside ke p) where
@@ -93,8 +120,7 @@ module _ (p : Pivots) (m : Mat) (ke : ℕ) (w : Inside ke p) where
   steps-past zero k r j h = refl
   steps-past (suc n) k r j h =
       test (ltb k ke)
-      (λ t. rw t (steps-past n (pastOf (p .blocks) k) (rowAfterStep ke (stepAt p m k) r) j h
-      ∙ step-past ke (stepAt p m k) r j (step-before ke p m k w (ltb-true k ke t)) h))
+      (λ t. rw t (steps-past n (pastOf (p .blocks) k) (rowStepped p m ke k r) j h ∙ stepped-past ke p m k r j w (ltb-true k ke t) h))
       (λ t. rw t)
 
   pub steps-cut : (n k e : ℕ) (r : Row) → ke ≤ e → rowAfterSteps p m ke n k (rowOf e r) ≡ rowOf e (rowAfterSteps p m ke n k r)
@@ -102,8 +128,8 @@ module _ (p : Pivots) (m : Mat) (ke : ℕ) (w : Inside ke p) where
   steps-cut zero k e r h = refl
   steps-cut (suc n) k e r h =
       test (ltb k ke)
-      (λ t. rw (t, step-cut ke e (stepAt p m k) r (step-before ke p m k w (ltb-true k ke t)) h)
-      (steps-cut n (pastOf (p .blocks) k) e (rowAfterStep ke (stepAt p m k) r) h))
+      (λ t. rw (t, stepped-cut ke e p m k r w (ltb-true k ke t) h)
+      (steps-cut n (pastOf (p .blocks) k) e (rowStepped p m ke k r) h))
       (λ t. rw t)
 
 -- ---- the later-panel rule

@@ -10,7 +10,7 @@ use lib.Dec.{ltb, eqb}
 use Rattle.model.specs.Matrix.{Mat, put, exchanged}
 use Rattle.model.specs.Choice.{Choice, zeroColumn, single, block, chooseOf}
 use Rattle.model.specs.Step.{Pivots}
-use Rattle.model.specs.Head.{SettledOne, oneRefused, oneIs, settledOne, SettledTwo, twoRefused, twoIs, settledTwo, afterOne, afterTwo, tryBy, tryOf}
+use Rattle.model.specs.Head.{SettledOne, oneRefused, oneIs, settledOne, SettledTwo, twoRefused, twoIs, settledTwo, afterOne, afterTwo, tryBlock, tryBy, tryOf}
 use Rattle.model.specs.Head.{State, Tried, refusedAt, took, lastOf, byteOf, noted, Progress, stopped, going, after, panelOf}
 use Rattle.model.specs.Factor.{start}
 use Rattle.model.specs.declared.Mode.{Mode}
@@ -91,19 +91,29 @@ module _ (ke : ℕ) (a m : Mat) where
       ⊎-elim (λ h. headOne-up ke k d (exchanged k kp ke a) i j h ∙ exchanged-up k kp ke a i j h)
       (λ h. headOne-past ke k d (exchanged k kp ke a) i j (omega arith) h ∙ exchanged-past k kp ke a i j h)
 
-  two-keeps : (k kp : ℕ) (s : SettledTwo) → Keeps ke a (afterTwo ke a m k kp s)
-  two-keeps k kp (twoRefused n) = tt
-  two-keeps k kp (twoIs b lifted amount rounds) = λ i j.
+  two-keeps : (k p kp : ℕ) (s : SettledTwo) → Keeps ke a (afterTwo ke a m k p kp s)
+  two-keeps k p kp (twoRefused n) = tt
+  two-keeps k p kp (twoIs b lifted amount rounds) = λ i j.
       ⊎-elim (λ h. headTwo-up ke k b (exchanged (k + 1) kp ke a) i j h ∙ exchanged-up (k + 1) kp ke a i j h)
       (λ h. headTwo-past ke k b (exchanged (k + 1) kp ke a) i j h ∙ exchanged-past (k + 1) kp ke a i j h)
 
+-- what keeps a matrix that was exchanged keeps the matrix
+exchange-keeps : (ke k p : ℕ) (a : Mat) (t : Tried) → Keeps ke (exchanged k p ke a) t → Keeps ke a t
+exchange-keeps ke k p a (refusedAt n q) w = tt
+exchange-keeps ke k p a (took v b m) w = λ i j u.
+    w i j u ∙ ⊎-elim (λ h. exchanged-up k p ke a i j h) (λ h. exchanged-past k p ke a i j h) u
+
+module _ (ke : ℕ) (a m : Mat) where
   by-keeps : (mode : Mode) (limit k : ℕ) (o : Choice) → k < ke → Keeps ke a (tryBy ke a m mode limit k o)
   by-keeps Fail limit k zeroColumn hk = tt
-  by-keeps (Lift floor) limit k zeroColumn hk = one-keeps k k (settledOne (Lift floor) (a k k)) hk
-  by-keeps Fail limit k (single kp) hk = one-keeps k kp (settledOne Fail (a kp kp)) hk
-  by-keeps (Lift floor) limit k (single kp) hk = one-keeps k kp (settledOne (Lift floor) (a kp kp)) hk
-  by-keeps Fail limit k (block kp) hk = two-keeps k kp (settledTwo Fail limit (blockIn (exchanged (k + 1) kp ke a) k))
-  by-keeps (Lift floor) limit k (block kp) hk = two-keeps k kp (settledTwo (Lift floor) limit (blockIn (exchanged (k + 1) kp ke a) k))
+  by-keeps (Lift floor) limit k zeroColumn hk = one-keeps ke a m k k (settledOne (Lift floor) (a k k)) hk
+  by-keeps Fail limit k (single kp) hk = one-keeps ke a m k kp (settledOne Fail (a kp kp)) hk
+  by-keeps (Lift floor) limit k (single kp) hk = one-keeps ke a m k kp (settledOne (Lift floor) (a kp kp)) hk
+  by-keeps Fail limit k (block p kp) hk = exchange-keeps ke k p a (tryBlock ke (exchanged k p ke a) m Fail limit k p kp) (two-keeps ke (exchanged k p ke a) m k p kp
+      (settledTwo Fail limit (blockIn (exchanged (k + 1) kp ke (exchanged k p ke a)) k)))
+  by-keeps (Lift floor) limit k (block p kp) hk =
+      exchange-keeps ke k p a (tryBlock ke (exchanged k p ke a) m (Lift floor) limit k p kp) (two-keeps ke (exchanged k p ke a) m k p kp
+      (settledTwo (Lift floor) limit (blockIn (exchanged (k + 1) kp ke (exchanged k p ke a)) k)))
 
   pub try-keeps : (mode : Mode) (limit k : ℕ) → k < ke → Keeps ke a (tryOf ke a m mode limit k)
   unfolding tryOf
@@ -145,7 +155,8 @@ noted-inside : (ke limit k : ℕ) (p : Pivots) (v : Pivot) → GoodPivot ke limi
 unfolding noted put
 noted-inside ke limit k p v g w =
     record {
-      partner = λ j. test (eqb j k) (λ t. rw t (g .row)) (λ t. rw t (w .partner j));
+      partner = λ j. test (eqb j k) (λ t. rw t (g .row))
+          (λ t. rw t (test (eqb j (lastOf k (v .two))) (λ u. rw u (g .first)) (λ u. rw u (w .partner j))));
       pair = λ j. test (eqb j k)
           (λ t. rw t (λ e. omega (arith, eqb-true j k t, last-wide k (v .two) (wide (v .two) e), g .last)))
           (λ t. rw t (test (eqb j (lastOf k (v .two)))

@@ -5,7 +5,7 @@ use native.Mathlib.Omega.{arith}
 use Rattle.model.specs.Matrix.{Row, Mat, headOf, exchanged}
 use Rattle.model.specs.Choice.{Greatest, greatest, columnGreatest, rowGreatest, noneYet, Choice, zeroColumn, single, block, chooseOf}
 use Rattle.model.specs.Step.{blockOf}
-use Rattle.model.specs.Head.{SettledOne, oneRefused, oneIs, settledOne, SettledTwo, twoRefused, twoIs, settledTwo, afterOne, afterTwo, tryBy, tryOf}
+use Rattle.model.specs.Head.{SettledOne, oneRefused, oneIs, settledOne, SettledTwo, twoRefused, twoIs, settledTwo, afterOne, afterTwo, tryBlock, tryBy, tryOf}
 use Rattle.model.specs.declared.Mode.{Mode}
 use Rattle.model.specs.declared.Mode.the-variants.{Fail, Lift}
 use Rattle.model.specs.declared.Block.{Block}
@@ -53,9 +53,9 @@ module _ (c ke : ℕ) (a m : Mat) (hc : ke ≤ c) where
       let x = exchanged k kp ke a in
       rw (exchanged-masked c k kp ke a hk hp hc, headOne-masked c ke k d x hk hc, keptOne-masked c ke k x m hc d)
 
-  two-tried : (k kp : ℕ) (s : SettledTwo) → k + 1 < ke → kp < ke → afterTwo ke (headOf c a) m k kp s ≡ cutTried c (afterTwo ke a m k kp s)
-  two-tried k kp (twoRefused n) hk hp = refl
-  two-tried k kp (twoIs b lifted amount rounds) hk hp =
+  two-tried : (k p kp : ℕ) (s : SettledTwo) → k + 1 < ke → kp < ke → afterTwo ke (headOf c a) m k p kp s ≡ cutTried c (afterTwo ke a m k p kp s)
+  two-tried k p kp (twoRefused n) hk hp = refl
+  two-tried k p kp (twoIs b lifted amount rounds) hk hp =
       let x = exchanged (k + 1) kp ke a in
       rw (exchanged-masked c (k + 1) kp ke a hk hp hc, headTwo-masked c ke k b x hc, keptTwo-masked c ke k x m hc b)
 
@@ -63,24 +63,30 @@ module _ (c ke : ℕ) (a m : Mat) (hc : ke ≤ c) where
       → afterOne ke (headOf c a) m k kp (settledOne mode (headOf c a kp kp)) ≡ cutTried c (afterOne ke a m k kp (settledOne mode (a kp kp)))
   single-tried mode k kp hk hp = rw (head-at c a kp kp (omega arith) (omega arith)) (one-tried k kp (settledOne mode (a kp kp)) hk hp)
 
-  block-tried : (mode : Mode) (limit k kp : ℕ) → k + 1 < ke → kp < ke
-      → afterTwo ke (headOf c a) m k kp (settledTwo mode limit (blockIn (exchanged (k + 1) kp ke (headOf c a)) k))
-      ≡ cutTried c (afterTwo ke a m k kp (settledTwo mode limit (blockIn (exchanged (k + 1) kp ke a) k)))
-  block-tried mode limit k kp hk hp =
+  block-tried : (mode : Mode) (limit k p kp : ℕ) → k + 1 < ke → kp < ke
+      → tryBlock ke (headOf c a) m mode limit k p kp ≡ cutTried c (tryBlock ke a m mode limit k p kp)
+  block-tried mode limit k p kp hk hp =
       let x = exchanged (k + 1) kp ke a in
       rw (exchanged-masked c (k + 1) kp ke a hk hp hc) (
       let at : (i j : ℕ) → j ≤ i → i < ke → headOf c x i j ≡ x i j = λ i j h l. head-at c x i j h (omega arith) in
       rw (at k k (omega arith) (omega arith), at (k + 1) k (omega arith) hk, at (k + 1) (k + 1) (omega arith) hk)
-      (two-tried k kp (settledTwo mode limit (blockIn x k)) hk hp))
+      (two-tried k p kp (settledTwo mode limit (blockIn x k)) hk hp))
+
+module _ (c ke : ℕ) (a m : Mat) (hc : ke ≤ c) where
+  -- a block's first exchange, then the block
+  pair-tried : (mode : Mode) (limit k p kp : ℕ) → k + 1 < ke → kp < ke → p < ke
+      → tryBlock ke (exchanged k p ke (headOf c a)) m mode limit k p kp ≡ cutTried c (tryBlock ke (exchanged k p ke a) m mode limit k p kp)
+  pair-tried mode limit k p kp hk hp h =
+      rw (exchanged-masked c k p ke a (omega arith) h hc) (block-tried c ke (exchanged k p ke a) m hc mode limit k p kp hk hp)
 
   tried-by : (mode : Mode) (limit k : ℕ) (o : Choice) → k < ke → Chosen k ke o
       → tryBy ke (headOf c a) m mode limit k o ≡ cutTried c (tryBy ke a m mode limit k o)
   tried-by Fail limit k zeroColumn hk p = refl
-  tried-by (Lift floor) limit k zeroColumn hk p = single-tried (Lift floor) k k hk hk
-  tried-by Fail limit k (single kp) hk p = single-tried Fail k kp hk (p .1)
-  tried-by (Lift floor) limit k (single kp) hk p = single-tried (Lift floor) k kp hk (p .1)
-  tried-by Fail limit k (block kp) hk p = block-tried Fail limit k kp (omega (arith, p .0, p .1)) (p .1)
-  tried-by (Lift floor) limit k (block kp) hk p = block-tried (Lift floor) limit k kp (omega (arith, p .0, p .1)) (p .1)
+  tried-by (Lift floor) limit k zeroColumn hk p = single-tried c ke a m hc (Lift floor) k k hk hk
+  tried-by Fail limit k (single kp) hk p = single-tried c ke a m hc Fail k kp hk (p .1)
+  tried-by (Lift floor) limit k (single kp) hk p = single-tried c ke a m hc (Lift floor) k kp hk (p .1)
+  tried-by Fail limit k (block q kp) hk p = pair-tried Fail limit k q kp (omega (arith, p .0, p .1)) (p .1) (p .3)
+  tried-by (Lift floor) limit k (block q kp) hk p = pair-tried (Lift floor) limit k q kp (omega (arith, p .0, p .1)) (p .1) (p .3)
 
   -- the cut goes through a step
   pub try-masked : (mode : Mode) (limit k : ℕ) → k < ke → tryOf ke (headOf c a) m mode limit k ≡ cutTried c (tryOf ke a m mode limit k)

@@ -1,38 +1,17 @@
--- `bunch_kaufman::record::put_exchange` meets its contract. Assumes nothing.
+-- `bunch_kaufman::record::put_exchange` meets its contract: two exchanges in turn, two stores. Assumes nothing.
 use borrow.Author.Needs.{needs}
-use Rattle.bunch_kaufman.proofs.Noted.{bytes-set, places-swap}
+use Rattle.bunch_kaufman.proofs.Noted.{swapped-twice}
 use Rattle.bunch_kaufman.proofs.record.put_exchange.Statement.{statement}
 use Rattle.bunch_kaufman.proofs.record.put_exchange.Tie as tie
 
-mul-a : tie.Need-mul-a
-mul-a c = search needs
+put-swap-requires : tie.Need-put-swap-requires
+put-swap-requires c κs = search needs
 
-slice-read-a : tie.Need-slice-read-a
-slice-read-a c = search needs
+put-swap-requires-2 : tie.Need-put-swap-requires-2
+put-swap-requires-2 c κs = search needs
 
-mul-order : tie.Need-mul-order
-mul-order c = search needs
-
-slice-read-order : tie.Need-slice-read-order
-slice-read-order c = search needs
-
-mul-order-2 : tie.Need-mul-order-2
-mul-order-2 c = search needs
-
-slice-write-order : tie.Need-slice-write-order
-slice-write-order c = search needs
-
-mul-order-3 : tie.Need-mul-order-3
-mul-order-3 c = search needs
-
-slice-write-order-2 : tie.Need-slice-write-order-2
-slice-write-order-2 c = search needs
-
-mul-partners : tie.Need-mul-partners
-mul-partners c = search needs
-
-slice-write-partners : tie.Need-slice-write-partners
-slice-write-partners c = search needs
+put-both-rows-requires : tie.Need-put-both-rows-requires
+put-both-rows-requires c κs = search needs
 
 same-length : tie.Need-same-length
 same-length c = search needs
@@ -41,22 +20,7 @@ same-length-2 : tie.Need-same-length-2
 same-length-2 c = search needs
 
 returns : tie.Need-returns
-returns c = (search places-swap, search bytes-set)
+returns c = (search swapped-twice, search needs)
 
 pub put-exchange-spec : {M : Type 1} → statement M
-put-exchange-spec =
-    tie.close
-    (tie.spec
-    mul-a
-    slice-read-a
-    mul-order
-    slice-read-order
-    mul-order-2
-    slice-write-order
-    mul-order-3
-    slice-write-order-2
-    mul-partners
-    slice-write-partners
-    same-length
-    same-length-2
-    returns)
+put-exchange-spec = tie.close (tie.spec put-swap-requires put-swap-requires-2 put-both-rows-requires same-length same-length-2 returns)

@@ -53,7 +53,7 @@ returns-3 c =
     let told = done .before .before .before .before in
     let settled = told .before .before in
     let read = settled .before in (
-      pair-took _ _ _ _ _ _ _ _ _ _ _ _ _ _ _ _ (read .before .before .before .before .exchange-if .ensures) (read .block-at .ensures)
+      pair-took _ _ _ _ _ _ _ _ _ _ _ _ _ _ _ _ _ (read .before .before .before .before .exchange-if .ensures) (read .block-at .ensures)
           (settled .settle-two .ensures) (told .settled .given .1) (done .head-two .ensures .0) (done .head-two .ensures .1),
       tt,
     )

@@ -25,8 +25,8 @@ single-requires c κs =
 enum-known-choice-2 : tie.Need-enum-known-choice-2
 enum-known-choice-2 c = search needs
 
-pair-requires : tie.Need-pair-requires
-pair-requires c κs =
+moved-pair-requires : tie.Need-moved-pair-requires
+moved-pair-requires c κs =
     let told = c .before .before .before in
     let chosen = told .before .before in
     pair-pre _ _ _ _ _ _ _ _ _ _ (chosen .before .before .before .before .pre .0) (told .choice2 .given .1) (chosen .choose .ensures .1)
@@ -74,7 +74,7 @@ returns-3 c =
     let chosen = told .before .before in
     let pre = chosen .before .before .before .before .pre in
     step-pair _ _ _ _ _ _ _ _ _ _ _ (pre .0 .last) (pre .1) (chosen .choose .ensures .0) (told .choice2 .given .1)
-    (done .pair .ensures .0) (done .pair .ensures .1)
+    (done .moved-pair .ensures .0) (done .moved-pair .ensures .1)
 
 pub step-spec : {M : Type 1} → statement M
 step-spec =
@@ -86,7 +86,7 @@ step-spec =
     enum-known-choice
     single-requires
     enum-known-choice-2
-    pair-requires
+    moved-pair-requires
     same-length
     same-length-2
     returns
