@@ -10,7 +10,8 @@ use borrow.Author.Tests.{lt-ltb, le-ltb, le-leb, eq-eqb, ne-eqb, eqb-true, eqb-f
 use lib.Dec.{leb, ltb, eqb}
 use lib.ListN.{length, getD}
 use Rattle.model.specs.Matrix.{Mat, view, headOf, bytes, put, exchangedPlace, swapped, tabulate}
-use Rattle.model.specs.Step.{Pivots, begins}
+use Rattle.model.specs.Step.{Pivots, begins, pastOf, firstOf, isBlock}
+use Rattle.model.specs.Kept.{Paired, Starts, Ahead, Recorded}
 use Rattle.model.specs.Panel.{Panel}
 use Rattle.model.specs.Head as head
 use Rattle.model.specs.Head.{State, Tried, refusedAt, took, tryOf, lastOf, byteOf, noted, Progress, stopped, going, after, panelOf, Run, done, closed, passed, withPanel, continued, panelsOf}
@@ -59,12 +60,6 @@ swapped-permutes n f p q hp hq w = record {
 }
 
 -- ---- block bytes
-
--- before n: each is 0 or 1, and a 1 has a 0 after it, before n too
-pub record Paired (n : ℕ) (f : ℕ → ℕ) : Type 0 where
-  pub byte : (c : ℕ) → c < n → f c ≤ 1
-  pub room : (c : ℕ) → c < n → f c ≡ 1 → c + 1 < n
-  pub apart : (c : ℕ) → c < n → f c ≡ 1 → f (c + 1) ≡ 0
 
 -- a step's bytes: 0 at its last column, then 1 at k for a block
 stepBytes : (ℕ → ℕ) → ℕ → Bool → ℕ → ℕ
@@ -122,12 +117,12 @@ last-from k true = omega arith
 last-from k false = omega arith
 
 noted-kept : (ncol ke limit k : ℕ) (p : Pivots) (v : Pivot) → ke ≤ ncol → GoodPivot ke limit k v → Kept ncol k p
-    → Kept ncol (lastOf k (v .two) + 1) (noted p k (lastOf k (v .two)) v)
+    → Kept ncol (lastOf k (isBlock (v .diagonal)) + 1) (noted p k (lastOf k (isBlock (v .diagonal))) v)
 unfolding noted stepBytes
 noted-kept ncol ke limit k p v h g w = record {
-  order = swapped-permutes ncol (swapped (p .order) k (v .p)) (lastOf k (v .two)) (v .kp) (omega (arith, g .last)) (omega (arith, g .row))
-      (swapped-permutes ncol (p .order) k (v .p) (omega (arith, g .last, last-from k (v .two))) (omega (arith, g .first)) (w .order));
-  blocks = step-paired (p .blocks) k (v .two) (w .blocks);
+  order = swapped-permutes ncol (swapped (p .order) k (v .p .0)) (lastOf k (isBlock (v .diagonal))) (v .kp .0) (omega (arith, g .last)) (omega (arith, g .row))
+      (swapped-permutes ncol (p .order) k (v .p .0) (omega (arith, g .last, last-from k (isBlock (v .diagonal)))) (omega (arith, g .first)) (w .order));
+  blocks = step-paired (p .blocks) k (isBlock (v .diagonal)) (w .blocks);
 }
 
 -- a panel's loop that goes on has come to its end
@@ -139,7 +134,7 @@ after-kept : (ncol ke limit k : ℕ) (s : State) (f : ℕ → State → Progress
     → ((m : ℕ) (u : State) → k < m → m ≤ ke → Kept ncol m (u .pivots) → Ended ncol ke (f m u)) → Ended ncol ke (after t s k f)
 after-kept ncol ke limit k s f (refusedAt n p) l g w next = tt
 after-kept ncol ke limit k s f (took v a m) l g w next =
-    next (lastOf k (v .two) + 1) _ (omega (arith, last-from k (v .two))) (omega (arith, g .last)) (noted-kept ncol ke limit k (s .pivots) v l g w)
+    next (lastOf k (isBlock (v .diagonal)) + 1) _ (omega (arith, last-from k (isBlock (v .diagonal)))) (omega (arith, g .last)) (noted-kept ncol ke limit k (s .pivots) v l g w)
 
 pub panel-kept : (ncol ke : ℕ) (mode : Mode) (limit n k : ℕ) (s : State) → k ≤ ke → ke ≤ ncol → ke - k ≤ n → Kept ncol k (s .pivots) → Ended ncol ke (panelOf ke mode limit n k s)
 unfolding panelOf

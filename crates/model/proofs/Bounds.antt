@@ -14,7 +14,7 @@ use Rattle.model.specs.Root.{sqrtOf, alpha, roundRoot, isqrt, wholeRoot}
 use Rattle.model.specs.Matrix.{Row, Mat, exchanged}
 use Rattle.model.specs.Choice.{Greatest, greatest, noneYet, columnGreatest, rowGreatest, Choice, zeroColumn, single, block, chooseOf}
 use Rattle.model.specs.Head.{SettledOne, oneRefused, oneIs, settledOne, SettledTwo, twoRefused, twoIs, raisedFrom, settledTwo, barOf, liftStepOf, growthFloorOf, Tried, refusedAt, took, afterOne, afterTwo, tryBlock, tryBy, tryOf, lastOf}
-use Rattle.model.specs.Step.{blockOf}
+use Rattle.model.specs.Step.{blockOf, isBlock}
 use Rattle.model.specs.declared.Mode.{Mode}
 use Rattle.model.specs.declared.Mode.the-variants.{Fail, Lift}
 use Rattle.model.specs.declared.Block.{Block}
@@ -115,12 +115,13 @@ choose-in a k ke h =
 
 -- ---- a step
 
--- the pivot's last column and its row stand within the panel, the row not before the column; its rounds keep to the limit
+-- the pivot's last column and its rows stand within the panel, no row before the column that it is exchanged with; its rounds keep to the limit
 pub record GoodPivot (ke limit k : ℕ) (v : Pivot) : Type 0 where
-  pub last : lastOf k (v .two) < ke
-  pub from : lastOf k (v .two) ≤ v .kp
-  pub row : v .kp < ke
-  pub first : v .p < ke
+  pub last : lastOf k (isBlock (v .diagonal)) < ke
+  pub from : lastOf k (isBlock (v .diagonal)) ≤ v .kp .0
+  pub row : v .kp .0 < ke
+  pub ahead : k ≤ v .p .0
+  pub first : v .p .0 < ke
   pub few : v .rounds ≤ limit
 
 abbrev pub Good : ℕ → ℕ → ℕ → Tried → Type 0
@@ -155,14 +156,14 @@ module _ (ke : ℕ) (a m : Mat) (limit k : ℕ) where
   one-good : (kp : ℕ) (s : SettledOne) → k ≤ kp → kp < ke → Good ke limit k (afterOne ke a m k kp s)
   unfolding lastOf
   one-good kp (oneRefused n) l r = tt
-  one-good kp (oneIs d b x) l r = record { last = omega arith; from = l; row = r; first = omega arith; few = omega arith }
+  one-good kp (oneIs d b x) l r = record { last = omega arith; from = l; row = r; ahead = omega arith; first = omega arith; few = omega arith }
 
-  two-good : (p kp : ℕ) (s : SettledTwo) → FewRounds limit s → k < kp → kp < ke → p < ke → Good ke limit k (afterTwo ke a m k p kp s)
+  two-good : (p kp : ℕ) (s : SettledTwo) → FewRounds limit s → k < kp → kp < ke → k ≤ p → p < ke → Good ke limit k (afterTwo ke a m k p kp s)
   unfolding lastOf
-  two-good p kp (twoRefused n) f l r h = tt
-  two-good p kp (twoIs b y x n) f l r h = record { last = omega arith; from = omega arith; row = r; first = h; few = f }
+  two-good p kp (twoRefused n) f l r g h = tt
+  two-good p kp (twoIs b y x n) f l r g h = record { last = omega arith; from = omega arith; row = r; ahead = g; first = h; few = f }
 
-  block-good : (mode : Mode) (p kp : ℕ) → k < kp → kp < ke → p < ke → Good ke limit k (tryBlock ke a m mode limit k p kp)
+  block-good : (mode : Mode) (p kp : ℕ) → k < kp → kp < ke → k ≤ p → p < ke → Good ke limit k (tryBlock ke a m mode limit k p kp)
   block-good mode p kp = two-good p kp (settledTwo mode limit _) (settled-few mode limit _)
 
 module _ (ke : ℕ) (a m : Mat) (limit k : ℕ) where
@@ -171,8 +172,8 @@ module _ (ke : ℕ) (a m : Mat) (limit k : ℕ) where
   by-good (Lift floor) zeroColumn h p = one-good ke a m limit k k (settledOne (Lift floor) (a k k)) (omega arith) h
   by-good Fail (single kp) h p = one-good ke a m limit k kp (settledOne Fail (a kp kp)) (p .0) (p .1)
   by-good (Lift floor) (single kp) h p = one-good ke a m limit k kp (settledOne (Lift floor) (a kp kp)) (p .0) (p .1)
-  by-good Fail (block q kp) h p = block-good ke (exchanged k q ke a) m limit k Fail q kp (p .0) (p .1) (p .3)
-  by-good (Lift floor) (block q kp) h p = block-good ke (exchanged k q ke a) m limit k (Lift floor) q kp (p .0) (p .1) (p .3)
+  by-good Fail (block q kp) h p = block-good ke (exchanged k q ke a) m limit k Fail q kp (p .0) (p .1) (p .2) (p .3)
+  by-good (Lift floor) (block q kp) h p = block-good ke (exchanged k q ke a) m limit k (Lift floor) q kp (p .0) (p .1) (p .2) (p .3)
 
 pub try-good : (ke : ℕ) (a m : Mat) (mode : Mode) (limit k : ℕ) → k < ke → Good ke limit k (tryOf ke a m mode limit k)
 unfolding tryOf

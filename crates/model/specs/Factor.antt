@@ -8,7 +8,7 @@ use lib.ListN.{length, replicate}
 use lib.Ieee.{Float, lt}
 use Rattle.model.specs.Scalar.{zeroF, reciprocalOf, isFinite}
 use Rattle.model.specs.Matrix.{Row, Mat, view, vec, headOf, rowOf, tabulate, columnMajor}
-use Rattle.model.specs.Step.{Pivots, blockAt, begins}
+use Rattle.model.specs.Step.{Pivots, blockAt, begins, endsBlock}
 use Rattle.model.specs.Panel.{Panel, tailRowOf}
 use Rattle.model.specs.Head as head
 use Rattle.model.specs.Inertia.{talliedOf}
@@ -102,7 +102,7 @@ unfoldable pub pivotSound : Pivots → ℕ → Bool
 pivotSound p k =
     let det = blockAt (p .d) (p .sub) k .det in
     let block = isFinite det && isFinite (reciprocalOf det) in
-    let single = (ltb 0 k && begins (p .blocks) (k - 1)) || isFinite (reciprocalOf (p .d k)) in
+    let single = endsBlock (p .blocks) k || isFinite (reciprocalOf (p .d k)) in
     cond (begins (p .blocks) k) block single
 
 -- column k after the last column: 'd, subdiagonal, lower head entry, block determinant, or reciprocal of a 1x1 pivot or determinant'

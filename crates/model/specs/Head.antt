@@ -8,11 +8,12 @@ use Rattle.model.specs.Scalar.{_⊕_, _⊖_, _⊗_, zeroF, reciprocalOf,
 use Rattle.model.specs.Root.{sqrtOf}
 use Rattle.model.specs.Matrix.{Row, Mat, put, swapped, exchanged, withColumn}
 use Rattle.model.specs.Choice.{Choice, zeroColumn, single, block, chooseOf}
-use Rattle.model.specs.Step.{one, two, Pivots, blockOf, firstMultiplier, secondMultiplier, eliminated, rowAfterSteps}
+use Rattle.model.specs.Step.{one, two, Pivots, blockOf, isBlock, firstNumber, lastNumber, underNumber, firstMultiplier, secondMultiplier, eliminated, rowAfterSteps}
 use Rattle.model.specs.Panel.{Panel, rowAfterPanel}
 use Rattle.model.specs.declared.Mode.{Mode}
 use Rattle.model.specs.declared.Mode.the-variants.{Fail, Lift}
 use Rattle.model.specs.declared.Block.{Block}
+use Rattle.model.specs.declared.Diagonal.the-variants.{One, Two}
 use Rattle.model.specs.declared.Pivot.{Pivot}
 
 -- the head, the multipliers of the panel at work, the pivots so far, the rounds so far
@@ -106,7 +107,7 @@ module _ (ke : ℕ) (a₀ mult : Mat) where
   afterOne k kp (oneRefused n) = refusedAt n k
   afterOne k kp (oneIs d lifted amount) =
       let a = exchanged k kp ke a₀ in
-      took (record { p = k; kp = kp; two = false; d11 = d; d21 = zeroF; d22 = zeroF; lifted = lifted; amount = amount; rounds = 0 })
+      took (record { p = record { 0 = k }; kp = record { 0 = kp }; diagonal = One d; lifted = lifted; amount = amount; rounds = 0 })
       (headOne ke k d a) (keptOne ke k d a mult)
 
   -- a block at k and k + 1, k + 1 exchanged with row kp; k was exchanged with row p before
@@ -114,7 +115,7 @@ module _ (ke : ℕ) (a₀ mult : Mat) where
   afterTwo k p kp (twoRefused n) = refusedAt n k
   afterTwo k p kp (twoIs b lifted amount rounds) =
       let a = exchanged (k + 1) kp ke a₀ in
-      took (record { p = p; kp = kp; two = true; d11 = b .d11; d21 = b .d21; d22 = b .d22; lifted = lifted; amount = amount; rounds = rounds })
+      took (record { p = record { 0 = p }; kp = record { 0 = kp }; diagonal = Two b; lifted = lifted; amount = amount; rounds = rounds })
       (headTwo ke k b a) (keptTwo ke k b a mult)
 
   -- the block is read after the exchange
@@ -147,13 +148,13 @@ byteOf b = cond b 1 0
 unfoldable pub noted : Pivots → ℕ → ℕ → Pivot → Pivots
 noted p k e v =
     record {
-      d = put (put (p .d) e (v .d22)) k (v .d11);
-      sub = put (put (p .sub) e zeroF) k (v .d21);
+      d = put (put (p .d) e (lastNumber (v .diagonal))) k (firstNumber (v .diagonal));
+      sub = put (put (p .sub) e zeroF) k (underNumber (v .diagonal));
       amounts = put (put (p .amounts) e (v .amount)) k (v .amount);
-      blocks = put (put (p .blocks) e 0) k (byteOf (v .two));
+      blocks = put (put (p .blocks) e 0) k (byteOf (isBlock (v .diagonal)));
       lifts = put (put (p .lifts) e (v .lifted)) k (v .lifted);
-      order = swapped (swapped (p .order) k (v .p)) e (v .kp);
-      partners = put (put (p .partners) e (v .p)) k (v .kp);
+      order = swapped (swapped (p .order) k (v .p .0)) e (v .kp .0);
+      partners = put (put (p .partners) e (v .p .0)) k (v .kp .0);
     }
 
 -- ---- a panel's steps in turn
@@ -166,7 +167,7 @@ pub data Progress : Type 0 where
 abbrev pub after : Tried → State → ℕ → (ℕ → State → Progress) → Progress
 after (refusedAt n p) s k f = stopped n p
 after (took v a m) s k f =
-    let e = lastOf k (v .two) in
+    let e = lastOf k (isBlock (v .diagonal)) in
     f (e + 1) (record { a = a; mult = m; pivots = noted (s .pivots) k e v; rounds = s .rounds + v .rounds })
 
 -- at most n steps from column k on, up to ke

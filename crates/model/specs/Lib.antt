@@ -13,3 +13,5 @@ pub mod Assembly
 pub mod Update
 pub mod Stations
 pub mod Independence
+-- What proofs of the code rely on beside it.
+pub mod Kept

@@ -1,12 +1,11 @@
 -- A finished panel, and what it does to a row below it. From document 01, 'apply_bk_panel_trailing' and 'll_cdiv_emit'. Definitions only. Assumes nothing.
-use mathlib.Core.Bool.{cond, _&&_}
+use mathlib.Core.Bool.{cond}
 use mathlib.Core.List.{List, [], _∷_}
 use Prim.Native.Nat.{ℕ, zero, suc, _+_, _-_}
-use lib.Dec.{ltb}
 use lib.Ieee.{Float}
 use Rattle.model.specs.Scalar.{_⊕_, _⊖_, _⊗_, zeroF}
 use Rattle.model.specs.Matrix.{Row, Mat, within}
-use Rattle.model.specs.Step.{Pivots, begins, rowAfterSteps}
+use Rattle.model.specs.Step.{Pivots, begins, endsBlock, rowAfterSteps}
 
 -- columns kb to ke, the pivots, the multipliers of its steps, and the head's rows from ke on after the steps
 pub record Panel : Type 0 where
@@ -22,7 +21,7 @@ timesD p r = λ c.
     let plain = r c ⊗ p .d c in
     let first = r c ⊗ p .d c ⊕ r (c + 1) ⊗ p .sub c in
     let second = r (c - 1) ⊗ p .sub (c - 1) ⊕ r c ⊗ p .d c in
-    cond (begins (p .blocks) c) first (cond (ltb 0 c && begins (p .blocks) (c - 1)) second plain)
+    cond (begins (p .blocks) c) first (cond (endsBlock (p .blocks) c) second plain)
 
 -- the sum of f over n places from c on, in order, on top of acc
 unfoldable pub sumFrom : Row → ℕ → ℕ → Float → Float

@@ -1,12 +1,14 @@
 -- One elimination step: what it does to a row, and how it is read off the record of pivots. From document 01, 'll_bk_panel_step' and 'apply_bk_panel_trailing'.
 -- Definitions only. Assumes nothing.
-use mathlib.Core.Bool.{Bool, cond}
-use Prim.Native.Nat.{ℕ, zero, suc, _+_}
+use mathlib.Core.Bool.{Bool, true, false, cond, _&&_}
+use Prim.Native.Nat.{ℕ, zero, suc, _+_, _-_}
 use lib.Dec.{eqb, ltb}
 use lib.Ieee.{Float, eq}
 use Rattle.model.specs.Scalar.{_⊖_, _⊗_, zeroF, reciprocalOf}
 use Rattle.model.specs.Matrix.{Row, Mat, within, exchangedPlace}
 use Rattle.model.specs.declared.Block.{Block}
+use Rattle.model.specs.declared.Diagonal.{Diagonal}
+use Rattle.model.specs.declared.Diagonal.the-variants.{One, Two}
 
 -- A 1x1 pivot d at k, or a block at k and k + 1; kp is the row exchanged with k, or with k + 1; the rows hold the multipliers of the panel's
 -- rows, by row, as they were when the step was taken.
@@ -17,6 +19,27 @@ pub data Step : Type 0 where
 -- 'det = d11·d22 − d21·d21'
 abbrev pub blockOf : Float → Float → Float → Block
 blockOf d11 d21 d22 = record { d11 = d11; d21 = d21; d22 = d22; det = d11 ⊗ d22 ⊖ d21 ⊗ d21 }
+
+-- ---- a pivot's numbers as d and the subdiagonal hold them
+
+abbrev pub isBlock : Diagonal → Bool
+isBlock (One d) = false
+isBlock (Two b) = true
+
+-- in d at its first column and at its last, which are one for a 1x1; in the subdiagonal at its first
+abbrev pub firstNumber : Diagonal → Float
+firstNumber (One d) = d
+firstNumber (Two b) = b .d11
+
+abbrev pub lastNumber : Diagonal → Float
+lastNumber (One d) = d
+lastNumber (Two b) = b .d22
+
+abbrev pub underNumber : Diagonal → Float
+underNumber (One d) = zeroF
+underNumber (Two b) = b .d21
+
+-- ---- the step
 
 -- 'l1' and 'l2': a block's multipliers of a row with x and y in its two columns
 abbrev pub firstMultiplier : Block → Float → Float → Float
@@ -71,6 +94,10 @@ pub record Pivots : Type 0 where
 abbrev pub begins : (ℕ → ℕ) → ℕ → Bool
 begins blocks k = eqb (blocks k) 1
 
+-- k is a block's second column
+abbrev pub endsBlock : (ℕ → ℕ) → ℕ → Bool
+endsBlock blocks k = ltb 0 k && begins blocks (k - 1)
+
 -- the column after the pivot at k
 unfoldable pub pastOf : (ℕ → ℕ) → ℕ → ℕ
 pastOf blocks k = cond (begins blocks k) (k + 2) (k + 1)
@@ -78,6 +105,10 @@ pastOf blocks k = cond (begins blocks k) (k + 2) (k + 1)
 -- the block that begins at k
 abbrev pub blockAt : Row → Row → ℕ → Block
 blockAt d sub k = blockOf (d k) (sub k) (d (k + 1))
+
+-- the pivot that begins at k
+unfoldable pub diagonalAt : Row → Row → (ℕ → ℕ) → ℕ → Diagonal
+diagonalAt d sub blocks k = cond (begins blocks k) (Two (blockAt d sub k)) (One (d k))
 
 -- the step at k; `mult j k` is the multiplier of the head's row j in column k, as it was when the step was taken
 unfoldable pub stepAt : Pivots → Mat → ℕ → Step
@@ -87,16 +118,16 @@ stepAt p mult k =
     cond (begins (p .blocks) k) block single
 
 -- the row that the step at k exchanged with k before anything else: k itself at a 1x1
-unfoldable pub firstOf : Pivots → ℕ → ℕ
-firstOf p k = cond (begins (p .blocks) k) (p .partners (k + 1)) k
+unfoldable pub firstOf : (blocks partners : ℕ → ℕ) → ℕ → ℕ
+firstOf blocks partners k = cond (begins blocks k) (partners (k + 1)) k
 
 -- a row below the panel, with that exchange made
-unfoldable pub arrived : Pivots → ℕ → Row → Row
-arrived p k r = λ j. r (exchangedPlace k (firstOf p k) j)
+unfoldable pub arrived : (blocks partners : ℕ → ℕ) → ℕ → Row → Row
+arrived blocks partners k r = λ j. r (exchangedPlace k (firstOf blocks partners k) j)
 
 -- and after the step at k
 unfoldable pub rowStepped : Pivots → Mat → ℕ → ℕ → Row → Row
-rowStepped p mult ke k r = rowAfterStep ke (stepAt p mult k) (arrived p k r)
+rowStepped p mult ke k r = rowAfterStep ke (stepAt p mult k) (arrived (p .blocks) (p .partners) k r)
 
 -- at most n steps from column k on, up to ke
 unfoldable pub rowAfterSteps : Pivots → Mat → ℕ → ℕ → ℕ → Row → Row

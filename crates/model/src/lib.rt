@@ -33,16 +33,18 @@ pub struct Block {
     pub det: f64,
 }
 
+// A pivot of D: a 1x1's number, or a block.
+pub enum Diagonal {
+    One(f64),
+    Two(Block),
+}
+
 // What a step took: the row exchanged with its first column before anything else (its own but for a rook block), the row
-// exchanged with its last column, whether it is a block, its numbers (d21 and d22 are 0.0 of a 1x1), the lift byte, the
-// lift amount, the rounds that its lift used.
+// exchanged with its last column, its numbers, the lift byte, the lift amount, the rounds that its lift used.
 pub struct Pivot {
-    pub p: usize,
-    pub kp: usize,
-    pub two: bool,
-    pub d11: f64,
-    pub d21: f64,
-    pub d22: f64,
+    pub p: LocalRow,
+    pub kp: LocalRow,
+    pub diagonal: Diagonal,
     pub lifted: u8,
     pub amount: f64,
     pub rounds: usize,

@@ -85,31 +85,31 @@ step-cut ke e s r w h =
     (λ j l. step-past ke s (rowOf e r) j w (omega arith) ∙ row-past e r j l)
 
 -- a step with the exchange before it
-first-before : (ke : ℕ) (p : Pivots) (k : ℕ) → Inside ke p → k < ke → firstOf p k < ke
+first-before : (ke : ℕ) (p : Pivots) (k : ℕ) → Inside ke p → k < ke → firstOf (p .blocks) (p .partners) k < ke
 unfolding firstOf
 first-before ke p k w h = test (begins (p .blocks) k) (λ t. rw t (w .partner (k + 1))) (λ t. rw t h)
 
-arrived-past : (ke : ℕ) (p : Pivots) (k : ℕ) (r : Row) (j : ℕ) → Inside ke p → k < ke → ke ≤ j → arrived p k r j ≡ r j
+arrived-past : (ke : ℕ) (p : Pivots) (k : ℕ) (r : Row) (j : ℕ) → Inside ke p → k < ke → ke ≤ j → arrived (p .blocks) (p .partners) k r j ≡ r j
 unfolding arrived
-arrived-past ke p k r j w h l = ap r (place-past k (firstOf p k) ke j h (first-before ke p k w h) l)
+arrived-past ke p k r j w h l = ap r (place-past k (firstOf (p .blocks) (p .partners) k) ke j h (first-before ke p k w h) l)
 
-arrived-cut : (ke e : ℕ) (p : Pivots) (k : ℕ) (r : Row) → Inside ke p → k < ke → ke ≤ e → arrived p k (rowOf e r) ≡ rowOf e (arrived p k r)
+arrived-cut : (ke e : ℕ) (p : Pivots) (k : ℕ) (r : Row) → Inside ke p → k < ke → ke ≤ e → arrived (p .blocks) (p .partners) k (rowOf e r) ≡ rowOf e (arrived (p .blocks) (p .partners) k r)
 unfolding arrived
 arrived-cut ke e p k r w h l =
     let q = first-before ke p k w h in
-    is-row e (arrived p k r) (arrived p k (rowOf e r))
-    (λ j x. row-at e r (exchangedPlace k (firstOf p k) j) (place-under k (firstOf p k) e j (omega arith) (omega arith) x))
-    (λ j x. ap (rowOf e r) (place-past k (firstOf p k) ke j h q (omega arith)) ∙ row-past e r j x)
+    is-row e (arrived (p .blocks) (p .partners) k r) (arrived (p .blocks) (p .partners) k (rowOf e r))
+    (λ j x. row-at e r (exchangedPlace k (firstOf (p .blocks) (p .partners) k) j) (place-under k (firstOf (p .blocks) (p .partners) k) e j (omega arith) (omega arith) x))
+    (λ j x. ap (rowOf e r) (place-past k (firstOf (p .blocks) (p .partners) k) ke j h q (omega arith)) ∙ row-past e r j x)
 
 stepped-past : (ke : ℕ) (p : Pivots) (m : Mat) (k : ℕ) (r : Row) (j : ℕ) → Inside ke p → k < ke → ke ≤ j → rowStepped p m ke k r j ≡ r j
 unfolding rowStepped
-stepped-past ke p m k r j w h l = step-past ke (stepAt p m k) (arrived p k r) j (step-before ke p m k w h) l ∙ arrived-past ke p k r j w h l
+stepped-past ke p m k r j w h l = step-past ke (stepAt p m k) (arrived (p .blocks) (p .partners) k r) j (step-before ke p m k w h) l ∙ arrived-past ke p k r j w h l
 
 stepped-cut : (ke e : ℕ) (p : Pivots) (m : Mat) (k : ℕ) (r : Row) → Inside ke p → k < ke → ke ≤ e
     → rowStepped p m ke k (rowOf e r) ≡ rowOf e (rowStepped p m ke k r)
 unfolding rowStepped
 stepped-cut ke e p m k r w h l =
-    ap (rowAfterStep ke (stepAt p m k)) (arrived-cut ke e p k r w h l) ∙ step-cut ke e (stepAt p m k) (arrived p k r) (step-before ke p m k w h) l
+    ap (rowAfterStep ke (stepAt p m k)) (arrived-cut ke e p k r w h l) ∙ step-cut ke e (stepAt p m k) (arrived (p .blocks) (p .partners) k r) (step-before ke p m k w h) l
 
 -- ---- the panel's steps in turn
 

@@ -9,7 +9,7 @@ use borrow.Author.Tests.{eqb-true, ltb-true}
 use lib.Dec.{ltb, eqb}
 use Rattle.model.specs.Matrix.{Mat, put, exchanged}
 use Rattle.model.specs.Choice.{Choice, zeroColumn, single, block, chooseOf}
-use Rattle.model.specs.Step.{Pivots}
+use Rattle.model.specs.Step.{Pivots, isBlock}
 use Rattle.model.specs.Head.{SettledOne, oneRefused, oneIs, settledOne, SettledTwo, twoRefused, twoIs, settledTwo, afterOne, afterTwo, tryBlock, tryBy, tryOf}
 use Rattle.model.specs.Head.{State, Tried, refusedAt, took, lastOf, byteOf, noted, Progress, stopped, going, after, panelOf}
 use Rattle.model.specs.Factor.{start}
@@ -24,7 +24,7 @@ use Rattle.whole.proofs.Tried.{blockIn, try-masked}
 
 -- the state after a pivot at k
 abbrev pub stepped : State → ℕ → Pivot → Mat → Mat → State
-stepped s k v a m = record { a = a; mult = m; pivots = noted (s .pivots) k (lastOf k (v .two)) v; rounds = s .rounds + v .rounds }
+stepped s k v a m = record { a = a; mult = m; pivots = noted (s .pivots) k (lastOf k (isBlock (v .diagonal))) v; rounds = s .rounds + v .rounds }
 
 -- ---- the cut goes through them
 
@@ -32,7 +32,7 @@ module _ (c : ℕ) (s : State) (k : ℕ) (f : ℕ → State → Progress) (h : (
   after-masked : (t : Tried) → after (cutTried c t) (cutState c s) k f ≡ cutProgress c (after t s k f)
   unfolding cutState
   after-masked (refusedAt n p) = refl
-  after-masked (took v a m) = h (lastOf k (v .two) + 1) (stepped s k v a m)
+  after-masked (took v a m) = h (lastOf k (isBlock (v .diagonal)) + 1) (stepped s k v a m)
 
   step-masked : (ke : ℕ) (mode : Mode) (limit : ℕ) → ke ≤ c → k < ke
       → after (tryOf ke (cutState c s .a) (cutState c s .mult) mode limit k) (cutState c s) k f
@@ -63,7 +63,7 @@ module _ (ke : ℕ) (mode : Mode) (limit : ℕ) (P : State → Type 0)
   after-went : (s : State) (k : ℕ) (f : ℕ → State → Progress) → ((j : ℕ) (u : State) → P u → Went P (f j u)) → k < ke → P s
       → (t : Tried) → tryOf ke (s .a) (s .mult) mode limit k ≡ t → Went P (after t s k f)
   after-went s k f h hk p (refusedAt n q) e = tt
-  after-went s k f h hk p (took v a m) e = h (lastOf k (v .two) + 1) (stepped s k v a m) (step s k v a m hk e p)
+  after-went s k f h hk p (took v a m) e = h (lastOf k (isBlock (v .diagonal)) + 1) (stepped s k v a m) (step s k v a m hk e p)
 
   pub panel-went : (n k : ℕ) (s : State) → P s → Went P (panelOf ke mode limit n k s)
   unfolding panelOf
@@ -151,15 +151,15 @@ last-wide : (k : ℕ) (b : Bool) → b ≡ true → lastOf k b ≡ k + 1
 unfolding lastOf
 last-wide k b e = rw e
 
-noted-inside : (ke limit k : ℕ) (p : Pivots) (v : Pivot) → GoodPivot ke limit k v → Inside ke p → Inside ke (noted p k (lastOf k (v .two)) v)
+noted-inside : (ke limit k : ℕ) (p : Pivots) (v : Pivot) → GoodPivot ke limit k v → Inside ke p → Inside ke (noted p k (lastOf k (isBlock (v .diagonal))) v)
 unfolding noted put
 noted-inside ke limit k p v g w =
     record {
       partner = λ j. test (eqb j k) (λ t. rw t (g .row))
-          (λ t. rw t (test (eqb j (lastOf k (v .two))) (λ u. rw u (g .first)) (λ u. rw u (w .partner j))));
+          (λ t. rw t (test (eqb j (lastOf k (isBlock (v .diagonal)))) (λ u. rw u (g .first)) (λ u. rw u (w .partner j))));
       pair = λ j. test (eqb j k)
-          (λ t. rw t (λ e. omega (arith, eqb-true j k t, last-wide k (v .two) (wide (v .two) e), g .last)))
-          (λ t. rw t (test (eqb j (lastOf k (v .two)))
+          (λ t. rw t (λ e. omega (arith, eqb-true j k t, last-wide k (isBlock (v .diagonal)) (wide (isBlock (v .diagonal)) e), g .last)))
+          (λ t. rw t (test (eqb j (lastOf k (isBlock (v .diagonal))))
           (λ u. rw u (λ e. let z : _≡_ {A = ℕ} 0 1 = e in omega arith))
           (λ u. rw u (w .pair j))));
     }

@@ -1,0 +1,2 @@
+-- Laws of D.
+pub mod Laws

@@ -1,0 +1,2 @@
+-- What reading D asks of its caller.
+pub mod Diagonal
