@@ -10,7 +10,7 @@ use Rattle.scan.specs.declared.Greatest as declared
 
 -- the declared struct is the definitions' record
 abbrev pub found : declared.Greatest → Greatest
-found g = record { square = g .square; at = g .at }
+found g = record { square = g .square; at = g .at .0 }
 
 -- the better of `best` and a square at place i
 unfoldable pub better : Greatest → Float → ℕ → Greatest

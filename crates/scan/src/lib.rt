@@ -15,10 +15,10 @@ ghost use Rattle.scan.specs.Greatest.{DownPre, AlongPre, ColumnPre, RowP
 use model::Elim;
 use model::LocalRow;
 
-// A greatest square and the place where it stood.
+// A greatest square and the row where it stood. (A place along a row is, by symmetry, a row too.)
 pub struct Greatest {
     pub square: f64,
-    pub at: usize,
+    pub at: LocalRow,
 }
 
 // The better of `best` and a number x at a place: the greater square, the first on ties; a not-a-number never wins.
@@ -27,7 +27,10 @@ fn better(best: Greatest, x: f64, at: usize) -> Greatest
 {
     let square = scalar::square(x);
     if square > best.square {
-        return Greatest { square, at };
+        return Greatest {
+            square,
+            at: LocalRow(at),
+        };
     }
     best
 }
@@ -72,12 +75,22 @@ fn greatest_along(
 
 // The greatest square below the diagonal of column k and above ke; 0 and k where none is above 0.
 // origin: src/numeric/ldlt/bunch_kaufman.rs, fn ll_bk_panel_step
-pub fn column_greatest(panel: &[f64], nrow: usize, ncol: usize, k: usize, ke: usize) -> Greatest
-    requires { ⌜ ColumnPre nrow ncol k ke (length (now panel)) ⌝ }
-    ensures { λ g. ⌜ found g ≡ columnGreatest (view nrow (now (panel .entry))) k ke ⌝ }
-    ensures { λ g. ⌜ Within k ke (g .at) ⌝ }
+pub fn column_greatest(panel: &[f64], nrow: usize, ncol: usize, k: Elim, ke: usize) -> Greatest
+    requires { ⌜ ColumnPre nrow ncol (k .0) ke (length (now panel)) ⌝ }
+    ensures { λ g. ⌜ found g ≡ columnGreatest (view nrow (now (panel .entry))) (k .0) ke ⌝ }
+    ensures { λ g. ⌜ Within (k .0) ke (g .at .0) ⌝ }
 {
-    greatest_down(panel, nrow, k, k + 1, ke, Greatest { square: 0.0, at: k })
+    greatest_down(
+        panel,
+        nrow,
+        k.0,
+        k.0 + 1,
+        ke,
+        Greatest {
+            square: 0.0,
+            at: LocalRow(k.0),
+        },
+    )
 }
 
 // The greatest square of row and column r from k to ke, its diagonal aside.
@@ -86,15 +99,19 @@ pub fn row_greatest(
     panel: &[f64],
     nrow: usize,
     ncol: usize,
-    k: usize,
+    k: Elim,
     ke: usize,
-    r: usize,
+    r: LocalRow,
 ) -> Greatest
-    requires { ⌜ RowPre nrow ncol k ke r (length (now panel)) ⌝ }
-    ensures { λ g. ⌜ found g ≡ rowGreatest (view nrow (now (panel .entry))) k ke r ⌝ }
+    requires { ⌜ RowPre nrow ncol (k .0) ke (r .0) (length (now panel)) ⌝ }
+    ensures { λ g. ⌜ found g ≡ rowGreatest (view nrow (now (panel .entry))) (k .0) ke (r .0) ⌝ }
 {
-    let along = greatest_along(panel, nrow, r, k, r, Greatest { square: 0.0, at: k });
-    greatest_down(panel, nrow, r, r + 1, ke, along)
+    let none = Greatest {
+        square: 0.0,
+        at: LocalRow(k.0),
+    };
+    let along = greatest_along(panel, nrow, r.0, k.0, r.0, none);
+    greatest_down(panel, nrow, r.0, r.0 + 1, ke, along)
 }
 
 // A mark, 1 from the first number on that is not finite.
