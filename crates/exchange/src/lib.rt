@@ -7,6 +7,7 @@ ghost use lib.ListN.{length};
 ghost use Rattle.model.specs.Matrix.{view, exchanged};
 ghost use Rattle.exchange.specs.Exchange.{cellsSwapped, crossExchanged, diagonalExchanged, rowsExchanged};
 ghost use Rattle.exchange.specs.Exchange.{SwapPre, PairPre, PartsPre, ExchangePre, ExchangeIfPre};
+use model::LocalRow;
 
 // The numbers at x and y, one for the other.
 fn swap(panel: &mut [f64], x: usize, y: usize)
@@ -18,40 +19,40 @@ fn swap(panel: &mut [f64], x: usize, y: usize)
     panel[y] = t;
 }
 
-// Middle cross strip: (i, p) and (q, i) for p < i < q.
-fn exchange_cross(panel: &mut [f64], nrow: usize, p: usize, q: usize)
-    requires { ⌜ PairPre nrow p q (length (now panel)) ⌝ }
-    ensures { λ _. ⌜ view nrow (now (panel .exit)) ≡ crossExchanged (view nrow (now (panel .entry))) p q (p + 1) q ⌝ }
+// What stands between the two: column p below row p, and row q before column q, one for the other, mirrored.
+fn exchange_cross(panel: &mut [f64], nrow: usize, p: LocalRow, q: LocalRow)
+    requires { ⌜ PairPre nrow (p .0) (q .0) (length (now panel)) ⌝ }
+    ensures { λ _. ⌜ view nrow (now (panel .exit)) ≡ crossExchanged (view nrow (now (panel .entry))) (p .0) (q .0) (p .0 + 1) (q .0) ⌝ }
 {
-    for i in (p + 1)..q {
-        swap(panel, i + p * nrow, q + i * nrow);
+    for i in (p.0 + 1)..q.0 {
+        swap(panel, i + p.0 * nrow, q.0 + i * nrow);
     }
 }
 
-// Diagonal: (p, p) and (q, q).
-fn exchange_diagonal(panel: &mut [f64], nrow: usize, p: usize, q: usize)
-    requires { ⌜ PairPre nrow p q (length (now panel)) ⌝ }
-    ensures { λ _. ⌜ view nrow (now (panel .exit)) ≡ diagonalExchanged (view nrow (now (panel .entry))) p q ⌝ }
+// The two diagonal entries.
+fn exchange_diagonal(panel: &mut [f64], nrow: usize, p: LocalRow, q: LocalRow)
+    requires { ⌜ PairPre nrow (p .0) (q .0) (length (now panel)) ⌝ }
+    ensures { λ _. ⌜ view nrow (now (panel .exit)) ≡ diagonalExchanged (view nrow (now (panel .entry))) (p .0) (q .0) ⌝ }
 {
-    swap(panel, p + p * nrow, q + q * nrow);
+    swap(panel, p.0 + p.0 * nrow, q.0 + q.0 * nrow);
 }
 
-// Left row segments: (p, j) and (q, j) for j < p.
-fn exchange_rows(panel: &mut [f64], nrow: usize, p: usize, q: usize)
-    requires { ⌜ PairPre nrow p q (length (now panel)) ⌝ }
-    ensures { λ _. ⌜ view nrow (now (panel .exit)) ≡ rowsExchanged (view nrow (now (panel .entry))) p q 0 p ⌝ }
+// The two rows in the columns before p.
+fn exchange_rows(panel: &mut [f64], nrow: usize, p: LocalRow, q: LocalRow)
+    requires { ⌜ PairPre nrow (p .0) (q .0) (length (now panel)) ⌝ }
+    ensures { λ _. ⌜ view nrow (now (panel .exit)) ≡ rowsExchanged (view nrow (now (panel .entry))) (p .0) (q .0) 0 (p .0) ⌝ }
 {
-    for j in 0..p {
-        swap(panel, p + j * nrow, q + j * nrow);
+    for j in 0..p.0 {
+        swap(panel, p.0 + j * nrow, q.0 + j * nrow);
     }
 }
 
 // The parts in turn: the columns below q and before the limit, the cross strip, the diagonal, the rows left of p.
-fn exchange_parts(panel: &mut [f64], nrow: usize, p: usize, q: usize, limit: usize)
-    requires { ⌜ PartsPre nrow p q limit (length (now panel)) ⌝ }
-    ensures { λ _. ⌜ view nrow (now (panel .exit)) ≡ exchanged p q limit (view nrow (now (panel .entry))) ⌝ }
+fn exchange_parts(panel: &mut [f64], nrow: usize, p: LocalRow, q: LocalRow, limit: usize)
+    requires { ⌜ PartsPre nrow (p .0) (q .0) limit (length (now panel)) ⌝ }
+    ensures { λ _. ⌜ view nrow (now (panel .exit)) ≡ exchanged (p .0) (q .0) limit (view nrow (now (panel .entry))) ⌝ }
 {
-    grid::columns::exchange(panel, nrow, p, q, q + 1, limit);
+    grid::columns::exchange(panel, nrow, p.0, q.0, q.0 + 1, limit);
     exchange_cross(panel, nrow, p, q);
     exchange_diagonal(panel, nrow, p, q);
     exchange_rows(panel, nrow, p, q);
@@ -63,22 +64,22 @@ pub fn swap_sym_lower_bounded(
     panel: &mut [f64],
     nrow: usize,
     ncol: usize,
-    p: usize,
-    q: usize,
+    p: LocalRow,
+    q: LocalRow,
     limit: usize,
 )
-    requires { ⌜ ExchangePre nrow ncol p q limit (length (now panel)) ⌝ }
-    ensures { λ _. ⌜ view nrow (now (panel .exit)) ≡ exchanged p q limit (view nrow (now (panel .entry))) ⌝ }
+    requires { ⌜ ExchangePre nrow ncol (p .0) (q .0) limit (length (now panel)) ⌝ }
+    ensures { λ _. ⌜ view nrow (now (panel .exit)) ≡ exchanged (p .0) (q .0) limit (view nrow (now (panel .entry))) ⌝ }
 {
     exchange_parts(panel, nrow, p, q, limit);
 }
 
 // The exchange of p ≤ q, which is none where they are one.
-pub fn exchange_if(panel: &mut [f64], nrow: usize, ncol: usize, p: usize, q: usize, limit: usize)
-    requires { ⌜ ExchangeIfPre nrow ncol p q limit (length (now panel)) ⌝ }
-    ensures { λ _. ⌜ view nrow (now (panel .exit)) ≡ exchanged p q limit (view nrow (now (panel .entry))) ⌝ }
+pub fn exchange_if(panel: &mut [f64], nrow: usize, ncol: usize, p: LocalRow, q: LocalRow, limit: usize)
+    requires { ⌜ ExchangeIfPre nrow ncol (p .0) (q .0) limit (length (now panel)) ⌝ }
+    ensures { λ _. ⌜ view nrow (now (panel .exit)) ≡ exchanged (p .0) (q .0) limit (view nrow (now (panel .entry))) ⌝ }
 {
-    if p != q {
+    if p.0 != q.0 {
         swap_sym_lower_bounded(panel, nrow, ncol, p, q, limit);
     }
 }

@@ -13,7 +13,7 @@ use Rattle.model.specs.Inertia.{byteSound, bytesFrom, checkBytes}
 use Rattle.model.specs.Assembly.{firstNot}
 use Rattle.model.specs.Answer.{sound}
 use Rattle.model.proofs.Cases.{test, and-left, and-right}
-use Rattle.model.proofs.Accepted.{Paired}
+use Rattle.model.specs.Kept.{Paired}
 use Rattle.inertia.proofs.First.{first-none, first-all}
 
 -- ---- the scan

@@ -10,8 +10,8 @@ use borrow.Author.Tests.{lt-ltb, le-ltb, le-leb, eq-eqb, ne-eqb, eqb-true, eqb-f
 use lib.Dec.{leb, ltb, eqb}
 use lib.ListN.{length, getD}
 use Rattle.model.specs.Matrix.{Mat, view, headOf, bytes, put, exchangedPlace, swapped, tabulate}
-use Rattle.model.specs.Step.{Pivots, begins, pastOf, firstOf, isBlock}
-use Rattle.model.specs.Kept.{Paired, Starts, Ahead, Recorded}
+use Rattle.model.specs.Step.{Pivots, begins, isBlock}
+use Rattle.model.specs.Kept.{Paired, Recorded}
 use Rattle.model.specs.Panel.{Panel}
 use Rattle.model.specs.Head as head
 use Rattle.model.specs.Head.{State, Tried, refusedAt, took, tryOf, lastOf, byteOf, noted, Progress, stopped, going, after, panelOf, Run, done, closed, passed, withPanel, continued, panelsOf}
@@ -25,7 +25,8 @@ use Rattle.model.specs.declared.Report.{Report}
 use Rattle.model.proofs.Tabulated.{length-tabulateFrom, getD-tabulate}
 use Rattle.model.proofs.Cases.{test, cmp}
 use Rattle.model.proofs.Entry.{Passed, passed as entry-passed, past-entry}
-use Rattle.model.proofs.Bounds.{Good, GoodPivot, try-good}
+use Rattle.model.proofs.Bounds.{GoodPivot}
+use Rattle.model.proofs.Recorded.{last-from, Reached, panel-reached, noted-recorded, none-recorded}
 
 -- ---- permutations
 
@@ -59,91 +60,26 @@ swapped-permutes n f p q hp hq w = record {
   fixes = λ i h. ap f (place-past n p q i hp hq h) ∙ w .fixes i h;
 }
 
--- ---- block bytes
-
--- a step's bytes: 0 at its last column, then 1 at k for a block
-stepBytes : (ℕ → ℕ) → ℕ → Bool → ℕ → ℕ
-stepBytes f k two = put (put f (lastOf k two) 0) k (byteOf two)
-
-bytes-before : (f : ℕ → ℕ) (k : ℕ) (two : Bool) (c : ℕ) → c < k → stepBytes f k two c ≡ f c
-unfolding stepBytes put lastOf
-bytes-before f k true c h = rw (ne-eqb c k (λ e. omega arith), ne-eqb c (k + 1) (λ e. omega arith))
-bytes-before f k false c h = rw (ne-eqb c k (λ e. omega arith))
-
-bytes-at : (f : ℕ → ℕ) (k : ℕ) (two : Bool) → stepBytes f k two k ≡ byteOf two
-unfolding stepBytes put
-bytes-at f k two = rw (eq-eqb k k refl)
-
-bytes-second : (f : ℕ → ℕ) (k : ℕ) → stepBytes f k true (k + 1) ≡ 0
-unfolding stepBytes put lastOf
-bytes-second f k = rw (ne-eqb (k + 1) k (λ e. omega arith), eq-eqb (k + 1) (k + 1) refl)
-
-step-paired : (f : ℕ → ℕ) (k : ℕ) (two : Bool) → Paired k f → Paired (lastOf k two + 1) (stepBytes f k two)
-unfolding lastOf
-step-paired f k true w = record {
-  byte = λ c h. cmp c k (λ l. omega (arith, bytes-before f k true c l, w .byte c l)) (λ e. omega (arith, ap (stepBytes f k true) e, bytes-at f k true))
-      (λ g. let x : c ≡ k + 1 = omega arith in omega (arith, ap (stepBytes f k true) x, bytes-second f k));
-  room = λ c h e. cmp c k (λ l. omega (arith, w .room c l (sym (bytes-before f k true c l) ∙ e))) (λ x. omega arith) (λ g. absurd (second c h g e));
-  apart = λ c h e. cmp c k
-      (λ l. let r : c + 1 < k = w .room c l (sym (bytes-before f k true c l) ∙ e) in
-      bytes-before f k true (c + 1) r ∙ w .apart c l (sym (bytes-before f k true c l) ∙ e))
-      (λ x. ap (λ (n : ℕ). stepBytes f k true (n + 1)) x ∙ bytes-second f k) (λ g. absurd (second c h g e));
-}
-  where
-    second : (c : ℕ) → c < k + 1 + 1 → k < c → stepBytes f k true c ≡ 1 → ⊥
-    second c h g e = let x : c ≡ k + 1 = omega arith in omega (arith, ap (stepBytes f k true) x, bytes-second f k)
-step-paired f k false w = record {
-  byte = λ c h. cmp c k (λ l. omega (arith, bytes-before f k false c l, w .byte c l)) (λ e. omega (arith, ap (stepBytes f k false) e, bytes-at f k false)) (λ g. omega arith);
-  room = λ c h e. cmp c k (λ l. omega (arith, w .room c l (sym (bytes-before f k false c l) ∙ e))) (λ x. absurd (own c x e)) (λ g. omega arith);
-  apart = λ c h e. cmp c k
-      (λ l. let r : c + 1 < k = w .room c l (sym (bytes-before f k false c l) ∙ e) in
-      bytes-before f k false (c + 1) r ∙ w .apart c l (sym (bytes-before f k false c l) ∙ e))
-      (λ x. absurd (own c x e)) (λ g. absurd (omega arith));
-}
-  where
-    own : (c : ℕ) → c ≡ k → stepBytes f k false c ≡ 1 → ⊥
-    own c x e = omega (arith, ap (stepBytes f k false) x, bytes-at f k false)
-
 -- ---- the run keeps both
 
 -- at column k of a run over ncol columns
 pub record Kept (ncol k : ℕ) (p : Pivots) : Type 0 where
   pub order : Permutes ncol (p .order)
-  pub blocks : Paired k (p .blocks)
-
-last-from : (k : ℕ) (two : Bool) → k ≤ lastOf k two
-unfolding lastOf
-last-from k true = omega arith
-last-from k false = omega arith
+  pub recorded : Recorded k (p .blocks) (p .partners)
 
 noted-kept : (ncol ke limit k : ℕ) (p : Pivots) (v : Pivot) → ke ≤ ncol → GoodPivot ke limit k v → Kept ncol k p
     → Kept ncol (lastOf k (isBlock (v .diagonal)) + 1) (noted p k (lastOf k (isBlock (v .diagonal))) v)
-unfolding noted stepBytes
+unfolding noted
 noted-kept ncol ke limit k p v h g w = record {
   order = swapped-permutes ncol (swapped (p .order) k (v .p .0)) (lastOf k (isBlock (v .diagonal))) (v .kp .0) (omega (arith, g .last)) (omega (arith, g .row))
       (swapped-permutes ncol (p .order) k (v .p .0) (omega (arith, g .last, last-from k (isBlock (v .diagonal)))) (omega (arith, g .first)) (w .order));
-  blocks = step-paired (p .blocks) k (isBlock (v .diagonal)) (w .blocks);
+  recorded = noted-recorded ke limit k p v g (w .recorded);
 }
 
--- a panel's loop that goes on has come to its end
-abbrev Ended : ℕ → ℕ → Progress → Type 0
-Ended ncol ke (stopped n p) = Unit {0}
-Ended ncol ke (going k s) = (k ≡ ke) × Kept ncol ke (s .pivots)
-
-after-kept : (ncol ke limit k : ℕ) (s : State) (f : ℕ → State → Progress) (t : Tried) → ke ≤ ncol → Good ke limit k t → Kept ncol k (s .pivots)
-    → ((m : ℕ) (u : State) → k < m → m ≤ ke → Kept ncol m (u .pivots) → Ended ncol ke (f m u)) → Ended ncol ke (after t s k f)
-after-kept ncol ke limit k s f (refusedAt n p) l g w next = tt
-after-kept ncol ke limit k s f (took v a m) l g w next =
-    next (lastOf k (isBlock (v .diagonal)) + 1) _ (omega (arith, last-from k (isBlock (v .diagonal)))) (omega (arith, g .last)) (noted-kept ncol ke limit k (s .pivots) v l g w)
-
-pub panel-kept : (ncol ke : ℕ) (mode : Mode) (limit n k : ℕ) (s : State) → k ≤ ke → ke ≤ ncol → ke - k ≤ n → Kept ncol k (s .pivots) → Ended ncol ke (panelOf ke mode limit n k s)
-unfolding panelOf
-panel-kept ncol ke mode limit zero k s h l f w = let e : k ≡ ke = omega arith in (e, subst (λ (m : ℕ). Kept ncol m (s .pivots)) e w)
-panel-kept ncol ke mode limit (suc n) k s h l f w =
-    test (ltb k ke)
-    (λ t. rw t (after-kept ncol ke limit k s (panelOf ke mode limit n) (tryOf ke (s .a) (s .mult) mode limit k) l
-    (try-good ke (s .a) (s .mult) mode limit k (ltb-true k ke t)) w (λ m u a b kept. panel-kept ncol ke mode limit n m u b l (omega arith) kept)))
-    (λ t. let e : k ≡ ke = omega (arith, ltb-false k ke t) in rw t (e, subst (λ (m : ℕ). Kept ncol m (s .pivots)) e w))
+pub panel-kept : (ncol ke : ℕ) (mode : Mode) (limit n k : ℕ) (s : State) → k ≤ ke → ke ≤ ncol → ke - k ≤ n → Kept ncol k (s .pivots)
+    → Reached (Kept ncol) ke (panelOf ke mode limit n k s)
+panel-kept ncol ke mode limit n k s h l f w =
+    panel-reached ke mode limit (Kept ncol) (λ j p v g x. noted-kept ncol ke limit j p v l g x) n k s h f w
 
 abbrev pub AtEnd : ℕ → Run → Type 0
 AtEnd ncol (head.refused n p) = Unit {0}
@@ -153,7 +89,7 @@ with-panel-kept : (ncol : ℕ) (p : Panel) (r : Run) → AtEnd ncol r → AtEnd 
 with-panel-kept ncol p (head.refused n q) w = tt
 with-panel-kept ncol p (done s ps) w = w
 
-continued-kept : (ncol ke : ℕ) (g : Progress) (f : State → Run) → Ended ncol ke g → ((t : State) → Kept ncol ke (t .pivots) → AtEnd ncol (f t)) → AtEnd ncol (continued g f)
+continued-kept : (ncol ke : ℕ) (g : Progress) (f : State → Run) → Reached (Kept ncol) ke g → ((t : State) → Kept ncol ke (t .pivots) → AtEnd ncol (f t)) → AtEnd ncol (continued g f)
 continued-kept ncol ke (stopped n p) f e next = tt
 continued-kept ncol ke (going k s) f e next = next s (e .1)
 
@@ -182,7 +118,7 @@ head-kept mode limit ncol nb a b =
     panels-kept mode limit ncol (min nb (max ncol 1)) ncol 0 (start ncol (headOf ncol a)) (omega arith) (omega arith) (omega arith)
     (record {
       order = record { inverse = λ i. i; left = λ i. refl; right = λ i. refl; fixes = λ i h. refl };
-      blocks = record { byte = λ c h. omega arith; room = λ c h e. absurd (omega arith); apart = λ c h e. absurd (omega arith) };
+      recorded = none-recorded _ _;
     })
 
 -- ---- an accepted call
@@ -304,4 +240,4 @@ accepted-bytes x w =
     let f = w .state .pivots .blocks in
     ap (λ (o : Outcome). checkBytes (o .buffers .blocks)) (accepted-leaves x w)
     ∙ ap (λ (m : ℕ). bytesFrom (bytes (tabulate n f)) m m 0) (length-tabulateFrom 0 n f)
-    ∙ bytes-sound (bytes (tabulate n f)) n n 0 (omega arith) (tabulated-paired n f (accepted-kept x w .blocks))
+    ∙ bytes-sound (bytes (tabulate n f)) n n 0 (omega arith) (tabulated-paired n f (accepted-kept x w .recorded .paired))

@@ -7,4 +7,5 @@ pub mod Entry
 pub mod Stations
 pub mod Independence
 pub mod Bounds
+pub mod Recorded
 pub mod Accepted

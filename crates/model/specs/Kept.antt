@@ -1,4 +1,4 @@
--- What the record of pivots keeps to in every run; proofs/Accepted.antt shows it. No definition of an answer cites it: proofs of the code rely on it.
+-- What the record of pivots keeps to in every run; proofs/Recorded.antt shows it. No definition of an answer cites it: proofs of the code rely on it.
 -- Definitions only. Assumes nothing.
 use mathlib.Core.Path.{_≡_}
 use Prim.Native.Nat.{ℕ, _+_, _≤_, _<_}

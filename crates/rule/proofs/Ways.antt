@@ -1,5 +1,5 @@
 -- The ways through the tests of the choice, each as the code goes it, with the root or without it, and the rows that a choice can name. Assumes nothing.
-use mathlib.Core.Path.{_≡_, refl, sym, subst}
+use mathlib.Core.Path.{_≡_, refl, sym, _∙_, subst}
 use mathlib.Core.Bool.{Bool, true, false, cond}
 use Prim.Native.Nat.{ℕ, zero, suc, _+_, _-_, _*_, _<_}
 use native.Mathlib.Omega.{arith}
@@ -14,7 +14,7 @@ use Rattle.grid.specs.Grid.{In}
 use Rattle.grid.proofs.Laws.{in-panel}
 use Rattle.scan.specs.Greatest.{found, ColumnPre}
 use Rattle.scan.specs.declared.Greatest.{Greatest}
-use Rattle.rule.specs.Answers.{chosenIs, ChosenWithin}
+use Rattle.rule.specs.Answers.{chosenIs, byRow, ChosenWithin}
 use Rattle.rule.specs.Reach.{Reaches, ReachPre}
 use Rattle.rule.specs.declared.Choice.{Choice}
 use Rattle.rule.specs.declared.Choice.the-variants.{ZeroColumn, Single, Block}
@@ -97,19 +97,27 @@ module _ (a : Mat) (k ke : ℕ) (x own colmax t : Float) (g : Greatest) (ex : x 
     unfolding chooseOf
     way-own p = rw (← eg, ← ex, ← eo, ← ec, ← et, ← eb, h, p)
 
-    -- r is the greatest square of row and column g .at, rowmax its root
-    module _ (r : Greatest) (rowmax : Float) (er : found r ≡ rowGreatest a k ke (g .at)) (ew : rowmax ≡ sqrtOf (r .square)) (p : le bar own ≡ false) where
-      pub way-row : le (bar ⊗ (colmax ⊘ rowmax)) own ≡ true → model.single k ≡ chooseOf a k ke
-      unfolding chooseOf
-      way-row q = rw (← eg, ← ex, ← eo, ← ec, ← et, ← eb, ← er, ← ew, h, p, q)
+    -- c is what the tests of row g .at choose
+    pub way-rest : (c : model.Choice) → le bar own ≡ false → c ≡ byRow a k ke own colmax (g .at .0) → c ≡ chooseOf a k ke
+    unfolding chooseOf byRow
+    way-rest c p e = e ∙ rw (← eg, ← ex, ← eo, ← ec, ← et, ← eb, h, p)
 
-      -- y is the other diagonal and other its magnitude
-      module _ (y other reach : Float) (ey : y ≡ a (g .at) (g .at)) (eu : other ≡ magnitudeOf y) (ef : reach ≡ alpha ⊗ rowmax)
-          (q : le (bar ⊗ (colmax ⊘ rowmax)) own ≡ false) where
-        pub way-other : le reach other ≡ true → model.single (g .at) ≡ chooseOf a k ke
-        unfolding chooseOf
-        way-other w = rw (← eg, ← ex, ← eo, ← ec, ← et, ← eb, ← er, ← ew, ← ey, ← eu, ← ef, h, p, q, w)
+-- ---- the tests of row imax
 
-        pub way-block : le reach other ≡ false → model.block k (g .at) ≡ chooseOf a k ke
-        unfolding chooseOf
-        way-block w = rw (← eg, ← ex, ← eo, ← ec, ← et, ← eb, ← er, ← ew, ← ey, ← eu, ← ef, h, p, q, w)
+-- r is the greatest square of row and column imax, rowmax its root
+module _ (a : Mat) (k ke : ℕ) (own colmax bar rowmax : Float) (imax : ℕ) (r : Greatest) (eb : bar ≡ alpha ⊗ colmax)
+    (er : found r ≡ rowGreatest a k ke imax) (ew : rowmax ≡ sqrtOf (r .square)) where
+  pub way-row : le (bar ⊗ (colmax ⊘ rowmax)) own ≡ true → model.single k ≡ byRow a k ke own colmax imax
+  unfolding byRow
+  way-row q = rw (← er, ← ew, ← eb, q)
+
+  -- y is the other diagonal and other its magnitude
+  module _ (y other reach : Float) (ey : y ≡ a imax imax) (eu : other ≡ magnitudeOf y) (ef : reach ≡ alpha ⊗ rowmax)
+      (q : le (bar ⊗ (colmax ⊘ rowmax)) own ≡ false) where
+    pub way-other : le reach other ≡ true → model.single imax ≡ byRow a k ke own colmax imax
+    unfolding byRow
+    way-other w = rw (← er, ← ew, ← eb, ← ey, ← eu, ← ef, q, w)
+
+    pub way-block : le reach other ≡ false → model.block k imax ≡ byRow a k ke own colmax imax
+    unfolding byRow
+    way-block w = rw (← er, ← ew, ← eb, ← ey, ← eu, ← ef, q, w)

@@ -7,12 +7,13 @@ ghost use Rattle.model.specs.Scalar.{_⊗_};
 ghost use Rattle.model.specs.Root.{alpha};
 ghost use Rattle.model.specs.Matrix.{view};
 ghost use Rattle.model.specs.Choice.{chooseOf};
-ghost use Rattle.model.specs.Step.{blockOf};
 ghost use Rattle.model.specs.Head.{settledOne, settledTwo, raisedFrom, scaleOf, growthFloorOf, barOf, liftStepOf};
-ghost use Rattle.scan.specs.Greatest.{ColumnPre};
-ghost use Rattle.rule.specs.Answers.{chosenIs, ChosenWithin, settledOneIs, settledTwoIs};
+ghost use Rattle.scan.specs.Greatest.{ColumnPre, Within};
+ghost use Rattle.rule.specs.Answers.{chosenIs, byRow, ChosenWithin, settledOneIs, settledTwoIs};
 ghost use Rattle.rule.specs.Reach.{Reaches, ReachPre};
 use model::Block;
+use model::Elim;
+use model::LocalRow;
 use model::Mode;
 
 // Bunch and Kaufman's rule: a name for its two constants and its tests.
@@ -22,8 +23,8 @@ pub struct PivotRule;
 // with the row that is exchanged with k + 1.
 pub enum Choice {
     ZeroColumn,
-    Single(usize),
-    Block(usize),
+    Single(LocalRow),
+    Block(LocalRow),
 }
 
 // A 1x1 pivot: zero in Fail, or its number with its lift byte and the lift's amount.
@@ -43,14 +44,6 @@ pub enum TwoSettled {
         amount: f64,
         rounds: usize,
     },
-}
-
-// A block with its determinant.
-pub fn block_of(d11: f64, d21: f64, d22: f64) -> Block
-    ensures { λ r. ⌜ r ≡ blockOf d11 d21 d22 ⌝ }
-{
-    let det = d11 * d22 - d21 * d21;
-    Block { d11, d21, d22, det }
 }
 
 // The greatest magnitude of a block's numbers.
@@ -88,37 +81,57 @@ impl PivotRule {
         (low * low > square) & (PivotRule::threshold(low) <= own)
     }
 
+    // The last two tests at k, where the diagonal's magnitude, own, has lost the first against colmax, the greatest of its
+    // column, in row imax: one against the greatest of row and column imax, one of that row's own diagonal.
+    // origin: src/numeric/ldlt/bunch_kaufman.rs, fn ll_bk_panel_step
+    fn choose_by_row(
+        panel: &[f64],
+        nrow: usize,
+        ncol: usize,
+        k: Elim,
+        ke: usize,
+        own: f64,
+        colmax: f64,
+        imax: LocalRow,
+    ) -> Choice
+        requires { ⌜ ColumnPre nrow ncol (k .0) ke (length (now panel)) ⌝ }
+        requires { ⌜ Within (k .0) ke (imax .0) ⌝ }
+        ensures { λ r. ⌜ chosenIs (k .0) r
+            ≡ byRow (view nrow (now (panel .entry))) (k .0) ke own colmax (imax .0) ⌝ }
+    {
+        let row = scan::row_greatest(panel, nrow, ncol, k, ke, imax);
+        let rowmax = scalar::sqrt(row.square);
+        if own >= PivotRule::threshold(colmax) * (colmax / rowmax) {
+            return Choice::Single(LocalRow(k.0));
+        }
+        if scalar::magnitude(grid::get(panel, nrow, imax.0, imax.0)) >= PivotRule::threshold(rowmax)
+        {
+            Choice::Single(imax)
+        } else {
+            Choice::Block(imax)
+        }
+    }
+
     // The pivot at k of a panel that ends at ke. Squares are compared: an entry whose square underflows is not seen.
     // origin: src/numeric/ldlt/bunch_kaufman.rs, fn ll_bk_panel_step
-    pub fn choose(panel: &[f64], nrow: usize, ncol: usize, k: usize, ke: usize) -> Choice
-        requires { ⌜ ColumnPre nrow ncol k ke (length (now panel)) ⌝ }
-        ensures { λ r. ⌜ chosenIs k r ≡ chooseOf (view nrow (now (panel .entry))) k ke ⌝ }
-        ensures { λ r. ⌜ ChosenWithin k ke r ⌝ }
+    pub fn choose(panel: &[f64], nrow: usize, ncol: usize, k: Elim, ke: usize) -> Choice
+        requires { ⌜ ColumnPre nrow ncol (k .0) ke (length (now panel)) ⌝ }
+        ensures { λ r. ⌜ chosenIs (k .0) r ≡ chooseOf (view nrow (now (panel .entry))) (k .0) ke ⌝ }
+        ensures { λ r. ⌜ ChosenWithin (k .0) ke r ⌝ }
     {
-        let own = scalar::magnitude(grid::get(panel, nrow, k, k));
+        let own = scalar::magnitude(grid::get(panel, nrow, k.0, k.0));
         let column = scan::column_greatest(panel, nrow, ncol, k, ke);
         if PivotRule::reaches(own, column.square) {
-            return Choice::Single(k);
+            return Choice::Single(LocalRow(k.0));
         }
         let colmax = scalar::sqrt(column.square);
         if scalar::maximum(own, colmax) == 0.0 {
             return Choice::ZeroColumn;
         }
-        let bar = PivotRule::threshold(colmax);
-        if own >= bar {
-            return Choice::Single(k);
+        if own >= PivotRule::threshold(colmax) {
+            return Choice::Single(LocalRow(k.0));
         }
-        let imax = column.at;
-        let row = scan::row_greatest(panel, nrow, ncol, k, ke, imax);
-        let rowmax = scalar::sqrt(row.square);
-        if own >= bar * (colmax / rowmax) {
-            return Choice::Single(k);
-        }
-        if scalar::magnitude(grid::get(panel, nrow, imax, imax)) >= PivotRule::threshold(rowmax) {
-            Choice::Single(imax)
-        } else {
-            Choice::Block(imax)
-        }
+        PivotRule::choose_by_row(panel, nrow, ncol, k, ke, own, colmax, column.at)
     }
 
     // What a block's determinant must pass.
@@ -151,7 +164,7 @@ impl PivotRule {
         let mut sum = step;
         let mut done = 0;
         while done < limit {
-            let block = block_of(b.d11 + sum, b.d21, b.d22 + sum);
+            let block = diagonal::block_of(b.d11 + sum, b.d21, b.d22 + sum);
             if scalar::magnitude(block.det) < bar {
                 sum = sum + step;
                 done += 1;

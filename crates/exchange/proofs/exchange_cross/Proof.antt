@@ -12,11 +12,12 @@ use Rattle.exchange.proofs.exchange_cross.Statement.{statement}
 use Rattle.exchange.proofs.exchange_cross.Tie as tie
 
 abbrev Inv-loop : tie.InvT-loop
-Inv-loop panel₀ nrow p q i₀ panel i =
-    (p + 1 ≤ i) × (i ≤ q) × (i * nrow ≤ q * nrow) × (length panel ≡ length panel₀) × (view nrow panel ≡ crossExchanged (view nrow panel₀) p q (p + 1) i)
+Inv-loop panel₀ nrow p q i₀ i-end panel i =
+    (p .0 + 1 ≤ i) × (i ≤ q .0) × (i * nrow ≤ q .0 * nrow) × (length panel ≡ length panel₀)
+    × (view nrow panel ≡ crossExchanged (view nrow panel₀) (p .0) (q .0) (p .0 + 1) i)
 
 abbrev μ-loop : tie.MeasureT-loop
-μ-loop panel₀ nrow p q i₀ panel i = q - i
+μ-loop panel₀ nrow p q i₀ i-end panel i = q .0 - i
 
 add-i : tie.Need-add-i Inv-loop μ-loop
 add-i c = search needs

@@ -12,11 +12,11 @@ use Rattle.exchange.proofs.exchange_rows.Statement.{statement}
 use Rattle.exchange.proofs.exchange_rows.Tie as tie
 
 abbrev Inv-loop : tie.InvT-loop
-Inv-loop panel₀ nrow p q j₀ panel j =
-    (j ≤ p) × (j * nrow ≤ p * nrow) × (length panel ≡ length panel₀) × (view nrow panel ≡ rowsExchanged (view nrow panel₀) p q 0 j)
+Inv-loop panel₀ nrow p q j₀ j-end panel j =
+    (j ≤ p .0) × (j * nrow ≤ p .0 * nrow) × (length panel ≡ length panel₀) × (view nrow panel ≡ rowsExchanged (view nrow panel₀) (p .0) (q .0) 0 j)
 
 abbrev μ-loop : tie.MeasureT-loop
-μ-loop panel₀ nrow p q j₀ panel j = p - j
+μ-loop panel₀ nrow p q j₀ j-end panel j = p .0 - j
 
 loop-holds : tie.Need-loop-holds Inv-loop μ-loop
 loop-holds c = (omega arith, mul-le-mul-right _ (omega arith), omega arith, search rows-none)

@@ -1,7 +1,7 @@
 -- `rule::PivotRule::choose` meets its contract: each return is one way through the tests. Assumes nothing.
 use borrow.Author.Needs.{needs}
-use Rattle.rule.specs.declared.Choice.the-variants.{ZeroColumn, Single, Block}
-use Rattle.rule.proofs.Ways.{diagonal-in, chosen, unsigned-both, way-reached, way-zero, way-own, way-row, way-other, way-block}
+use Rattle.rule.specs.declared.Choice.the-variants.{ZeroColumn, Single}
+use Rattle.rule.proofs.Ways.{diagonal-in, chosen, unsigned-both, way-reached, way-zero, way-own, way-rest}
 use Rattle.rule.proofs.PivotRule.choose.Statement.{statement}
 use Rattle.rule.proofs.PivotRule.choose.Tie as tie
 
@@ -35,29 +35,11 @@ threshold-requires c κs = search needs
 returns-3 : tie.Need-returns-3
 returns-3 c = chosen _ _ _ (Single _) (search needs) (search (needs, way-own))
 
-row-greatest-requires : tie.Need-row-greatest-requires
-row-greatest-requires c κs = search needs
-
-sqrt-requires-2 : tie.Need-sqrt-requires-2
-sqrt-requires-2 c κs = search needs
+choose-by-row-requires : tie.Need-choose-by-row-requires
+choose-by-row-requires c κs = search needs
 
 returns-4 : tie.Need-returns-4
-returns-4 c = chosen _ _ _ (Single _) (search needs) (search (needs, way-row))
-
-get-requires-2 : tie.Need-get-requires-2
-get-requires-2 c κs = search (needs, diagonal-in)
-
-magnitude-requires-2 : tie.Need-magnitude-requires-2
-magnitude-requires-2 c κs = search needs
-
-threshold-requires-2 : tie.Need-threshold-requires-2
-threshold-requires-2 c κs = search needs
-
-returns-5 : tie.Need-returns-5
-returns-5 c = chosen _ _ _ (Single _) (search needs) (search (needs, way-other))
-
-returns-6 : tie.Need-returns-6
-returns-6 c = chosen _ _ _ (Block _) (search needs) (search (needs, way-block))
+returns-4 c = chosen _ _ _ (c .choose-by-row .result) (search needs) (search (needs, way-rest))
 
 pub choose-spec : {M : Type 1} → statement M
 choose-spec =
@@ -73,11 +55,5 @@ choose-spec =
     returns-2
     threshold-requires
     returns-3
-    row-greatest-requires
-    sqrt-requires-2
-    returns-4
-    get-requires-2
-    magnitude-requires-2
-    threshold-requires-2
-    returns-5
-    returns-6)
+    choose-by-row-requires
+    returns-4)
