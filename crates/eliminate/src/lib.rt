@@ -5,6 +5,7 @@
 // being left alone.
 use grid::columns;
 use model::Block;
+use model::Elim;
 use scalar::reciprocal;
 ghost use mathlib.Core.Path.{_≡_};
 ghost use Prim.Native.Nat.{_+_, _<_};
@@ -78,17 +79,18 @@ pub fn head_one(
     nb: usize,
     kb: usize,
     ke: usize,
-    k: usize,
+    k: Elim,
     d: f64,
 )
-    requires { ⌜ OnePre nrow ncol nb kb ke k (length (now panel)) (length (now mult)) ⌝ }
-    ensures rows { λ _. ⌜ view nrow (now (panel .exit)) ≡ headOne ke k d (view nrow (now (panel .entry))) ⌝ }
+    requires { ⌜ OnePre nrow ncol nb kb ke (k .0) (length (now panel)) (length (now mult)) ⌝ }
+    ensures rows { λ _. ⌜ view nrow (now (panel .exit)) ≡ headOne ke (k .0) d (view nrow (now (panel .entry))) ⌝ }
     ensures kept { λ _. ⌜ inPanel kb ke (view nb (now (mult .exit)))
-        ≡ keptOne ke k d (view nrow (now (panel .entry))) (inPanel kb ke (view nb (now (mult .entry)))) ⌝ }
+        ≡ keptOne ke (k .0) d (view nrow (now (panel .entry))) (inPanel kb ke (view nb (now (mult .entry)))) ⌝ }
 {
-    kept::keep_one(mult, panel, nrow, nb, kb, ke, k, k + 1, reciprocal(d));
-    apply_one(panel, mult, nrow, ncol, nb, kb, ke, k, k + 1, ke, d);
-    grid::put(panel, nrow, k, k, d);
+    let at = k.0;
+    kept::keep_one(mult, panel, nrow, nb, kb, ke, at, at + 1, reciprocal(d));
+    apply_one(panel, mult, nrow, ncol, nb, kb, ke, at, at + 1, ke, d);
+    grid::put(panel, nrow, at, at, d);
 }
 
 // The multipliers of rows k + 2 up to ke, kept in columns k and k + 1 of mult.
@@ -125,16 +127,17 @@ pub fn head_two(
     nb: usize,
     kb: usize,
     ke: usize,
-    k: usize,
+    k: Elim,
     b: Block,
 )
-    requires { ⌜ TwoPre nrow ncol nb kb ke k (length (now panel)) (length (now mult)) ⌝ }
-    ensures rows { λ _. ⌜ view nrow (now (panel .exit)) ≡ headTwo ke k b (view nrow (now (panel .entry))) ⌝ }
+    requires { ⌜ TwoPre nrow ncol nb kb ke (k .0) (length (now panel)) (length (now mult)) ⌝ }
+    ensures rows { λ _. ⌜ view nrow (now (panel .exit)) ≡ headTwo ke (k .0) b (view nrow (now (panel .entry))) ⌝ }
     ensures kept { λ _. ⌜ inPanel kb ke (view nb (now (mult .exit)))
-        ≡ keptTwo ke k b (view nrow (now (panel .entry))) (inPanel kb ke (view nb (now (mult .entry)))) ⌝ }
+        ≡ keptTwo ke (k .0) b (view nrow (now (panel .entry))) (inPanel kb ke (view nb (now (mult .entry)))) ⌝ }
 {
-    keep_block(mult, panel, nrow, ncol, nb, kb, ke, k, b);
-    apply_two(panel, mult, nrow, ncol, nb, kb, ke, k, k + 2, ke, b);
+    let at = k.0;
+    keep_block(mult, panel, nrow, ncol, nb, kb, ke, at, b);
+    apply_two(panel, mult, nrow, ncol, nb, kb, ke, at, at + 2, ke, b);
 }
 
 // The rows from ke down after the 1x1 step at k that exchanged k and kp: the same exchange and elimination, by the
