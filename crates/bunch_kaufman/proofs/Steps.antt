@@ -9,26 +9,22 @@ use lib.Dec.{ltb}
 use mir.Syntax.{w64}
 use mir.Val.{Fits}
 use Rattle.model.specs.Matrix.{Mat}
-use Rattle.model.specs.Step.{Pivots}
+use Rattle.model.specs.Step.{Pivots, isBlock}
 use Rattle.model.specs.Head.{State, Tried, refusedAt, took, tryOf, lastOf, noted, Progress, going, after, panelOf}
+use Rattle.model.specs.Kept.{Starts, Recorded}
 use Rattle.model.specs.declared.Mode.{Mode}
 use Rattle.model.specs.declared.Pivot.{Pivot}
 use Rattle.model.specs.declared.Refusal.{Refusal}
+use Rattle.model.proofs.Bounds.{GoodPivot}
+use Rattle.model.proofs.Recorded.{last-from as last-ge, Reached, panel-reached, noted-recorded, noted-starts, end-starts}
 use Rattle.grid.proofs.Laws.{test}
 use Rattle.whole.proofs.Steps.{Went, Inside, panel-inside}
 use Rattle.bunch_kaufman.specs.Answers.{tried, progress, endedBy}
-use Rattle.bunch_kaufman.specs.Terms.{PivotIn, TakenIn, NotedTo, RanTo, PanelPre, StepPre, NotesPre, NotePre}
+use Rattle.bunch_kaufman.specs.Terms.{PivotIn, TakenIn, NotedTo, PanelNoted, RanTo, PanelPre, StepPre, NotesPre, NotePre}
 use Rattle.bunch_kaufman.specs.declared.Taken.{Taken}
 use Rattle.bunch_kaufman.specs.declared.Taken.the-variants.{Refused, Took}
 use Rattle.bunch_kaufman.specs.declared.Ran.{Ran}
 use Rattle.bunch_kaufman.specs.declared.Ran.the-variants.{Done}
-
--- ---- a pivot's last column
-
-last-ge : (k : ℕ) (b : Bool) → k ≤ lastOf k b
-unfolding lastOf
-last-ge k true = omega arith
-last-ge k false = omega arith
 
 -- ---- steps in turn
 
@@ -36,7 +32,7 @@ module _ (ke : ℕ) (mode : Mode) (limit : ℕ) where
   after-alike : (t : Tried) (s : State) (k : ℕ) (f g : ℕ → State → Progress)
       → ((b : Bool) (u : State) → f (lastOf k b + 1) u ≡ g (lastOf k b + 1) u) → after t s k f ≡ after t s k g
   after-alike (refusedAt n p) s k f g h = refl
-  after-alike (took v a m) s k f g h = h (v .two) _
+  after-alike (took v a m) s k f g h = h (isBlock (v .diagonal)) _
 
   -- more steps than columns are left change nothing
   panel-fuel : (n m k : ℕ) (s : State) → ke - k ≤ n → ke - k ≤ m → panelOf ke mode limit n k s ≡ panelOf ke mode limit m k s
@@ -60,13 +56,13 @@ module _ (ke : ℕ) (mode : Mode) (limit : ℕ) where
 
   -- a pivot is taken: T answers for the step, e is the pivot's last column, P its notes
   pub panel-step : (s : State) (k e : ℕ) (R : Progress) (T : Taken) (v : Pivot) (a m : Mat) (P : Pivots)
-      → panelOf ke mode limit (ke - k) k s ≡ R → k < ke → tried T a m ≡ tryOf ke (s .a) (s .mult) mode limit k → T ≡ Took v → e ≡ lastOf k (v .two)
+      → panelOf ke mode limit (ke - k) k s ≡ R → k < ke → tried T a m ≡ tryOf ke (s .a) (s .mult) mode limit k → T ≡ Took v → e ≡ lastOf k (isBlock (v .diagonal))
       → P ≡ noted (s .pivots) k e v
       → panelOf ke mode limit (ke - (e + 1)) (e + 1) (record { a = a; mult = m; pivots = P; rounds = s .rounds + v .rounds }) ≡ R
   unfolding tried
   panel-step s k e R T v a m P r h t z l n =
       rw (n, l)
-      (panel-fuel (ke - (lastOf k (v .two) + 1)) (ke - (k + 1)) (lastOf k (v .two) + 1) _ (omega arith) (omega (arith, last-ge k (v .two)))
+      (panel-fuel (ke - (lastOf k (isBlock (v .diagonal)) + 1)) (ke - (k + 1)) (lastOf k (isBlock (v .diagonal)) + 1) _ (omega arith) (omega (arith, last-ge k (isBlock (v .diagonal))))
       ∙ sym (ap (λ (o : Tried). after o s k (panelOf ke mode limit (ke - (k + 1)))) (sym t ∙ ap (λ (u : Taken). tried u a m) z))
       ∙ sym (panel-open k s h) ∙ r)
 
@@ -98,12 +94,12 @@ took-in : (ke k : ℕ) (T : Taken) (v : Pivot) → TakenIn ke k T → T ≡ Took
 took-in ke k T v g e = subst (λ (u : Taken). TakenIn ke k u) e g
 
 pub note-pre : {ke k e ld ls la lb ll lo lp ld₀ ls₀ la₀ lb₀ ll₀ lo₀ lp₀ : ℕ} {T : Taken} {v : Pivot}
-    → TakenIn ke k T → T ≡ Took v → e ≡ lastOf k (v .two) → NotesPre ke ld₀ ls₀ la₀ lb₀ ll₀ lo₀ lp₀
+    → TakenIn ke k T → T ≡ Took v → e ≡ lastOf k (isBlock (v .diagonal)) → NotesPre ke ld₀ ls₀ la₀ lb₀ ll₀ lo₀ lp₀
     → ld ≡ ld₀ → ls ≡ ls₀ → la ≡ la₀ → lb ≡ lb₀ → ll ≡ ll₀ → lo ≡ lo₀ → lp ≡ lp₀
-    → NotePre k e (v .p) (v .kp) ld ls la lb ll lo lp
+    → NotePre k e (v .p .0) (v .kp .0) ld ls la lb ll lo lp
 note-pre {ke} {k} {T = T} {v = v} g z l h e1 e2 e3 e4 e5 e6 e7 =
     let w = took-in ke k T v g z in
-    let m = last-ge k (v .two) in
+    let m = last-ge k (isBlock (v .diagonal)) in
     let a = w .last in
     let b = w .row in
     record {
@@ -122,34 +118,51 @@ note-pre {ke} {k} {T = T} {v = v} g z l h e1 e2 e3 e4 e5 e6 e7 =
 pub rounds-fit : (ke k r : ℕ) (T : Taken) (v : Pivot) → TakenIn ke k T → T ≡ Took v → r ≤ 64 * k → k < ke → ke ≤ 128 → Fits w64 (r + v .rounds)
 rounds-fit ke k r T v g z h l m = record { fits = omega (arith, took-in ke k T v g z .few) }
 
-pub next-fits : (ke k e : ℕ) (T : Taken) (v : Pivot) → TakenIn ke k T → T ≡ Took v → e ≡ lastOf k (v .two) → ke ≤ 128 → Fits w64 (e + 1)
+pub next-fits : (ke k e : ℕ) (T : Taken) (v : Pivot) → TakenIn ke k T → T ≡ Took v → e ≡ lastOf k (isBlock (v .diagonal)) → ke ≤ 128 → Fits w64 (e + 1)
 next-fits ke k e T v g z l m = record { fits = omega (arith, took-in ke k T v g z .last) }
 
 pub next-from : (kb k e : ℕ) (b : Bool) → e ≡ lastOf k b → kb ≤ k → kb ≤ e + 1
 next-from kb k e b l h = omega (arith, last-ge k b)
 
-pub next-in : (ke k e : ℕ) (T : Taken) (v : Pivot) → TakenIn ke k T → T ≡ Took v → e ≡ lastOf k (v .two) → e + 1 ≤ ke
+pub next-in : (ke k e : ℕ) (T : Taken) (v : Pivot) → TakenIn ke k T → T ≡ Took v → e ≡ lastOf k (isBlock (v .diagonal)) → e + 1 ≤ ke
 next-in ke k e T v g z l = omega (arith, took-in ke k T v g z .last)
 
 pub next-less : (ke k e : ℕ) (b : Bool) → e ≡ lastOf k b → k < ke → ke - (e + 1) < ke - k
 next-less ke k e b l h = omega (arith, last-ge k b)
 
-pub next-few : (ke k e r : ℕ) (T : Taken) (v : Pivot) → TakenIn ke k T → T ≡ Took v → e ≡ lastOf k (v .two) → r ≤ 64 * k → r + v .rounds ≤ 64 * (e + 1)
-next-few ke k e r T v g z l h = omega (arith, took-in ke k T v g z .few, last-ge k (v .two))
+pub next-few : (ke k e r : ℕ) (T : Taken) (v : Pivot) → TakenIn ke k T → T ≡ Took v → e ≡ lastOf k (isBlock (v .diagonal)) → r ≤ 64 * k → r + v .rounds ≤ 64 * (e + 1)
+next-few ke k e r T v g z l h = omega (arith, took-in ke k T v g z .few, last-ge k (isBlock (v .diagonal)))
 
 -- ---- what is promised at the end
 
+-- at column k of the panel that begins at kb
+record From (kb k : ℕ) (p : Pivots) : Type 0 where
+  at : kb ≤ k
+  recorded : Recorded k (p .blocks) (p .partners)
+  start : Starts (p .blocks) kb
+
+from-step : (kb ke limit k : ℕ) (p : Pivots) (v : Pivot) → GoodPivot ke limit k v → From kb k p
+    → From kb (lastOf k (isBlock (v .diagonal)) + 1) (noted p k (lastOf k (isBlock (v .diagonal))) v)
+from-step kb ke limit k p v g w = record {
+  at = omega (arith, w .at, last-ge k (isBlock (v .diagonal)));
+  recorded = noted-recorded ke limit k p v g (w .recorded);
+  start = noted-starts kb k (lastOf k (isBlock (v .diagonal))) p v (w .at) (last-ge k (isBlock (v .diagonal))) (w .start);
+}
+
 -- a refusal leaves no more to say than that it names a column
-pub notes-stop : (ke k : ℕ) (T : Taken) (r : Refusal) (A : Ran) (f g : ℕ → ℕ) → TakenIn ke k T → T ≡ Refused r → A ≡ endedBy T → RanTo ke A f g
-notes-stop ke k T r A f g h z w = rw (w, z) (subst (λ (u : Taken). TakenIn ke k u) z h)
+pub notes-stop : (kb ke k : ℕ) (T : Taken) (r : Refusal) (A : Ran) (f g : ℕ → ℕ) → TakenIn ke k T → T ≡ Refused r → A ≡ endedBy T → RanTo kb ke A f g
+notes-stop kb ke k T r A f g h z w = rw (w, z) (subst (λ (u : Taken). TakenIn ke k u) z h)
 
 -- the notes of the state u after a panel's steps from s
-pub notes-end : (ke : ℕ) (mode : Mode) (limit kb k before : ℕ) (s u : State) → NotedTo kb ke before (s .pivots .blocks) (s .pivots .partners)
+pub notes-end : (ke : ℕ) (mode : Mode) (limit kb k before : ℕ) (s u : State) → NotedTo kb ke before (s .pivots .blocks) (s .pivots .partners) → kb ≤ ke
     → panelOf ke mode limit (ke - k) k u ≡ panelOf ke mode limit (ke - kb) kb s → ke ≤ k → k ≤ ke → u .rounds ≤ 64 * k
-    → NotedTo ke ke (u .rounds) (u .pivots .blocks) (u .pivots .partners)
+    → PanelNoted kb ke (u .rounds) (u .pivots .blocks) (u .pivots .partners)
 unfolding panelOf
-notes-end ke mode limit kb k before s u h e l m r =
+notes-end ke mode limit kb k before s u h a e l m r =
     let q : ke - k ≡ 0 = omega arith in
-    let w = subst (Went (λ t. Inside ke (t .pivots))) (sym (rw q at e))
+    let f = sym (rw q at e) in
+    let w = subst (Went (λ t. Inside ke (t .pivots))) f
     (panel-inside ke mode limit (ke - kb) kb s (record { partner = h .partner; pair = h .pair })) in
-    record { few = omega arith; pair = w .pair; partner = w .partner }
+    let v = subst (Reached (From kb) ke) f (panel-reached ke mode limit (From kb) (from-step kb ke limit) (ke - kb) kb s a (omega arith)
+    (record { at = omega arith; recorded = h .recorded; start = end-starts kb _ _ (h .recorded) })) in
+    record { noted = record { few = omega arith; pair = w .pair; partner = w .partner; recorded = v .1 .recorded }; start = v .1 .start }

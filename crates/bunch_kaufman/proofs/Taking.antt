@@ -4,7 +4,6 @@ use mathlib.Core.Path.{_≡_, refl, sym, _∙_, ap, subst}
 use mathlib.Core.Bool.{true, false}
 use native.Mathlib.Omega.{arith}
 use lib.Ieee.{Float}
-use Rattle.model.specs.Scalar.{zeroF}
 use Rattle.model.specs.Matrix.{Mat, exchanged}
 use Rattle.model.specs.Choice as choice
 use Rattle.model.specs.Step.{blockOf}
@@ -12,12 +11,15 @@ use Rattle.model.specs.Head.{settledOne, settledTwo, headOne, headTwo, keptOne,
 use Rattle.model.specs.declared.Mode.{Mode}
 use Rattle.model.specs.declared.Mode.the-variants.{Fail, Lift}
 use Rattle.model.specs.declared.Block.{Block as Numbers}
+use Rattle.model.specs.declared.Diagonal.the-variants.{One, Two}
 use Rattle.model.specs.declared.Elim.{Elim}
+use Rattle.model.specs.declared.LocalRow.{LocalRow}
 use Rattle.model.specs.declared.Refusal.the-variants.{ZeroPivot, Rounds}
 use Rattle.model.proofs.Bounds.{Good, try-good}
 use Rattle.grid.specs.Grid.{In}
 use Rattle.grid.proofs.Laws.{in-panel}
 use Rattle.scan.specs.Greatest.{Within}
+use Rattle.eliminate.specs.Eliminate.{TwoPre}
 use Rattle.rule.specs.Answers.{chosenIs, ChosenWithin, settledOneIs, settledTwoIs}
 use Rattle.rule.specs.declared.Choice.{Choice}
 use Rattle.rule.specs.declared.Choice.the-variants.{ZeroColumn, Single, Block}
@@ -35,6 +37,11 @@ pub row-in : (nrow ncol nb kb ke i len lenM : ℕ) → PanelPre nrow ncol nb kb 
 row-in nrow ncol nb kb ke i len lenM h l = in-panel nrow ncol i i len (h .panel) (omega arith) (omega arith)
 
 -- of a block
+pub two-pre : (nrow ncol nb kb ke k kp len len′ lenM : ℕ) → PivotPre nrow ncol nb kb ke k (k + 1) kp len lenM → len′ ≡ len → TwoPre nrow ncol nb kb ke k len′ lenM
+two-pre nrow ncol nb kb ke k kp len len′ lenM h e =
+    let s = h .at .sizes in
+    record { size = e ∙ s .panel; square = s .mult; head = s .rows; cols = s .cols; width = s .width; from = h .at .from; here = h .at .last }
+
 pub corner-in : (nrow ncol k i j len : ℕ) → BlockPre nrow ncol k len → i ≤ k + 1 → j ≤ k + 1 → In nrow i j len
 corner-in nrow ncol k i j len h a b = in-panel nrow ncol i j len (h .panel) (omega arith) (omega arith)
 
@@ -56,7 +63,7 @@ single-stop ke k kp A M B N mode x S e s z = single-by ke (k .0) kp A M mode x S
 pub single-took : (ke k kp : ℕ) (A M B B′ M′ : Mat) (mode : Mode) (x d amount : Float) (lifted : ℕ) (S : one.OneSettled)
     → x ≡ A kp kp → settledOneIs S ≡ settledOne mode x → S ≡ one.the-variants.Number d lifted amount → B ≡ exchanged k kp ke A
     → B′ ≡ headOne ke k d B → M′ ≡ keptOne ke k d B M
-    → tried (Took (record { p = k; kp = kp; two = false; d11 = d; d21 = zeroF; d22 = zeroF; lifted = lifted; amount = amount; rounds = 0 })) B′ M′
+    → tried (Took (record { p = record { 0 = k }; kp = record { 0 = kp }; diagonal = One d; lifted = lifted; amount = amount; rounds = 0 })) B′ M′
     ≡ singleOf ke A M mode k kp
 unfolding tried
 single-took ke k kp A M B B′ M′ mode x d amount lifted S e s z b b′ m′ =
@@ -85,7 +92,7 @@ pair-rounds ke k p kp limit A M B N mode b S x e s z = pair-by ke (k .0) p kp li
 pub pair-took : (ke k p kp limit : ℕ) (A M B B′ M′ : Mat) (mode : Mode) (b v : Numbers) (amount : Float) (lifted rounds : ℕ) (S : two.TwoSettled)
     → B ≡ exchanged (k + 1) kp ke A → b ≡ blockIn B k → settledTwoIs S ≡ settledTwo mode limit b → S ≡ two.the-variants.Numbers v lifted amount rounds
     → B′ ≡ headTwo ke k v B → M′ ≡ keptTwo ke k v B M
-    → tried (Took (record { p = p; kp = kp; two = true; d11 = v .d11; d21 = v .d21; d22 = v .d22; lifted = lifted; amount = amount; rounds = rounds })) B′ M′
+    → tried (Took (record { p = record { 0 = p }; kp = record { 0 = kp }; diagonal = Two v; lifted = lifted; amount = amount; rounds = rounds })) B′ M′
     ≡ pairOf ke A M mode limit k p kp
 unfolding tried
 pair-took ke k p kp limit A M B B′ M′ mode b v amount lifted rounds S x e s z b′ m′ =
@@ -156,12 +163,12 @@ kept ke A M (Lift floor) limit k T A′ M′ h l b e =
 
 -- ---- a step: C is the choice, T the answer, A′ and M′ what is left
 
-pub single-pre : (nrow ncol nb kb ke k kp len lenM : ℕ) (C : Choice) → StepPre nrow ncol nb kb ke k k len lenM → C ≡ Single kp → ChosenWithin k ke C
-    → PivotPre nrow ncol nb kb ke k k kp len lenM
+pub single-pre : (nrow ncol nb kb ke k : ℕ) (kp : LocalRow) (len lenM : ℕ) (C : Choice) → StepPre nrow ncol nb kb ke k k len lenM → C ≡ Single kp → ChosenWithin k ke C
+    → PivotPre nrow ncol nb kb ke k k (kp .0) len lenM
 single-pre nrow ncol nb kb ke k kp len lenM C h z g = let w = subst (ChosenWithin k ke) z g in record { at = h; from = w .low; row = w .high }
 
-pub pair-pre : (nrow ncol nb kb ke k kp len lenM : ℕ) (C : Choice) → StepPre nrow ncol nb kb ke k k len lenM → C ≡ Block kp → ChosenWithin k ke C
-    → PivotPre nrow ncol nb kb ke k (k + 1) kp len lenM × Within k ke k
+pub pair-pre : (nrow ncol nb kb ke k : ℕ) (kp : LocalRow) (len lenM : ℕ) (C : Choice) → StepPre nrow ncol nb kb ke k k len lenM → C ≡ Block kp → ChosenWithin k ke C
+    → PivotPre nrow ncol nb kb ke k (k + 1) (kp .0) len lenM × Within k ke k
 pair-pre nrow ncol nb kb ke k kp len lenM C h z g =
     let w = subst (ChosenWithin k ke) z g in (
       record { at = record { sizes = h .sizes; from = h .from; last = omega (arith, w .low, w .high) }; from = w .low; row = w .high },
@@ -174,14 +181,14 @@ pub step-zero : (ke : ℕ) (A M A′ M′ : Mat) (mode : Mode) (limit k : ℕ) (
 step-zero ke A M A′ M′ mode limit k C T h l c z r b =
     kept ke A M mode limit k T A′ M′ h l b (r ∙ zero-by ke A M mode limit k ∙ by-choice ke A M mode limit k C ZeroColumn c z)
 
-pub step-single : (ke : ℕ) (A M A′ M′ : Mat) (mode : Mode) (limit k kp : ℕ) (C : Choice) (T : Taken) → k < ke → LimitPre mode limit
-    → chosenIs k C ≡ choice.chooseOf A k ke → C ≡ Single kp → tried T A′ M′ ≡ singleOf ke A M mode k kp → ByColumn T
+pub step-single : (ke : ℕ) (A M A′ M′ : Mat) (mode : Mode) (limit k : ℕ) (kp : LocalRow) (C : Choice) (T : Taken) → k < ke → LimitPre mode limit
+    → chosenIs k C ≡ choice.chooseOf A k ke → C ≡ Single kp → tried T A′ M′ ≡ singleOf ke A M mode k (kp .0) → ByColumn T
     → (tried T A′ M′ ≡ tryOf ke A M mode limit k) × TakenIn ke k T
 step-single ke A M A′ M′ mode limit k kp C T h l c z r b =
-    kept ke A M mode limit k T A′ M′ h l b (r ∙ one-by ke A M mode limit k kp ∙ by-choice ke A M mode limit k C (Single kp) c z)
+    kept ke A M mode limit k T A′ M′ h l b (r ∙ one-by ke A M mode limit k (kp .0) ∙ by-choice ke A M mode limit k C (Single kp) c z)
 
-pub step-pair : (ke : ℕ) (A M A′ M′ : Mat) (mode : Mode) (limit k kp : ℕ) (C : Choice) (T : Taken) → k < ke → LimitPre mode limit
-    → chosenIs k C ≡ choice.chooseOf A k ke → C ≡ Block kp → tried T A′ M′ ≡ pairOf ke (exchanged k k ke A) M mode limit k k kp → ByColumn T
+pub step-pair : (ke : ℕ) (A M A′ M′ : Mat) (mode : Mode) (limit k : ℕ) (kp : LocalRow) (C : Choice) (T : Taken) → k < ke → LimitPre mode limit
+    → chosenIs k C ≡ choice.chooseOf A k ke → C ≡ Block kp → tried T A′ M′ ≡ pairOf ke (exchanged k k ke A) M mode limit k k (kp .0) → ByColumn T
     → (tried T A′ M′ ≡ tryOf ke A M mode limit k) × TakenIn ke k T
 step-pair ke A M A′ M′ mode limit k kp C T h l c z r b =
-    kept ke A M mode limit k T A′ M′ h l b (r ∙ two-by ke A M mode limit k k kp ∙ by-choice ke A M mode limit k C (Block kp) c z)
+    kept ke A M mode limit k T A′ M′ h l b (r ∙ two-by ke A M mode limit k k (kp .0) ∙ by-choice ke A M mode limit k C (Block kp) c z)

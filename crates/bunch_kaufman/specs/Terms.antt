@@ -1,7 +1,9 @@
 -- What the functions ask of their callers, and what they promise beside their equations. Definitions only. Assumes nothing.
 use mathlib.Core.Path.{_≡_}
 use Prim.Native.Nat.{ℕ, _+_, _*_, _<_, _≤_}
+use Rattle.model.specs.Step.{isBlock}
 use Rattle.model.specs.Head.{lastOf}
+use Rattle.model.specs.Kept.{Starts, Recorded}
 use Rattle.model.specs.declared.Mode.{Mode}
 use Rattle.model.specs.declared.Mode.the-variants.{Fail, Lift}
 use Rattle.model.specs.declared.Pivot.{Pivot}
@@ -15,9 +17,9 @@ use Rattle.bunch_kaufman.specs.declared.Ran.the-variants.{Stopped, Done}
 
 -- a pivot's last column and its row stand within the panel; its rounds are few
 pub record PivotIn (ke k : ℕ) (v : Pivot) : Type 0 where
-  pub last : lastOf k (v .two) < ke
-  pub row : v .kp < ke
-  pub first : v .p < ke
+  pub last : lastOf k (isBlock (v .diagonal)) < ke
+  pub row : v .kp .0 < ke
+  pub first : v .p .0 < ke
   pub few : v .rounds ≤ 64
 
 -- of a step's answer
@@ -25,16 +27,22 @@ abbrev pub TakenIn : ℕ → ℕ → Taken → Type 0
 TakenIn ke k (Refused r) = ColumnOnly r
 TakenIn ke k (Took v) = PivotIn ke k v
 
--- of the notes, with the columns before k done in a panel that ends at ke: every block and every partner stands before ke
+-- of the notes, with the columns before k done in a panel that ends at ke: every block and every partner stands before ke, and no exchange goes back
 pub record NotedTo (k ke rounds : ℕ) (blocks partners : ℕ → ℕ) : Type 0 where
   pub few : rounds ≤ 64 * k
   pub pair : (c : ℕ) → blocks c ≡ 1 → c + 1 < ke
   pub partner : (c : ℕ) → partners c < ke
+  pub recorded : Recorded k blocks partners
+
+-- of the notes after the steps of columns kb to ke: a pivot began at kb
+pub record PanelNoted (kb ke rounds : ℕ) (blocks partners : ℕ → ℕ) : Type 0 where
+  pub noted : NotedTo ke ke rounds blocks partners
+  pub start : Starts blocks kb
 
 -- of the answer and the notes after a panel's steps
-abbrev pub RanTo : ℕ → Ran → (ℕ → ℕ) → (ℕ → ℕ) → Type 0
-RanTo ke (Stopped r) blocks partners = ColumnOnly r
-RanTo ke (Done rounds) blocks partners = NotedTo ke ke rounds blocks partners
+abbrev pub RanTo : ℕ → ℕ → Ran → (ℕ → ℕ) → (ℕ → ℕ) → Type 0
+RanTo kb ke (Stopped r) blocks partners = ColumnOnly r
+RanTo kb ke (Done rounds) blocks partners = PanelNoted kb ke rounds blocks partners
 
 -- ---- what callers owe
 
@@ -80,6 +88,24 @@ pub record NotesPre (ke ld ls la lb ll lo lp : ℕ) : Type 0 where
   pub lifts : ke ≤ ll
   pub order : ke ≤ lo
   pub partners : ke ≤ lp
+
+-- two columns, or a column and a row, are there in a buffer
+pub record ColumnsPre (k e len : ℕ) : Type 0 where
+  pub first : k < len
+  pub last : e < len
+
+-- a pivot's columns k to e are there in d, subdiagonal and block bytes
+pub record DiagonalPre (k e ld ls lb : ℕ) : Type 0 where
+  pub from : k ≤ e
+  pub d : e < ld
+  pub sub : e < ls
+  pub blocks : e < lb
+
+-- in amounts and lift bytes
+pub record LiftPre (k e la ll : ℕ) : Type 0 where
+  pub from : k ≤ e
+  pub amounts : e < la
+  pub lifts : e < ll
 
 -- columns k to e and rows p and kp are there in the order, the columns in the partners
 pub record ExchangesPre (k e p kp lo lp : ℕ) : Type 0 where

@@ -9,6 +9,7 @@ ghost use Rattle.model.specs.Head.{panelOf};
 ghost use Rattle.bunch_kaufman.specs.Slices.{state};
 ghost use Rattle.bunch_kaufman.specs.Answers.{progress, endedBy};
 ghost use Rattle.bunch_kaufman.specs.Terms.{PanelPre, NotesPre, LimitPre, NotedTo, RanTo};
+use model::Elim;
 use model::Mode;
 use model::Pivot;
 use model::Refusal;
@@ -73,19 +74,21 @@ pub fn ll_bk_panel_step(
         (state nrow nb kb ke (now (panel .entry)) (now (mult .entry)) (now (d .entry)) (now (sub .entry))
         (now (amounts .entry)) (now (blocks .entry)) (now (lifts .entry)) (now (order .entry)) (now (partners .entry))
         before) ⌝ }
-    ensures { λ r. ⌜ RanTo ke r (bytes (now (blocks .exit))) (bytes (now (partners .exit))) ⌝ }
+    ensures { λ r. ⌜ RanTo kb ke r (bytes (now (blocks .exit))) (bytes (now (partners .exit))) ⌝ }
 {
     let mut k = kb;
     let mut rounds = before;
     while k < ke {
-        let taken = step::step(panel, mult, nrow, ncol, nb, kb, ke, k, mode, limit);
+        let at = Elim(k);
+        let taken = step::step(panel, mult, nrow, ncol, nb, kb, ke, at, mode, limit);
         let Taken::Took(v) = taken else {
             return ended(taken);
         };
-        let e = record::last_column(k, v.two);
-        let next = e + 1;
+        let x = v.diagonal;
+        let e = record::last_column(at, x);
+        let next = e.0 + 1;
         rounds += v.rounds;
-        record::note(d, sub, amounts, blocks, lifts, order, partners, k, e, v);
+        record::note(d, sub, amounts, blocks, lifts, order, partners, at, e, v);
         k = next;
     }
     Ran::Done(rounds)

@@ -13,7 +13,9 @@ ghost use Rattle.bunch_kaufman.specs.Answers.{tried, singleOf, pairOf, z
 ghost use Rattle.bunch_kaufman.specs.Terms.{StepPre, PivotPre, BlockPre, LimitPre, TakenIn};
 use super::Taken;
 use model::Block;
+use model::Diagonal;
 use model::Elim;
+use model::LocalRow;
 use model::Mode;
 use model::Pivot;
 use model::Refusal;
@@ -23,14 +25,14 @@ use rule::PivotRule;
 use rule::TwoSettled;
 
 // The block at k and k + 1.
-fn block_at(panel: &[f64], nrow: usize, ncol: usize, k: usize) -> Block
-    requires { ⌜ BlockPre nrow ncol k (length (now panel)) ⌝ }
-    ensures { λ r. ⌜ r ≡ blockIn (view nrow (now (panel .entry))) k ⌝ }
+fn block_at(panel: &[f64], nrow: usize, ncol: usize, k: Elim) -> Block
+    requires { ⌜ BlockPre nrow ncol (k .0) (length (now panel)) ⌝ }
+    ensures { λ r. ⌜ r ≡ blockIn (view nrow (now (panel .entry))) (k .0) ⌝ }
 {
-    let d11 = grid::get(panel, nrow, k, k);
-    let d21 = grid::get(panel, nrow, k + 1, k);
-    let d22 = grid::get(panel, nrow, k + 1, k + 1);
-    rule::block_of(d11, d21, d22)
+    let d11 = grid::get(panel, nrow, k.0, k.0);
+    let d21 = grid::get(panel, nrow, k.0 + 1, k.0);
+    let d22 = grid::get(panel, nrow, k.0 + 1, k.0 + 1);
+    diagonal::block_of(d11, d21, d22)
 }
 
 // A 1x1 pivot from row kp: settled by the mode, exchanged with k, eliminated.
@@ -42,28 +44,25 @@ fn single(
     nb: usize,
     kb: usize,
     ke: usize,
-    k: usize,
-    kp: usize,
+    k: Elim,
+    kp: LocalRow,
     mode: Mode,
 ) -> Taken
-    requires { ⌜ PivotPre nrow ncol nb kb ke k k kp (length (now panel)) (length (now mult)) ⌝ }
+    requires { ⌜ PivotPre nrow ncol nb kb ke (k .0) (k .0) (kp .0) (length (now panel)) (length (now mult)) ⌝ }
     ensures { λ r. ⌜ tried r (view nrow (now (panel .exit))) (inPanel kb ke (view nb (now (mult .exit))))
-        ≡ singleOf ke (view nrow (now (panel .entry))) (inPanel kb ke (view nb (now (mult .entry)))) mode k kp ⌝ }
+        ≡ singleOf ke (view nrow (now (panel .entry))) (inPanel kb ke (view nb (now (mult .entry)))) mode (k .0) (kp .0) ⌝ }
     ensures { λ r. ⌜ ByColumn r ⌝ }
 {
-    let settled = PivotRule::settle_one(mode, grid::get(panel, nrow, kp, kp));
+    let settled = PivotRule::settle_one(mode, grid::get(panel, nrow, kp.0, kp.0));
     let OneSettled::Number { d, lifted, amount } = settled else {
-        return Taken::Refused(Refusal::ZeroPivot(Elim(k)));
+        return Taken::Refused(Refusal::ZeroPivot(k));
     };
-    exchange::exchange_if(panel, nrow, ncol, k, kp, ke);
+    exchange::exchange_if(panel, nrow, ncol, LocalRow(k.0), kp, ke);
     eliminate::head_one(panel, mult, nrow, ncol, nb, kb, ke, k, d);
     Taken::Took(Pivot {
-        p: k,
+        p: LocalRow(k.0),
         kp,
-        two: false,
-        d11: d,
-        d21: 0.0,
-        d22: 0.0,
+        diagonal: Diagonal::One(d),
         lifted,
         amount,
         rounds: 0,
@@ -79,22 +78,22 @@ fn pair(
     nb: usize,
     kb: usize,
     ke: usize,
-    k: usize,
-    p: usize,
-    kp: usize,
+    k: Elim,
+    p: LocalRow,
+    kp: LocalRow,
     mode: Mode,
     limit: usize,
 ) -> Taken
-    requires { ⌜ PivotPre nrow ncol nb kb ke k (k + 1) kp (length (now panel)) (length (now mult)) ⌝ }
+    requires { ⌜ PivotPre nrow ncol nb kb ke (k .0) (k .0 + 1) (kp .0) (length (now panel)) (length (now mult)) ⌝ }
     ensures { λ r. ⌜ tried r (view nrow (now (panel .exit))) (inPanel kb ke (view nb (now (mult .exit))))
-        ≡ pairOf ke (view nrow (now (panel .entry))) (inPanel kb ke (view nb (now (mult .entry)))) mode limit k p kp ⌝ }
+        ≡ pairOf ke (view nrow (now (panel .entry))) (inPanel kb ke (view nb (now (mult .entry)))) mode limit (k .0) (p .0) (kp .0) ⌝ }
     ensures { λ r. ⌜ ByColumn r ⌝ }
 {
-    exchange::exchange_if(panel, nrow, ncol, k + 1, kp, ke);
+    exchange::exchange_if(panel, nrow, ncol, LocalRow(k.0 + 1), kp, ke);
     let settled = PivotRule::settle_two(mode, limit, block_at(panel, nrow, ncol, k));
     match settled {
-        TwoSettled::ZeroPivot => Taken::Refused(Refusal::ZeroPivot(Elim(k))),
-        TwoSettled::Rounds => Taken::Refused(Refusal::Rounds(Elim(k))),
+        TwoSettled::ZeroPivot => Taken::Refused(Refusal::ZeroPivot(k)),
+        TwoSettled::Rounds => Taken::Refused(Refusal::Rounds(k)),
         TwoSettled::Numbers {
             block,
             lifted,
@@ -105,10 +104,7 @@ fn pair(
             Taken::Took(Pivot {
                 p,
                 kp,
-                two: true,
-                d11: block.d11,
-                d21: block.d21,
-                d22: block.d22,
+                diagonal: Diagonal::Two(block),
                 lifted,
                 amount,
                 rounds,
@@ -126,19 +122,19 @@ fn moved_pair(
     nb: usize,
     kb: usize,
     ke: usize,
-    k: usize,
-    p: usize,
-    kp: usize,
+    k: Elim,
+    p: LocalRow,
+    kp: LocalRow,
     mode: Mode,
     limit: usize,
 ) -> Taken
-    requires { ⌜ PivotPre nrow ncol nb kb ke k (k + 1) kp (length (now panel)) (length (now mult)) ⌝ }
-    requires { ⌜ Within k ke p ⌝ }
+    requires { ⌜ PivotPre nrow ncol nb kb ke (k .0) (k .0 + 1) (kp .0) (length (now panel)) (length (now mult)) ⌝ }
+    requires { ⌜ Within (k .0) ke (p .0) ⌝ }
     ensures { λ r. ⌜ tried r (view nrow (now (panel .exit))) (inPanel kb ke (view nb (now (mult .exit))))
-        ≡ pairOf ke (exchanged k p ke (view nrow (now (panel .entry)))) (inPanel kb ke (view nb (now (mult .entry)))) mode limit k p kp ⌝ }
+        ≡ pairOf ke (exchanged (k .0) (p .0) ke (view nrow (now (panel .entry)))) (inPanel kb ke (view nb (now (mult .entry)))) mode limit (k .0) (p .0) (kp .0) ⌝ }
     ensures { λ r. ⌜ ByColumn r ⌝ }
 {
-    exchange::exchange_if(panel, nrow, ncol, k, p, ke);
+    exchange::exchange_if(panel, nrow, ncol, LocalRow(k.0), p, ke);
     pair(panel, mult, nrow, ncol, nb, kb, ke, k, p, kp, mode, limit)
 }
 
@@ -151,17 +147,17 @@ fn zero_column(
     nb: usize,
     kb: usize,
     ke: usize,
-    k: usize,
+    k: Elim,
     mode: Mode,
 ) -> Taken
-    requires { ⌜ StepPre nrow ncol nb kb ke k k (length (now panel)) (length (now mult)) ⌝ }
+    requires { ⌜ StepPre nrow ncol nb kb ke (k .0) (k .0) (length (now panel)) (length (now mult)) ⌝ }
     ensures { λ r. ⌜ tried r (view nrow (now (panel .exit))) (inPanel kb ke (view nb (now (mult .exit))))
-        ≡ zeroOf ke (view nrow (now (panel .entry))) (inPanel kb ke (view nb (now (mult .entry)))) mode k ⌝ }
+        ≡ zeroOf ke (view nrow (now (panel .entry))) (inPanel kb ke (view nb (now (mult .entry)))) mode (k .0) ⌝ }
     ensures { λ r. ⌜ ByColumn r ⌝ }
 {
     match mode {
-        Mode::Fail => Taken::Refused(Refusal::ZeroPivot(Elim(k))),
-        Mode::Lift(_) => single(panel, mult, nrow, ncol, nb, kb, ke, k, k, mode),
+        Mode::Fail => Taken::Refused(Refusal::ZeroPivot(k)),
+        Mode::Lift(_) => single(panel, mult, nrow, ncol, nb, kb, ke, k, LocalRow(k.0), mode),
     }
 }
 
@@ -174,20 +170,23 @@ pub fn step(
     nb: usize,
     kb: usize,
     ke: usize,
-    k: usize,
+    k: Elim,
     mode: Mode,
     limit: usize,
 ) -> Taken
-    requires { ⌜ StepPre nrow ncol nb kb ke k k (length (now panel)) (length (now mult)) ⌝ }
+    requires { ⌜ StepPre nrow ncol nb kb ke (k .0) (k .0) (length (now panel)) (length (now mult)) ⌝ }
     requires { ⌜ LimitPre mode limit ⌝ }
     ensures { λ r. ⌜ tried r (view nrow (now (panel .exit))) (inPanel kb ke (view nb (now (mult .exit))))
-        ≡ tryOf ke (view nrow (now (panel .entry))) (inPanel kb ke (view nb (now (mult .entry)))) mode limit k ⌝ }
-    ensures { λ r. ⌜ TakenIn ke k r ⌝ }
+        ≡ tryOf ke (view nrow (now (panel .entry))) (inPanel kb ke (view nb (now (mult .entry)))) mode limit (k .0) ⌝ }
+    ensures { λ r. ⌜ TakenIn ke (k .0) r ⌝ }
 {
     let choice = PivotRule::choose(panel, nrow, ncol, k, ke);
     match choice {
         Choice::ZeroColumn => zero_column(panel, mult, nrow, ncol, nb, kb, ke, k, mode),
         Choice::Single(kp) => single(panel, mult, nrow, ncol, nb, kb, ke, k, kp, mode),
-        Choice::Block(kp) => moved_pair(panel, mult, nrow, ncol, nb, kb, ke, k, k, kp, mode, limit),
+        Choice::Block(kp) => {
+            let own = LocalRow(k.0);
+            moved_pair(panel, mult, nrow, ncol, nb, kb, ke, k, own, kp, mode, limit)
+        }
     }
 }

@@ -75,7 +75,14 @@ pub fn swap_sym_lower_bounded(
 }
 
 // The exchange of p ≤ q, which is none where they are one.
-pub fn exchange_if(panel: &mut [f64], nrow: usize, ncol: usize, p: LocalRow, q: LocalRow, limit: usize)
+pub fn exchange_if(
+    panel: &mut [f64],
+    nrow: usize,
+    ncol: usize,
+    p: LocalRow,
+    q: LocalRow,
+    limit: usize,
+)
     requires { ⌜ ExchangeIfPre nrow ncol (p .0) (q .0) limit (length (now panel)) ⌝ }
     ensures { λ _. ⌜ view nrow (now (panel .exit)) ≡ exchanged (p .0) (q .0) limit (view nrow (now (panel .entry))) ⌝ }
 {

@@ -104,7 +104,8 @@ impl PivotRule {
         if own >= PivotRule::threshold(colmax) * (colmax / rowmax) {
             return Choice::Single(LocalRow(k.0));
         }
-        if scalar::magnitude(grid::get(panel, nrow, imax.0, imax.0)) >= PivotRule::threshold(rowmax)
+        if scalar::magnitude(grid::get(panel, nrow, imax.0, imax.0))
+            >= PivotRule::threshold(rowmax)
         {
             Choice::Single(imax)
         } else {

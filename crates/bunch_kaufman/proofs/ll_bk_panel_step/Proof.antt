@@ -82,7 +82,7 @@ add-rounds c = search rounds-fit
 
 note-requires : tie.Need-note-requires Inv-loop μ-loop
 note-requires c κs =
-    let last = c .before .before .before .before .before .before .before .before in
+    let last = c .before .before .before .before .before .before .before .before .before in
     let took = last .before .before in
     let stepped = took .before .before .before .before .before .before in
     let head = stepped .before .before .before .before in
@@ -94,14 +94,14 @@ note-requires c κs =
 loop-less : tie.Need-loop-less Inv-loop μ-loop
 loop-less c =
     let noted = c .before .before .before .before .before .before .before .before .before .before .before .before .before .before in
-    let last = noted .before .before .before .before .before .before .before .before .before in
+    let last = noted .before .before .before .before .before .before .before .before .before .before in
     let stepped = last .before .before .before .before .before .before .before .before in
     next-less _ _ _ _ (last .last-column .ensures) (stepped .before .before .before .loop-test .taken)
 
 loop-again : tie.Need-loop-again Inv-loop μ-loop
 loop-again c =
     let noted = c .before .before .before .before .before .before .before .before .before .before .before .before .before .before in
-    let last = noted .before .before .before .before .before .before .before .before .before in
+    let last = noted .before .before .before .before .before .before .before .before .before .before in
     let took = last .before .before in
     let stepped = took .before .before .before .before .before .before in
     let inside = stepped .before .before .before in
@@ -158,7 +158,7 @@ returns-2 c =
     let head = c .before in
     let inv = head .loop .inv in
     let start = head .before .before .before .before .before .before .before .before .before .before in
-    (search panel-end, notes-end _ _ _ _ _ _ _ _ (start .pre .1 .1 .1) (inv .13) (c .loop-test .left) (inv .2) (inv .3))
+    (search panel-end, notes-end _ _ _ _ _ _ _ _ (start .pre .1 .1 .1) (start .pre .0 .here) (inv .13) (c .loop-test .left) (inv .2) (inv .3))
 
 pub ll-bk-panel-step-spec : {M : Type 1} → statement M
 ll-bk-panel-step-spec =

@@ -1,19 +1,20 @@
--- `bunch_kaufman::record::last_column` meets its contract. Assumes nothing.
+-- `bunch_kaufman::record::last_column` meets its contract: the definition by its test. Assumes nothing.
 use borrow.Author.Needs.{needs}
-use Rattle.model.specs.Head.{lastOf}
+use Rattle.bunch_kaufman.proofs.Noted.{last-block, last-single}
 use Rattle.bunch_kaufman.proofs.record.last_column.Statement.{statement}
 use Rattle.bunch_kaufman.proofs.record.last_column.Tie as tie
 
-add-result : tie.Need-add-result
-add-result c = search needs
+is-block-requires : tie.Need-is-block-requires
+is-block-requires c κs = search needs
+
+add-t4 : tie.Need-add-t4
+add-t4 c = search needs
 
 returns : tie.Need-returns
-unfolding lastOf
-returns c = rw (c .if1 .taken)
+returns c = search last-block
 
 returns-2 : tie.Need-returns-2
-unfolding lastOf
-returns-2 c = rw (c .if1 .left)
+returns-2 c = search last-single
 
 pub last-column-spec : {M : Type 1} → statement M
-last-column-spec = tie.close (tie.spec add-result returns returns-2)
+last-column-spec = tie.close (tie.spec is-block-requires add-t4 returns returns-2)

@@ -4,23 +4,11 @@ use Rattle.bunch_kaufman.proofs.Noted.{noted-is}
 use Rattle.bunch_kaufman.proofs.record.note.Statement.{statement}
 use Rattle.bunch_kaufman.proofs.record.note.Tie as tie
 
-block-byte-requires : tie.Need-block-byte-requires
-block-byte-requires c κs = search needs
+note-diagonal-requires : tie.Need-note-diagonal-requires
+note-diagonal-requires c κs = search needs
 
-put-both-requires : tie.Need-put-both-requires
-put-both-requires c κs = search needs
-
-put-both-requires-2 : tie.Need-put-both-requires-2
-put-both-requires-2 c κs = search needs
-
-put-both-requires-3 : tie.Need-put-both-requires-3
-put-both-requires-3 c κs = search needs
-
-put-both-bytes-requires : tie.Need-put-both-bytes-requires
-put-both-bytes-requires c κs = search needs
-
-put-both-bytes-requires-2 : tie.Need-put-both-bytes-requires-2
-put-both-bytes-requires-2 c κs = search needs
+note-lift-requires : tie.Need-note-lift-requires
+note-lift-requires c κs = search needs
 
 put-exchange-requires : tie.Need-put-exchange-requires
 put-exchange-requires c κs = search needs
@@ -53,12 +41,8 @@ pub note-spec : {M : Type 1} → statement M
 note-spec =
     tie.close
     (tie.spec
-    block-byte-requires
-    put-both-requires
-    put-both-requires-2
-    put-both-requires-3
-    put-both-bytes-requires
-    put-both-bytes-requires-2
+    note-diagonal-requires
+    note-lift-requires
     put-exchange-requires
     same-length
     same-length-2

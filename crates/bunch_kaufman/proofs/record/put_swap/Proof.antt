@@ -1,50 +1,34 @@
--- `bunch_kaufman::record::put_swap` meets its contract. Assumes nothing.
+-- `bunch_kaufman::record::put_swap` meets its contract: two stores exchange two places, which may be one. Assumes nothing.
 use borrow.Author.Needs.{needs}
-use Rattle.bunch_kaufman.proofs.Noted.{places-swap}
+use Rattle.bunch_kaufman.proofs.Noted.{stores-swap}
 use Rattle.bunch_kaufman.proofs.record.put_swap.Statement.{statement}
 use Rattle.bunch_kaufman.proofs.record.put_swap.Tie as tie
 
-mul-a : tie.Need-mul-a
-mul-a c = search needs
+local-of-requires : tie.Need-local-of-requires
+local-of-requires c κs = search needs
 
-slice-read-a : tie.Need-slice-read-a
-slice-read-a c = search needs
+local-of-requires-2 : tie.Need-local-of-requires-2
+local-of-requires-2 c κs = search needs
 
-mul-order : tie.Need-mul-order
-mul-order c = search needs
+stand-at-requires : tie.Need-stand-at-requires
+stand-at-requires c κs = search needs
 
-slice-read-order : tie.Need-slice-read-order
-slice-read-order c = search needs
-
-mul-order-2 : tie.Need-mul-order-2
-mul-order-2 c = search needs
-
-slice-write-order : tie.Need-slice-write-order
-slice-write-order c = search needs
-
-mul-order-3 : tie.Need-mul-order-3
-mul-order-3 c = search needs
-
-slice-write-order-2 : tie.Need-slice-write-order-2
-slice-write-order-2 c = search needs
+stand-at-requires-2 : tie.Need-stand-at-requires-2
+stand-at-requires-2 c κs = search needs
 
 same-length : tie.Need-same-length
 same-length c = search needs
 
 returns : tie.Need-returns
-returns c = search places-swap
+returns c = search stores-swap
 
 pub put-swap-spec : {M : Type 1} → statement M
 put-swap-spec =
     tie.close
     (tie.spec
-    mul-a
-    slice-read-a
-    mul-order
-    slice-read-order
-    mul-order-2
-    slice-write-order
-    mul-order-3
-    slice-write-order-2
+    local-of-requires
+    local-of-requires-2
+    stand-at-requires
+    stand-at-requires-2
     same-length
     returns)

@@ -12,7 +12,7 @@ add-get : tie.Need-add-get
 add-get c = search needs
 
 get-requires-2 : tie.Need-get-requires-2
-get-requires-2 c κs = corner-in _ _ _ _ _ _ (c .before .before .pre) (omega arith) (omega arith)
+get-requires-2 c κs = corner-in _ _ _ _ _ _ (c .before .before .before .pre) (omega arith) (omega arith)
 
 add-get-2 : tie.Need-add-get-2
 add-get-2 c = search needs
@@ -21,7 +21,7 @@ add-get-3 : tie.Need-add-get-3
 add-get-3 c = search needs
 
 get-requires-3 : tie.Need-get-requires-3
-get-requires-3 c κs = corner-in _ _ _ _ _ _ (c .before .before .before .pre) (omega arith) (omega arith)
+get-requires-3 c κs = corner-in _ _ _ _ _ _ (c .before .before .before .before .before .before .pre) (omega arith) (omega arith)
 
 block-of-requires : tie.Need-block-of-requires
 block-of-requires c κs = search needs

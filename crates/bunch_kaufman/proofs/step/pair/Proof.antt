@@ -1,12 +1,12 @@
 -- `bunch_kaufman::step::pair` meets its contract. Assumes nothing.
 use mathlib.Core.Path.{refl}
 use borrow.Author.Needs.{needs}
-use Rattle.bunch_kaufman.proofs.Taking.{pair-stop, pair-rounds, pair-took}
+use Rattle.bunch_kaufman.proofs.Taking.{two-pre, pair-stop, pair-rounds, pair-took}
 use Rattle.bunch_kaufman.proofs.step.pair.Statement.{statement}
 use Rattle.bunch_kaufman.proofs.step.pair.Tie as tie
 
-add-exchange-if : tie.Need-add-exchange-if
-add-exchange-if c = search needs
+add-t21 : tie.Need-add-t21
+add-t21 c = search needs
 
 exchange-if-requires : tie.Need-exchange-if-requires
 exchange-if-requires c κs = search needs
@@ -27,7 +27,9 @@ enum-known-settled : tie.Need-enum-known-settled
 enum-known-settled c = search needs
 
 head-two-requires : tie.Need-head-two-requires
-head-two-requires c κs = search needs
+head-two-requires c κs =
+    let start = c .before .before .before .before .before .before .before .before .before .before .before .before .before .before .before in
+    two-pre _ _ _ _ _ _ _ _ _ _ (start .pre) (search needs)
 
 same-length : tie.Need-same-length
 same-length c = search needs
@@ -62,7 +64,7 @@ pub pair-spec : {M : Type 1} → statement M
 pair-spec =
     tie.close
     (tie.spec
-    add-exchange-if
+    add-t21
     exchange-if-requires
     block-at-requires
     settle-two-requires
