@@ -13,9 +13,9 @@ use denote.Enum.Laws as LE
 use Rattle.model.specs.declared.Tally.{Tally}
 use Rattle.model.proofs.Tally as T
 use Rattle.model.proofs.Tally.Laws as T′
-use Rattle.inertia.specs.declared.Diagonal.{Diagonal}
-use Rattle.inertia.proofs.Diagonal as E
-use Rattle.inertia.proofs.Diagonal.Laws as E′
+use Rattle.model.specs.declared.Diagonal.{Diagonal}
+use Rattle.model.proofs.Diagonal as E
+use Rattle.model.proofs.Diagonal.Laws as E′
 
 abbrev pub tallyVal : Tally → Val
 tallyVal t = vstruct (vcons (vint w64 (t .positive)) (vcons (vint w64 (t .negative)) (vcons (vint w64 (t .zero)) vnil)))

@@ -9,13 +9,14 @@ use lib.ListN.{length}
 use lib.Ieee.{Float, lt, le}
 use Rattle.model.specs.Scalar.{_⊕_, zeroF}
 use Rattle.model.specs.Matrix.{Row, bytes}
-use Rattle.model.specs.Step.{begins, pastOf, blockAt}
+use Rattle.model.specs.Step.{begins, pastOf, blockAt, diagonalAt}
 use Rattle.model.specs.Inertia.{oneCounted, twoCounted, pivotCounted, talliedFrom}
 use Rattle.model.specs.declared.Block.{Block}
 use Rattle.model.specs.declared.Tally.{Tally}
 use Rattle.model.proofs.Cases.{test}
-use Rattle.inertia.specs.Count.{countedOf, diagonalAt, PivotPre, TallyPre}
-use Rattle.inertia.specs.declared.Diagonal.{Diagonal}
+use Rattle.diagonal.specs.Diagonal.{PivotPre}
+use Rattle.inertia.specs.Count.{countedOf, TallyPre}
+use Rattle.model.specs.declared.Diagonal.{Diagonal}
 use Rattle.inertia.proofs.Bytes.{bytes-paired, past-above}
 
 -- ---- how many were counted
@@ -37,11 +38,11 @@ two-total t b =
 
 -- ---- what the lists have
 
-pub pivot-pre : (ds subs : List Float) (bs : List ℕ) (k : ℕ) → TallyPre ds subs bs → k < length ds → PivotPre ds subs bs k
+pub pivot-pre : (ds subs : List Float) (bs : List ℕ) (k : ℕ) → TallyPre ds subs bs → k < length ds → PivotPre k (length ds) (length subs) bs
 pivot-pre ds subs bs k w h = record {
   d = h;
   sub = omega (arith, w .sub);
-  blocks = omega (arith, w .blocks);
+  byte = omega (arith, w .blocks);
   next = λ o. omega (arith, w .blocks, bytes-paired bs (w .check) .room k (omega (arith, w .blocks)) o);
 }
 

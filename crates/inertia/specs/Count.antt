@@ -10,17 +10,13 @@ use Rattle.model.specs.Step.{begins, blockAt}
 use Rattle.model.specs.Inertia.{oneCounted, twoCounted, checkBytes}
 use Rattle.model.specs.Answer.{sound}
 use Rattle.model.specs.declared.Tally.{Tally}
-use Rattle.inertia.specs.declared.Diagonal.{Diagonal}
-use Rattle.inertia.specs.declared.Diagonal.the-variants.{One, Two}
+use Rattle.model.specs.declared.Diagonal.{Diagonal}
+use Rattle.model.specs.declared.Diagonal.the-variants.{One, Two}
 
 -- the tally with one pivot or one block more
 unfoldable pub countedOf : Tally → Diagonal → Tally
 countedOf t (One d) = oneCounted t d
 countedOf t (Two b) = twoCounted t b
-
--- the pivot that begins at k
-unfoldable pub diagonalAt : Row → Row → (ℕ → ℕ) → ℕ → Diagonal
-diagonalAt d sub blocks k = cond (begins blocks k) (Two (blockAt d sub k)) (One (d k))
 
 -- the sums fit
 pub record MorePre (t : Tally) (p n z : ℕ) : Type 0 where
@@ -31,13 +27,6 @@ pub record MorePre (t : Tally) (p n z : ℕ) : Type 0 where
 -- there is room for one block more
 pub record CountPre (t : Tally) : Type 0 where
   pub room : t .positive + t .negative + t .zero + 2 < 2 ^ 64
-
--- the three lists have column k, and the next where a block begins there
-pub record PivotPre (ds subs : List Float) (bs : List ℕ) (k : ℕ) : Type 0 where
-  pub d : k < length ds
-  pub sub : k < length subs
-  pub blocks : k < length bs
-  pub next : bytes bs k ≡ 1 → k + 1 < length ds
 
 -- lists of one length, and block bytes that meet no refusal
 pub record TallyPre (ds subs : List Float) (bs : List ℕ) : Type 0 where

@@ -5,27 +5,21 @@ ghost use mathlib.Core.Path.{_≡_};
 ghost use Prim.Native.Nat.{_<_};
 ghost use lib.ListN.{length};
 ghost use Rattle.model.specs.Matrix.{vec, bytes};
-ghost use Rattle.model.specs.Step.{pastOf};
 ghost use Rattle.model.specs.Answer.{countedSays};
 ghost use Rattle.model.specs.Inertia.{more, oneCounted, twoCounted, talliedOf};
 ghost use Rattle.model.specs.Inertia.{byteSound, checkBytes, inertiaCheck, inertiaOf};
 ghost use Rattle.entry.specs.Entry.{entrySays};
-ghost use Rattle.inertia.specs.Count.{countedOf, diagonalAt, MorePre, CountPre, PivotPre, TallyPre};
+ghost use Rattle.inertia.specs.Count.{countedOf, MorePre, CountPre, TallyPre};
 use entry::Entry;
 use model::Block;
 use model::Counted;
+use model::Diagonal;
 use model::Elim;
 use model::Refusal;
 use model::Tally;
 
 // The most columns whose pivots a call may ask to count.
 const COLUMNS_MAX: usize = 128;
-
-// One pivot of D, as it is counted: a 1x1, or a block.
-pub enum Diagonal {
-    One(f64),
-    Two(Block),
-}
 
 // ---- the counting rule
 
@@ -111,36 +105,6 @@ fn tallied(t: Tally, p: Diagonal) -> Tally
 
 // ---- all columns
 
-// The pivot that begins at column k.
-fn diagonal_at(d: &[f64], sub: &[f64], blocks: &[u8], k: usize) -> Diagonal
-    requires { ⌜ PivotPre (now d) (now sub) (now blocks) k ⌝ }
-    ensures { λ r. ⌜ r ≡ diagonalAt (vec (now (d .entry))) (vec (now (sub .entry))) (bytes (now (blocks .entry))) k ⌝ }
-{
-    let d11 = d[k];
-    if blocks[k] != 1 {
-        return Diagonal::One(d11);
-    }
-    let d21 = sub[k];
-    let d22 = d[k + 1];
-    Diagonal::Two(Block {
-        d11,
-        d21,
-        d22,
-        det: d11 * d22 - d21 * d21,
-    })
-}
-
-// The column after the pivot at k.
-fn past(blocks: &[u8], k: usize) -> usize
-    requires { ⌜ k < length (now blocks) ⌝ }
-    ensures { λ r. ⌜ r ≡ pastOf (bytes (now (blocks .entry))) k ⌝ }
-{
-    if blocks[k] == 1 {
-        return k + 2;
-    }
-    k + 1
-}
-
 // The counts of all columns, one or two a turn by the block bytes.
 pub fn tally(d: &[f64], sub: &[f64], blocks: &[u8]) -> Tally
     requires { ⌜ TallyPre (now d) (now sub) (now blocks) ⌝ }
@@ -154,8 +118,9 @@ pub fn tally(d: &[f64], sub: &[f64], blocks: &[u8]) -> Tally
     };
     let mut k = 0;
     while k < d.len() {
-        t = tallied(t, diagonal_at(d, sub, blocks, k));
-        k = past(blocks, k);
+        let at = Elim(k);
+        t = tallied(t, diagonal::diagonal_at(d, sub, blocks, at));
+        k = diagonal::past(blocks, at);
     }
     t
 }

@@ -43,9 +43,9 @@ use Rattle.model.specs.declared.Tally.{Tally}
 use Rattle.model.proofs.Tally as T
 use Rattle.model.proofs.Tally.Laws as T′
 use Rattle.inertia.specs.Count.{countedOf, CountPre}
-use Rattle.inertia.specs.declared.Diagonal.{Diagonal}
-use Rattle.inertia.proofs.Diagonal as E
-use Rattle.inertia.proofs.Diagonal.Laws as E′
+use Rattle.model.specs.declared.Diagonal.{Diagonal}
+use Rattle.model.proofs.Diagonal as E
+use Rattle.model.proofs.Diagonal.Laws as E′
 use Rattle.inertia.proofs.Machine.{tallyVal, pivotVal, tally-typed, pivot-typed, tally-makes, pivot-makes}
 use Rattle.inertia.proofs.count as count
 use Rattle.inertia.proofs.count.Symbol as count-def
