@@ -5,6 +5,7 @@
 ghost use mathlib.Core.Path.{_≡_};
 ghost use Prim.Native.Nat.{min, max};
 ghost use lib.ListN.{length};
+ghost use Rattle.model.specs.Matrix.{view};
 ghost use Rattle.model.specs.Factor.{entryCheck, factorOf};
 ghost use Rattle.model.specs.Answer.{sound};
 ghost use Rattle.scan.specs.Finite.{KnownFinite};
@@ -94,7 +95,7 @@ fn accept(
 ) -> Factored
     requires { ⌜ JudgePre (c .nrow) (c .ncol) (length (now panel)) (length (now d)) (length (now sub))
         (length (now marks)) (now blocks) ⌝ }
-    requires { ⌜ KnownFinite finite (now panel) ⌝ }
+    requires { ⌜ KnownFinite finite (view (c .nrow) (now panel)) (c .nrow) (c .ncol) ⌝ }
     ensures { λ r. ⌜ outcomeOf r (buffersOf (now (panel .entry)) (now (d .entry)) (now (sub .entry))
         (now (blocks .entry)) (now (lifts .entry)) (now (amounts .entry)) (now (order .entry)) (now (marks .exit))
         (now (work .exit)))
@@ -108,7 +109,8 @@ fn accept(
     Factored::Accepted(Report { rounds, inertia })
 }
 
-// The result judged: zeros and refusal 9, or accepted. One pass over the panel comes first, for the head and the marks.
+// The result judged: zeros and refusal 9, or accepted. One pass over the panel's lower positions comes first, for the head
+// and the marks.
 fn judge(
     c: Settings,
     rounds: usize,
@@ -130,7 +132,7 @@ fn judge(
         (now (blocks .entry)) (now (lifts .entry)) (now (amounts .entry)) (now (order .entry)) (now (marks .entry))
         (now (work .entry))) ⌝ }
 {
-    let finite = scan::known_finite(panel);
+    let finite = scan::known_finite(panel, c.ncol, c.nrow);
     let found = finish::first_unsound(panel, d, sub, blocks, c.nrow, c.ncol, finite);
     if let Found::At(k) = found {
         finish::zero_all(panel, d, sub, blocks, lifts, amounts, order, marks, work);

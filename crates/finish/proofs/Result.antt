@@ -56,9 +56,9 @@ module _ (ds subs : List Float) (bs : List ℕ) (k : ℕ) where
 pub column-down : (nrow ncol k len : ℕ) → HeadPre nrow ncol k len → DownPre nrow k k ncol len
 column-down nrow ncol k len h = record { up = omega (arith, h .column); rows = h .rows; there = col-in nrow ncol k len (h .panel) (h .column) }
 
-pub column-known : (nrow ncol k : ℕ) (xs : List Float) (b : Bool) → HeadPre nrow ncol k (length xs) → KnownFinite b xs → b ≡ true
-    → true ≡ columnFinite (view nrow xs) k k ncol
-column-known nrow ncol k xs b h w e = known-column xs b ncol nrow k k ncol (h .panel) w e (h .rows) (h .column)
+pub column-known : (nrow ncol k len : ℕ) (a : Mat) (b : Bool) → HeadPre nrow ncol k len → KnownFinite b a nrow ncol → b ≡ true
+    → true ≡ columnFinite a k k ncol
+column-known nrow ncol k len a b h w e = known-column a b nrow ncol k k ncol w e (h .column) (omega arith) (h .rows)
 
 pub column-head : (nrow ncol len ds subs k : ℕ) (bs : List ℕ) → ResultPre nrow ncol len ds subs bs → k < ncol → HeadPre nrow ncol k len
 column-head nrow ncol len ds subs k bs h l = record { rows = h .rows; panel = h .panel; column = l }

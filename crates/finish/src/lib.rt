@@ -117,7 +117,7 @@ fn pivot_sound(d: &[f64], sub: &[f64], blocks: &[u8], k: usize) -> bool
 // Whether column k of the head is finite from its diagonal down. Where the panel is known to be finite it is not read.
 fn head_finite(panel: &[f64], nrow: usize, ncol: usize, k: usize, finite: bool) -> bool
     requires { ⌜ HeadPre nrow ncol k (length (now panel)) ⌝ }
-    requires { ⌜ KnownFinite finite (now panel) ⌝ }
+    requires { ⌜ KnownFinite finite (view nrow (now panel)) nrow ncol ⌝ }
     ensures { λ r. ⌜ r ≡ columnFinite (view nrow (now (panel .entry))) k k ncol ⌝ }
 {
     if finite {
@@ -138,7 +138,7 @@ fn column_sound(
     finite: bool,
 ) -> bool
     requires { ⌜ ResultPre nrow ncol (length (now panel)) (length (now d)) (length (now sub)) (now blocks) ⌝ }
-    requires { ⌜ KnownFinite finite (now panel) ⌝ }
+    requires { ⌜ KnownFinite finite (view nrow (now panel)) nrow ncol ⌝ }
     requires { ⌜ k < ncol ⌝ }
     ensures { λ r. ⌜ r ≡ columnSound ncol (emitted (view nrow (now (panel .entry)))
         (vec (now (d .entry))) (vec (now (sub .entry))) (bytes (now (blocks .entry)))) k ⌝ }
@@ -149,7 +149,7 @@ fn column_sound(
 }
 
 // Refusal 9, an added guard: the least column of the result that holds a number not finite.
-// in: the panel, d, subdiagonal and block bytes after the last column; finite, whether all numbers of the panel are
+// in: the panel, d, subdiagonal and block bytes after the last column; finite, whether the panel's lower positions are
 // known to be
 pub fn first_unsound(
     panel: &[f64],
@@ -161,7 +161,7 @@ pub fn first_unsound(
     finite: bool,
 ) -> Found
     requires { ⌜ ResultPre nrow ncol (length (now panel)) (length (now d)) (length (now sub)) (now blocks) ⌝ }
-    requires { ⌜ KnownFinite finite (now panel) ⌝ }
+    requires { ⌜ KnownFinite finite (view nrow (now panel)) nrow ncol ⌝ }
     ensures { λ r. ⌜ foundSays r ≡ resultCheck ncol (emitted (headOf ncol (view nrow (now (panel .entry))))
         (vec (now (d .entry))) (vec (now (sub .entry))) (bytes (now (blocks .entry)))) ncol 0 ⌝ }
 {

@@ -1,25 +1,25 @@
--- Laws of numbers that are finite: a mark, a whole list, a column, a turn of the scan's rows and of its columns. Assumes nothing.
-use Prim.Native.Nat.{ℕ, zero, suc, _+_, _-_, _*_, _/_, _<_, _≤_}
+-- Laws of numbers that are finite: a mark, a list, a column, the lower positions, a turn of the scan's rows and of its columns. Assumes nothing.
+use Prim.Native.Nat.{ℕ, zero, suc, _+_, _-_, _*_, _<_, _≤_}
 use mathlib.Core.Path.{_≡_, refl, sym, _∙_, ap}
-use mathlib.Core.Bool.{Bool, true, false, not, cond, _&&_, false≢true}
+use mathlib.Core.Bool.{Bool, true, false, not, cond, _&&_}
 use mathlib.Core.List.{List}
 use native.Mathlib.Nat.{le-antisymm}
 use native.Mathlib.Omega.{arith}
 use borrow.Author.Tests.{not-true, not-false}
 use borrow.Rule.Slice.PartMut.{midOf}
 use lib.Dec.{eqb}
-use lib.ListN.{length, getD}
+use lib.ListN.{getD}
 use lib.Ieee.{Float, nan}
-use Rattle.model.specs.Scalar.{_⊕_, isFinite}
+use Rattle.model.specs.Scalar.{zeroF, isFinite}
 use Rattle.model.specs.Matrix.{Row, Mat, view, vec}
 use Rattle.model.specs.Answer.{Check, sound, stop, orElse}
 use Rattle.model.specs.Factor.{everyFrom, columnCheck, columnsCheck, markOf}
-use Rattle.grid.proofs.Laws.{test, view-at, col-in, off-in, vec-part}
+use Rattle.grid.proofs.Laws.{test, view-at, col-in}
 use Rattle.grid.proofs.Parts.{column-at}
 use Rattle.scan.specs.Greatest.{DownPre}
-use Rattle.scan.specs.Finite.{markedBy, finiteFrom, evens, sumFinite, columnFinite, firstRow, KnownFinite}
-use Rattle.scan.proofs.Sums.{both-terms}
-use Rattle.scan.proofs.Laws.{left, none, and-l, and-r, every-last, every-split, every-same, every-at, every-of}
+use Rattle.scan.specs.Finite.{markedBy, finiteFrom, columnSum, sumFinite, columnFinite, lowerFinite, firstRow, KnownFinite}
+use Rattle.scan.proofs.Sums.{sum-term, of-term}
+use Rattle.scan.proofs.Laws.{left, none, and-l, and-r, every-last, every-same, every-at, every-of}
 
 -- ---- a mark, the numbers of a list, and of a column
 
@@ -59,65 +59,29 @@ column-lent xs n j lo hi b u h e =
     e ∙ every-same (λ k. isFinite (part k)) (λ i. isFinite (view n xs i j)) (hi - lo) 0 lo
     (λ k g. ap isFinite (ap part (omega arith) ∙ column-at n xs j lo hi k h g))
 
--- ---- the numbers of a whole list: the sixteens first, then what is left, lent
+-- ---- the lower positions
 
--- how many numbers stand in sixteens
-abbrev sixteens : List Float → ℕ
-sixteens xs = length xs / 16 * 16
-
-pub sum-no : (xs : List Float) (b : Bool) → b ≡ isFinite (evens (vec xs) 0 (sixteens xs / 16) ⊕ evens (vec xs) 1 (sixteens xs / 16)) → not b ≡ true
-    → false ≡ sumFinite xs
-unfolding sumFinite
-sum-no xs b e t =
-    let count : sixteens xs / 16 ≡ length xs / 16 = omega arith in
-    let no : isFinite (evens (vec xs) 0 (length xs / 16) ⊕ evens (vec xs) 1 (length xs / 16)) ≡ false = sym (e ∙ rw count) ∙ not-true b t in
-    sym (rw no)
-
-pub sum-rest : (xs : List Float) (b r : Bool) → b ≡ isFinite (evens (vec xs) 0 (sixteens xs / 16) ⊕ evens (vec xs) 1 (sixteens xs / 16)) → not b ≡ false
-    → r ≡ finiteFrom (vec (midOf (sixteens xs) (length xs - sixteens xs) xs)) 0 (length xs - sixteens xs) → r ≡ sumFinite xs
-unfolding sumFinite finiteFrom
-sum-rest xs b r e t p =
-    let m : ℕ = sixteens xs in
-    let n : ℕ = length xs in
-    let f : ℕ → Bool = λ k. isFinite (vec xs k) in
-    let count : m / 16 ≡ length xs / 16 = omega arith in
-    let yes : isFinite (evens (vec xs) 0 (length xs / 16) ⊕ evens (vec xs) 1 (length xs / 16)) ≡ true = sym (e ∙ rw count) ∙ not-false b t in
-    let rest : everyFrom f (n - m) m ≡ r =
-    every-same f (λ k. isFinite (vec (midOf m (n - m) xs) k)) (n - m) m 0
-    (λ k l. ap isFinite (sym (vec-part m n xs k l) ∙ ap (vec (midOf m (n - m) xs)) (omega arith))) ∙ sym p in
-    sym (rw (yes, rest))
-
--- where the pass answers yes, every number is finite
-pub sum-known : (xs : List Float) (b : Bool) → b ≡ sumFinite xs → KnownFinite b xs
-unfolding sumFinite finiteFrom
-sum-known xs b e =
-    let m : ℕ = length xs / 16 * 16 in
-    let f : ℕ → Bool = λ k. isFinite (vec xs k) in
-    let sums : Bool = isFinite (evens (vec xs) 0 (length xs / 16) ⊕ evens (vec xs) 1 (length xs / 16)) in
-    let after : Bool = everyFrom f (length xs - m) m in
-    let parts : everyFrom f (length xs) 0 ≡ everyFrom f m 0 && everyFrom f (length xs - m) (0 + m) =
-    ap (λ (k : ℕ). everyFrom f k 0) {y = m + (length xs - m)} (omega arith) ∙ every-split f m (length xs - m) 0 in
+-- where the pass answers yes, every lower position is finite
+pub sum-known : (a : Mat) (n c : ℕ) (b : Bool) → b ≡ sumFinite a n c → KnownFinite b a n c
+unfolding sumFinite columnSum lowerFinite columnFinite
+sum-known a n c b e =
+    let column : (j : ℕ) → j < c → b ≡ true → isFinite (columnSum a n j) ≡ true =
+    λ j h y. ap (λ (i : ℕ). isFinite (columnSum a n i)) (omega arith) ∙ sum-term (columnSum a n) 0 c zeroF j (sym e ∙ y) h in
     record {
       all =
-          λ y.
-          let first : everyFrom f m 0 ≡ true = both-terms (vec xs) (length xs / 16) (and-l sums after (sym e ∙ y)) in
-          let rest : everyFrom f (length xs - m) (0 + m) ≡ true = ap (everyFrom f (length xs - m)) {y = m} (omega arith) ∙ and-r sums after (sym e ∙ y) in
-          parts ∙ rw (first, rest);
+          λ y. every-of (λ j. columnFinite a j j n) c 0 (λ j h.
+          every-of (λ i. isFinite (a i (0 + j))) (n - (0 + j)) (0 + j) (λ k g.
+          of-term (λ i. a (0 + j + i) (0 + j)) (n - (0 + j)) k (column (0 + j) (omega arith) y) g));
     }
 
-pub entry-finite : (xs : List Float) (b : Bool) (c n i j : ℕ) → length xs ≡ n * c → KnownFinite b xs → b ≡ true → i < n → j < c
-    → isFinite (view n xs i j) ≡ true
-unfolding finiteFrom vec
-entry-finite xs b c n i j l w e h g =
-    let f : ℕ → Bool = λ k. isFinite (getD xs k nan) in
-    ap isFinite (view-at n xs i j h) ∙ ap f (omega arith) ∙ every-at f (length xs) 0 (i + j * n) (w .all e) (off-in n c i j (length xs) l h g)
-
--- so is a part of a column
-pub known-column : (xs : List Float) (b : Bool) (c n j lo hi : ℕ) → length xs ≡ n * c → KnownFinite b xs → b ≡ true → hi ≤ n → j < c
-    → true ≡ columnFinite (view n xs) j lo hi
-unfolding columnFinite
-known-column xs b c n j lo hi l w e h g =
-    sym (every-of (λ i. isFinite (view n xs i j)) (hi - lo) lo (λ i k. entry-finite xs b c n (lo + i) j l w e (omega arith) g))
+-- so is a part of a column below its diagonal
+pub known-column : (a : Mat) (b : Bool) (n c j lo hi : ℕ) → KnownFinite b a n c → b ≡ true → j < c → j ≤ lo → hi ≤ n → true ≡ columnFinite a j lo hi
+unfolding lowerFinite columnFinite
+known-column a b n c j lo hi w e g l h =
+    let down : everyFrom (λ i. isFinite (a i j)) (n - j) j ≡ true =
+    ap (λ (k : ℕ). columnFinite a k k n) (omega arith) ∙ every-at (λ k. columnFinite a k k n) c 0 j (w .all e) g in
+    sym (every-of (λ i. isFinite (a i j)) (hi - lo) lo (λ k q.
+    ap (λ (i : ℕ). isFinite (a i j)) (omega arith) ∙ every-at (λ i. isFinite (a i j)) (n - j) j (lo + k - j) down (omega arith)))
 
 -- ---- the scan of the panel
 
@@ -145,16 +109,15 @@ unfolding firstRow
 first-high a n c j r h l e = rw e (test (columnFinite a j j n) (λ p. rw p (omega arith)) (λ p. rw p (omega arith)))
 
 -- columns that are finite have nothing to stop at
-columns-sound : (a : Mat) (n c k j : ℕ) → ((p q : ℕ) → p < n → q < c → isFinite (a p q) ≡ true) → j + k ≤ c → columnsCheck a n k j ≡ sound
-unfolding columnsCheck
-columns-sound a n c zero j f h = refl
-columns-sound a n c (suc k) j f h =
-    let finite : everyFrom (λ i. isFinite (a i j)) (n - j) j ≡ true =
-    every-of (λ i. isFinite (a i j)) (n - j) j (λ i l. f (j + i) j (omega arith) (omega arith)) in
-    rw (column-sound a j (n - j) j finite) (columns-sound a n c k (j + 1) f (omega arith))
+columns-sound : (a : Mat) (n k j : ℕ) → everyFrom (λ i. columnFinite a i i n) k j ≡ true → columnsCheck a n k j ≡ sound
+unfolding everyFrom columnsCheck columnFinite
+columns-sound a n zero j e = refl
+columns-sound a n (suc k) j e =
+    rw (column-sound a j (n - j) j (and-l (columnFinite a j j n) _ e)) (columns-sound a n k (j + 1) (and-r (columnFinite a j j n) _ e))
 
-pub panel-sound : (xs : List Float) (n c : ℕ) (b : Bool) → length xs ≡ n * c → b ≡ sumFinite xs → b ≡ true → sound ≡ columnsCheck (view n xs) n c 0
-panel-sound xs n c b l e t = sym (columns-sound (view n xs) n c c 0 (λ p q. entry-finite xs b c n p q l (sum-known xs b e) t) (omega arith))
+pub panel-sound : (a : Mat) (n c : ℕ) (b : Bool) → b ≡ sumFinite a n c → b ≡ true → sound ≡ columnsCheck a n c 0
+unfolding lowerFinite
+panel-sound a n c b e t = sym (columns-sound a n c 0 (sum-known a n c b e .all t))
 
 -- the check whole, C, from row i of column j on
 abbrev pub fromHere : Mat → ℕ → ℕ → ℕ → ℕ → Check

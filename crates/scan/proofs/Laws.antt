@@ -3,7 +3,7 @@ use Prim.Native.Nat.{ℕ, zero, suc, _+_, _-_, _*_, _<_, _≤_, _^_}
 use mathlib.Core.Path.{_≡_, refl, sym, _∙_, ap}
 use mathlib.Core.Bool.{Bool, true, false, _&&_, false≢true}
 use mathlib.Core.List.{List}
-use native.Mathlib.Nat.{mul-le-mul-right, suc-mul, not-suc-le-zero, le-of-suc-le-suc, zero-add}
+use native.Mathlib.Nat.{mul-le-mul-right, suc-mul, not-suc-le-zero, le-of-suc-le-suc}
 use native.Mathlib.Omega.{arith}
 use lib.ListN.{length, getD}
 use lib.Seq.{ext-getD}
@@ -51,12 +51,6 @@ and-assoc : (a b c : Bool) → a && (b && c) ≡ (a && b) && c
 and-assoc true b c = refl
 and-assoc false b c = refl
 
--- two tests that follow from each other
-pub both-ways : (x y : Bool) → (x ≡ true → y ≡ true) → (y ≡ true → x ≡ true) → x ≡ y
-both-ways true y f g = sym (f refl)
-both-ways false true f g = g refl
-both-ways false false f g = refl
-
 pub every-last : (f : ℕ → Bool) (n i : ℕ) → everyFrom f (n + 1) i ≡ everyFrom f n i && f (i + n)
 unfolding everyFrom
 every-last f zero i = and-true (f i) ∙ ap f (omega arith)
@@ -64,15 +58,6 @@ every-last f (suc n) i =
     let e : suc n + 1 ≡ suc (n + 1) = omega arith in
     rw e (ap (λ (b : Bool). f i && b) (every-last f n (i + 1) ∙ ap (λ (k : ℕ). everyFrom f n (i + 1) && f k) (omega arith))
     ∙ and-assoc (f i) (everyFrom f n (i + 1)) (f (i + suc n)))
-
--- m places first
-pub every-split : (f : ℕ → Bool) (m n i : ℕ) → everyFrom f (m + n) i ≡ everyFrom f m i && everyFrom f n (i + m)
-unfolding everyFrom
-every-split f zero n i = rw zero-add (ap (everyFrom f n) (omega arith))
-every-split f (suc m) n i =
-    let e : suc m + n ≡ suc (m + n) = omega arith in
-    rw e (ap (λ (b : Bool). f i && b) (every-split f m n (i + 1) ∙ ap (λ (k : ℕ). everyFrom f m (i + 1) && everyFrom f n k) (omega arith))
-    ∙ and-assoc (f i) (everyFrom f m (i + 1)) (everyFrom f n (i + suc m)))
 
 -- by another rule, from another place on
 pub every-same : (f g : ℕ → Bool) (n i j : ℕ) → ((k : ℕ) → k < n → f (i + k) ≡ g (j + k)) → everyFrom f n i ≡ everyFrom g n j

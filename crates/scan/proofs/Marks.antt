@@ -19,7 +19,7 @@ use Rattle.grid.proofs.Parts.{column-at}
 use Rattle.scan.specs.Finite.{markedBy, columnFinite, KnownFinite}
 use Rattle.scan.specs.Marks.{partMarked, marked, tailMarks, TailColumnPre}
 use Rattle.scan.proofs.Laws.{every-at, every-of, tabulate-length, tabulate-at, tabulate-is}
-use Rattle.scan.proofs.Finite.{mark-more, entry-finite}
+use Rattle.scan.proofs.Finite.{mark-more, known-column}
 
 -- ---- the marks of one column
 
@@ -57,14 +57,15 @@ unfolding tailMarks markOf everyFrom
 tail-none a n c len ms l e =
     e ∙ tabulate-is 0 (replicate len 0) (n - c) _ (length-replicate len 0 ∙ l) (λ k h. getD-replicate len k 0 0 (omega arith))
 
--- where every number of the panel is known to be finite
-pub tail-clean : (xs : List Float) (n c len : ℕ) (ms : List ℕ) (b : Bool) → length xs ≡ n * c → len ≡ n - c → ms ≡ replicate len 0
-    → KnownFinite b xs → b ≡ true → ms ≡ tailMarks (view n xs) c n c
-unfolding tailMarks markOf
-tail-clean xs n c len ms b p l e w t =
+-- where the lower positions of the panel are known to be finite
+pub tail-clean : (a : Mat) (n c len : ℕ) (ms : List ℕ) (b : Bool) → len ≡ n - c → ms ≡ replicate len 0 → KnownFinite b a n c → b ≡ true
+    → ms ≡ tailMarks a c n c
+unfolding tailMarks markOf columnFinite
+tail-clean a n c len ms b l e w t =
     e ∙ tabulate-is 0 (replicate len 0) (n - c) _ (length-replicate len 0 ∙ l) (λ k h.
-    let clean : everyFrom (λ j. isFinite (view n xs (c + k) j)) c 0 ≡ true =
-    every-of (λ j. isFinite (view n xs (c + k) j)) c 0 (λ j g. entry-finite xs b c n (c + k) (0 + j) p w t (omega arith) (omega arith)) in
+    let clean : everyFrom (λ j. isFinite (a (c + k) j)) c 0 ≡ true =
+    every-of (λ j. isFinite (a (c + k) j)) c 0 (λ j g.
+    every-at (λ i. isFinite (a i (0 + j))) (n - c) c k (sym (known-column a b n c (0 + j) c n w t (omega arith) (omega arith) (omega arith))) h) in
     getD-replicate len k 0 0 (omega arith) ∙ rw clean)
 
 pub tail-step : (a : Mat) (ms ns : List ℕ) (n c j : ℕ) → ms ≡ tailMarks a c n j → ns ≡ marked ms a c n j → ns ≡ tailMarks a c n (j + 1)

@@ -1,18 +1,21 @@
--- Laws of a sum that is finite: then so is each of its terms. Assumes nothing.
+-- Laws of a sum that is finite: then so is each of its terms; and of the loops that add. Assumes nothing.
 use Prim.Native.Nat.{ℕ, zero, suc, _+_, _-_, _*_, _/_, _%_, _<_, _≤_}
 use mathlib.Core.Path.{_≡_, refl, sym, _∙_, ap}
-use mathlib.Core.Bool.{Bool, true, false}
-use native.Mathlib.Nat.{le-antisymm}
+use mathlib.Core.Bool.{true, false}
+use mathlib.Core.List.{List}
 use native.Mathlib.Omega.{arith}
-use borrow.Author.Tests.{ltb-true, ltb-false, eqb-true, eqb-false}
+use borrow.Author.Tests.{lt-ltb, le-ltb, ltb-true, ltb-false, eqb-true, eqb-false}
+use borrow.Rule.Slice.PartMut.{midOf}
 use lib.Dec.{ltb, eqb}
+use lib.ListN.{length, getD}
 use lib.Ieee.{Float, nan, inf, fin, add}
 use Rattle.model.specs.Scalar.{_⊕_, zeroF, isFinite}
-use Rattle.model.specs.Factor.{everyFrom}
-use Rattle.model.specs.Matrix.{Row}
+use Rattle.model.specs.Matrix.{Row, view, vec}
+use Rattle.model.specs.Panel.{sumFrom}
 use Rattle.grid.proofs.Laws.{test}
-use Rattle.scan.specs.Finite.{everySecond, evens}
-use Rattle.scan.proofs.Laws.{every-of}
+use Rattle.grid.proofs.Parts.{column-at, mid-count}
+use Rattle.scan.specs.Finite.{everySecond, sixteen, longSum, sumOf, columnSum}
+use Rattle.scan.proofs.Laws.{left, none}
 
 -- ---- two terms
 
@@ -40,6 +43,43 @@ plus-r (inf false) (inf false) e = e
 plus-r (fin s m d) (inf t) e = e
 plus-r x (fin t n d) e = refl
 
+-- ---- a running sum: what it begins with, a term, other terms; its loop's begin, a turn, the end
+
+sum-begin : (f : Row) (c n : ℕ) (s : Float) → isFinite (sumFrom f c n s) ≡ true → isFinite s ≡ true
+unfolding sumFrom
+sum-begin f c zero s e = e
+sum-begin f c (suc n) s e = plus-l s (f c) (sum-begin f (c + 1) n (s ⊕ f c) e)
+
+pub sum-term : (f : Row) (c n : ℕ) (s : Float) (k : ℕ) → isFinite (sumFrom f c n s) ≡ true → k < n → isFinite (f (c + k)) ≡ true
+unfolding sumFrom
+sum-term f c zero s k e h = absurd (omega arith)
+sum-term f c (suc n) s zero e h = ap (λ (i : ℕ). isFinite (f i)) (omega arith) ∙ plus-r s (f c) (sum-begin f (c + 1) n (s ⊕ f c) e)
+sum-term f c (suc n) s (suc k) e h = ap (λ (i : ℕ). isFinite (f i)) (omega arith) ∙ sum-term f (c + 1) n (s ⊕ f c) k e (omega arith)
+
+sum-same : (f g : Row) (c n : ℕ) (s : Float) → ((k : ℕ) → k < n → f (c + k) ≡ g (c + k)) → sumFrom f c n s ≡ sumFrom g c n s
+unfolding sumFrom
+sum-same f g c zero s h = refl
+sum-same f g c (suc n) s h =
+    let here : f c ≡ g c = ap f (omega arith) ∙ h 0 (omega arith) ∙ ap g (omega arith) in
+    rw here (sum-same f g (c + 1) n (s ⊕ g c) (λ k l. ap f (omega arith) ∙ h (suc k) (omega arith) ∙ ap g (omega arith)))
+
+pub sum-none : (f : Row) (n : ℕ) (s : Float) → sumFrom f 0 (n - 0) s ≡ sumFrom f 0 n s
+sum-none f n s = ap (λ (k : ℕ). sumFrom f 0 k s) (omega arith)
+
+pub sum-turn : (f : Row) (n i : ℕ) (s y S : Float) → i < n → y ≡ f i → sumFrom f i (n - i) s ≡ S → sumFrom f (i + 1) (n - (i + 1)) (s ⊕ y) ≡ S
+unfolding sumFrom
+sum-turn f n i s y S h e p = rw e (sym (rw (left n i h)) ∙ p)
+
+pub sum-end : (f : Row) (n i : ℕ) (s S : Float) → n ≤ i → sumFrom f i (n - i) s ≡ S → s ≡ S
+unfolding sumFrom
+sum-end f n i s S h p = sym (rw (none n i h)) ∙ p
+
+-- the numbers of a list
+pub short-turn : (xs : List Float) (n i : ℕ) (s S : Float) → i < n → sumFrom (vec xs) i (n - i) s ≡ S
+    → sumFrom (vec xs) (i + 1) (n - (i + 1)) (s ⊕ getD xs i nan) ≡ S
+unfolding vec
+short-turn xs n i s S h p = sum-turn (vec xs) n i s (getD xs i nan) S h refl p
+
 -- ---- eight terms, every second number
 
 eight-terms : (f : Row) (i : ℕ) → isFinite (everySecond f i) ≡ true → (u : ℕ) → u < 8 → isFinite (f (i + 2 * u)) ≡ true
@@ -54,47 +94,126 @@ eight-terms f i e (suc (suc (suc (suc (suc (suc zero)))))) h = plus-l _ _ (plus-
 eight-terms f i e (suc (suc (suc (suc (suc (suc (suc zero))))))) h = plus-r _ _ (plus-r _ _ (plus-r _ _ e))
 eight-terms f i e (suc (suc (suc (suc (suc (suc (suc (suc u)))))))) h = absurd (omega arith)
 
--- ---- the sums of a list's sixteens
+eight-same : (f g : Row) (n i : ℕ) → ((k : ℕ) → k < n → f k ≡ g k) → i + 14 < n → everySecond f i ≡ everySecond g i
+unfolding everySecond
+eight-same f g n i h l =
+    rw (
+      h i (omega arith),
+      h (i + 2) (omega arith),
+      h (i + 4) (omega arith),
+      h (i + 6) (omega arith),
+      h (i + 8) (omega arith),
+      h (i + 10) (omega arith),
+      h (i + 12) (omega arith),
+      h (i + 14) l,
+    )
 
--- a term of a sum that is finite
-evens-terms : (f : Row) (p n : ℕ) → isFinite (evens f p n) ≡ true → (k : ℕ) → k < 8 * n → isFinite (f (2 * k + p)) ≡ true
-unfolding evens
-evens-terms f p zero e k h = absurd (omega arith)
-evens-terms f p (suc n) e k h =
-    test (ltb k (8 * n))
-    (λ b. evens-terms f p n (plus-l _ _ e) k (ltb-true k (8 * n) b))
-    (λ b. ap (λ (i : ℕ). isFinite (f i)) (omega (arith, ltb-false k (8 * n) b))
-    ∙ eight-terms f (16 * n + p) (plus-r _ _ e) (k - 8 * n) (omega (arith, ltb-false k (8 * n) b)))
+-- ---- sixteen numbers or more: the last sixteen and the sixteens from the first number on
 
--- both sums
-pub both-terms : (f : Row) (n : ℕ) → isFinite (evens f 0 n ⊕ evens f 1 n) ≡ true → everyFrom (λ k. isFinite (f k)) (n * 16) 0 ≡ true
-both-terms f n e =
-    every-of (λ k. isFinite (f k)) (n * 16) 0 (λ k g.
-    test (eqb (k % 2) 0)
-    (λ b. ap (λ (i : ℕ). isFinite (f i)) (omega (arith, eqb-true (k % 2) 0 b))
-    ∙ evens-terms f 0 n (plus-l _ _ e) (k / 2) (omega (arith, eqb-true (k % 2) 0 b)))
-    (λ b. ap (λ (i : ℕ). isFinite (f i)) (omega (arith, eqb-false (k % 2) 0 b))
-    ∙ evens-terms f 1 n (plus-r _ _ e) (k / 2) (omega (arith, eqb-false (k % 2) 0 b))))
-
--- ---- a turn of the loop, and its end
-
-pub evens-none : (f : Row) (p : ℕ) → zeroF ≡ evens f p (0 / 16)
-unfolding evens
-evens-none f p = refl
-
-evens-more : (f : Row) (s y : Float) (p i q : ℕ) → q ≡ i + p → i % 16 ≡ 0 → s ≡ evens f p (i / 16) → y ≡ everySecond f q → s ⊕ y ≡ evens f p ((i + 16) / 16)
-unfolding evens
-evens-more f s y p i q h t e d =
-    let next : (i + 16) / 16 ≡ suc (i / 16) = omega arith in
+-- a turn and the end of the loop over them: i is the place, last where the last sixteen begin
+sixteen-turn : (f : Row) (p last i q : ℕ) (s y S : Float) → q ≡ i + p → i % 16 ≡ 0 → i < last → y ≡ everySecond f q
+    → sumFrom (sixteen f p) (i / 16) ((last + 15) / 16 - i / 16) s ≡ S
+    → sumFrom (sixteen f p) ((i + 16) / 16) ((last + 15) / 16 - (i + 16) / 16) (s ⊕ y) ≡ S
+unfolding sixteen
+sixteen-turn f p last i q s y S d r h e w =
+    let next : (i + 16) / 16 ≡ i / 16 + 1 = omega arith in
     let at : q ≡ 16 * (i / 16) + p = omega arith in
-    rw (next, e, d, at)
+    rw next (sum-turn (sixteen f p) ((last + 15) / 16) (i / 16) s y S (omega arith) (e ∙ rw at) w)
 
-pub evens-even : (f : Row) (s y : Float) (i : ℕ) → i % 16 ≡ 0 → s ≡ evens f 0 (i / 16) → y ≡ everySecond f i → s ⊕ y ≡ evens f 0 ((i + 16) / 16)
-evens-even f s y i t e d = evens-more f s y 0 i i (omega arith) t e d
+pub even-turn : (f : Row) (last i : ℕ) (s y S : Float) → i % 16 ≡ 0 → i < last → y ≡ everySecond f i
+    → sumFrom (sixteen f 0) (i / 16) ((last + 15) / 16 - i / 16) s ≡ S
+    → sumFrom (sixteen f 0) ((i + 16) / 16) ((last + 15) / 16 - (i + 16) / 16) (s ⊕ y) ≡ S
+even-turn f last i s y S r h e w = sixteen-turn f 0 last i i s y S (omega arith) r h e w
 
-pub evens-odd : (f : Row) (s y : Float) (i : ℕ) → i % 16 ≡ 0 → s ≡ evens f 1 (i / 16) → y ≡ everySecond f (i + 1) → s ⊕ y ≡ evens f 1 ((i + 16) / 16)
-evens-odd f s y i t e d = evens-more f s y 1 i (i + 1) (omega arith) t e d
+pub odd-turn : (f : Row) (last i : ℕ) (s y S : Float) → i % 16 ≡ 0 → i < last → y ≡ everySecond f (i + 1)
+    → sumFrom (sixteen f 1) (i / 16) ((last + 15) / 16 - i / 16) s ≡ S
+    → sumFrom (sixteen f 1) ((i + 16) / 16) ((last + 15) / 16 - (i + 16) / 16) (s ⊕ y) ≡ S
+odd-turn f last i s y S r h e w = sixteen-turn f 1 last i (i + 1) s y S refl r h e w
 
-pub evens-end : (f : Row) (i m : ℕ) (s t : Float) (r : Bool) → i ≤ m → m ≤ i → s ≡ evens f 0 (i / 16) → t ≡ evens f 1 (i / 16) → r ≡ isFinite (s ⊕ t)
-    → r ≡ isFinite (evens f 0 (m / 16) ⊕ evens f 1 (m / 16))
-evens-end f i m s t r h l a b e = let same : i ≡ m = le-antisymm h l in e ∙ rw (a, b, same)
+pub long-end : (f : Row) (n i : ℕ) (s t a b : Float) → n - 16 ≤ i → i % 16 ≡ 0 → a ≡ everySecond f (n - 16) → b ≡ everySecond f (n - 16 + 1)
+    → sumFrom (sixteen f 0) (i / 16) ((n - 16 + 15) / 16 - i / 16) s ≡ sumFrom (sixteen f 0) 0 ((n - 16 + 15) / 16) a
+    → sumFrom (sixteen f 1) (i / 16) ((n - 16 + 15) / 16 - i / 16) t ≡ sumFrom (sixteen f 1) 0 ((n - 16 + 15) / 16) b → s ⊕ t ≡ longSum f n
+unfolding longSum
+long-end f n i s t a b h r ea eb es et =
+    let m : ℕ = (n - 16 + 15) / 16 in
+    let all : m ≤ i / 16 = omega arith in
+    rw (← ea, ← eb, sum-end (sixteen f 0) m (i / 16) s _ all es, sum-end (sixteen f 1) m (i / 16) t _ all et)
+
+-- a term at an even place or at an odd one, p
+sixteen-term : (f : Row) (p m : ℕ) (s : Float) (k : ℕ) → isFinite (sumFrom (sixteen f p) 0 m s) ≡ true → k < 8 * m → isFinite (f (2 * k + p)) ≡ true
+unfolding sixteen
+sixteen-term f p m s k e h =
+    ap (λ (i : ℕ). isFinite (f i)) (omega arith) ∙ eight-terms f (16 * (0 + k / 8) + p) (sum-term (sixteen f p) 0 m s (k / 8) e (omega arith)) (k % 8) (omega arith)
+
+-- every number is a term
+long-term : (f : Row) (n k : ℕ) → isFinite (longSum f n) ≡ true → 16 ≤ n → k < n → isFinite (f k) ≡ true
+unfolding longSum
+long-term f n k e h l =
+    let last : ℕ = n - 16 in
+    let m : ℕ = (last + 15) / 16 in
+    let even : isFinite (sumFrom (sixteen f 0) 0 m (everySecond f last)) ≡ true = plus-l _ _ e in
+    let odd : isFinite (sumFrom (sixteen f 1) 0 m (everySecond f (last + 1))) ≡ true = plus-r _ _ e in
+    test (ltb k last)
+    (λ t. let first : k < last = ltb-true k last t in
+    test (eqb (k % 2) 0)
+    (λ b. let par : k % 2 ≡ 0 = eqb-true (k % 2) 0 b in
+    ap (λ (i : ℕ). isFinite (f i)) (omega arith) ∙ sixteen-term f 0 m _ (k / 2) even (omega arith))
+    (λ b. let par : k % 2 ≡ 0 → ⊥ = eqb-false (k % 2) 0 b in
+    ap (λ (i : ℕ). isFinite (f i)) (omega arith) ∙ sixteen-term f 1 m _ (k / 2) odd (omega arith)))
+    (λ t. let later : last ≤ k = ltb-false k last t in
+    test (eqb ((k - last) % 2) 0)
+    (λ b. let par : (k - last) % 2 ≡ 0 = eqb-true ((k - last) % 2) 0 b in
+    ap (λ (i : ℕ). isFinite (f i)) (omega arith) ∙ eight-terms f last (sum-begin (sixteen f 0) 0 m _ even) ((k - last) / 2) (omega arith))
+    (λ b. let par : (k - last) % 2 ≡ 0 → ⊥ = eqb-false ((k - last) % 2) 0 b in
+    ap (λ (i : ℕ). isFinite (f i)) (omega arith) ∙ eight-terms f (last + 1) (sum-begin (sixteen f 1) 0 m _ odd) ((k - last) / 2) (omega arith)))
+
+sixteen-same : (f g : Row) (n p m : ℕ) (s : Float) → ((k : ℕ) → k < n → f k ≡ g k) → p < 2 → 16 * m ≤ n
+    → sumFrom (sixteen f p) 0 m s ≡ sumFrom (sixteen g p) 0 m s
+unfolding sixteen
+sixteen-same f g n p m s h q l = sum-same (sixteen f p) (sixteen g p) 0 m s (λ k r. eight-same f g n (16 * (0 + k) + p) h (omega arith))
+
+long-same : (f g : Row) (n : ℕ) → ((k : ℕ) → k < n → f k ≡ g k) → 16 ≤ n → longSum f n ≡ longSum g n
+unfolding longSum
+long-same f g n h l =
+    let last : ℕ = n - 16 in
+    let m : ℕ = (last + 15) / 16 in
+    rw (
+      eight-same f g n last h (omega arith),
+      eight-same f g n (last + 1) h (omega arith),
+      sixteen-same f g n 0 m _ h (omega arith) (omega arith),
+      sixteen-same f g n 1 m _ h (omega arith) (omega arith),
+    )
+
+-- ---- any sum of a column
+
+pub sum-short : (f : Row) (n : ℕ) (r : Float) → n < 16 → r ≡ sumFrom f 0 n zeroF → r ≡ sumOf f n
+unfolding sumOf
+sum-short f n r h e = rw (lt-ltb n 16 h) e
+
+pub sum-long : (f : Row) (n : ℕ) (r : Float) → 16 ≤ n → r ≡ longSum f n → r ≡ sumOf f n
+unfolding sumOf
+sum-long f n r h e = rw (le-ltb n 16 h) e
+
+pub of-term : (f : Row) (n k : ℕ) → isFinite (sumOf f n) ≡ true → k < n → isFinite (f k) ≡ true
+unfolding sumOf
+of-term f n k e h =
+    test (ltb n 16)
+    (λ t. ap (λ (i : ℕ). isFinite (f i)) (omega arith) ∙ sum-term f 0 n zeroF k (rw t at e) h)
+    (λ t. long-term f n k (rw t at e) (ltb-false n 16 t) h)
+
+of-same : (f g : Row) (n : ℕ) → ((k : ℕ) → k < n → f k ≡ g k) → sumOf f n ≡ sumOf g n
+unfolding sumOf
+of-same f g n h =
+    test (ltb n 16)
+    (λ t. rw t (sum-same f g 0 n zeroF (λ k l. ap f (omega arith) ∙ h k l ∙ ap g (omega arith))))
+    (λ t. rw t (long-same f g n h (ltb-false n 16 t)))
+
+-- what is lent is the column from its diagonal down
+pub sum-lent : (xs : List Float) (n j : ℕ) (r : Float) → j ≤ n → n + j * n ≤ length xs
+    → r ≡ sumOf (vec (midOf (j + j * n) (n + j * n - (j + j * n)) xs)) (length (midOf (j + j * n) (n + j * n - (j + j * n)) xs))
+    → r ≡ columnSum (view n xs) n j
+unfolding columnSum
+sum-lent xs n j r h l e =
+    let part : Row = vec (midOf (j + j * n) (n + j * n - (j + j * n)) xs) in
+    let count : length (midOf (j + j * n) (n + j * n - (j + j * n)) xs) ≡ n - j = mid-count (j + j * n) (n + j * n) xs (omega arith) l ∙ omega arith in
+    e ∙ ap (sumOf part) count ∙ of-same part (λ i. view n xs (j + i) j) (n - j) (λ k g. column-at n xs j j n k (omega arith) g)

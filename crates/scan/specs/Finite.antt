@@ -1,13 +1,14 @@
--- Numbers that are finite: one by one, in a whole list, down a column, and the scan of a whole panel with its declared answer as refusal 6 has it.
+-- Numbers that are finite: one by one, down a column, in the lower positions of a panel, and the scan of a whole panel with its declared answer as refusal 6
+-- has it; and the sum of the lower positions, which is finite only where each of them is.
 -- Definitions only. Assumes nothing.
 use mathlib.Core.Path.{_≡_}
-use mathlib.Core.Bool.{Bool, true, cond, _&&_}
-use mathlib.Core.List.{List}
-use Prim.Native.Nat.{ℕ, zero, suc, _+_, _-_, _*_, _/_, _%_, _≤_}
-use lib.ListN.{length}
+use mathlib.Core.Bool.{Bool, true, cond}
+use Prim.Native.Nat.{ℕ, _+_, _-_, _*_, _/_, _≤_}
+use lib.Dec.{ltb}
 use lib.Ieee.{Float}
 use Rattle.model.specs.Scalar.{_⊕_, zeroF, isFinite}
-use Rattle.model.specs.Matrix.{Row, Mat, vec}
+use Rattle.model.specs.Matrix.{Row, Mat}
+use Rattle.model.specs.Panel.{sumFrom}
 use Rattle.model.specs.Answer.{Check, sound, stop}
 use Rattle.model.specs.Factor.{everyFrom}
 use Rattle.scan.specs.declared.Scan.{Scan}
@@ -25,20 +26,37 @@ finiteFrom f i n = everyFrom (λ k. isFinite (f k)) n i
 unfoldable pub everySecond : Row → ℕ → Float
 everySecond f i = ((f i ⊕ f (i + 2)) ⊕ (f (i + 4) ⊕ f (i + 6))) ⊕ ((f (i + 8) ⊕ f (i + 10)) ⊕ (f (i + 12) ⊕ f (i + 14)))
 
--- the sum, from +0.0, of the numbers at p, p + 2, .. of the first n sixteens
-unfoldable pub evens : Row → ℕ → ℕ → Float
-evens f p zero = zeroF
-evens f p (suc n) = evens f p n ⊕ everySecond f (16 * n + p)
+-- .. of the numbers at p, p + 2, .. of the sixteen with number t
+unfoldable pub sixteen : Row → ℕ → ℕ → Float
+sixteen f p t = everySecond f (16 * t + p)
 
--- what one pass tells of a list: the sum of its sixteens is finite, and so is each number after them
-unfoldable pub sumFinite : List Float → Bool
-sumFinite xs =
-    let n = length xs / 16 in
-    isFinite (evens (vec xs) 0 n ⊕ evens (vec xs) 1 n) && everyFrom (λ k. isFinite (vec xs k)) (length xs - n * 16) (n * 16)
+-- a sum of n numbers, sixteen or more: the last sixteen, and on top of them as many sixteens from the first number on as it takes to reach them. Where the
+-- two meet a number is a term twice. Numbers at even and at odd places are added apart
+unfoldable pub longSum : Row → ℕ → Float
+longSum f n =
+    let last = n - 16 in
+    let m = (last + 15) / 16 in
+    sumFrom (sixteen f 0) 0 m (everySecond f last) ⊕ sumFrom (sixteen f 1) 0 m (everySecond f (last + 1))
+
+-- a sum in which each of n numbers is a term
+unfoldable pub sumOf : Row → ℕ → Float
+sumOf f n = cond (ltb n 16) (sumFrom f 0 n zeroF) (longSum f n)
+
+-- .. of column j of n rows from its diagonal down
+unfoldable pub columnSum : Mat → ℕ → ℕ → Float
+columnSum a n j = sumOf (λ i. a (j + i) j) (n - j)
+
+-- what one pass tells of a panel of n rows and c columns: whether the sum of its lower positions is finite
+unfoldable pub sumFinite : Mat → ℕ → ℕ → Bool
+sumFinite a n c = isFinite (sumFrom (columnSum a n) 0 c zeroF)
 
 -- rows lo up to hi of column j are finite
 unfoldable pub columnFinite : Mat → ℕ → ℕ → ℕ → Bool
 columnFinite a j lo hi = everyFrom (λ i. isFinite (a i j)) (hi - lo) lo
+
+-- the lower positions of n rows and c columns are finite
+unfoldable pub lowerFinite : Mat → ℕ → ℕ → Bool
+lowerFinite a n c = everyFrom (λ j. columnFinite a j j n) c 0
 
 -- a column of n rows that is finite is passed over
 unfoldable pub firstRow : Mat → ℕ → ℕ → ℕ
@@ -49,14 +67,9 @@ abbrev pub checkOf : Scan → Check
 checkOf Clean = sound
 checkOf (At column row) = stop 6 (column .0) (row .0)
 
--- where b is true all numbers of the list are finite; where it is false nothing is said of them
-pub record KnownFinite (b : Bool) (xs : List Float) : Type 0 where
-  pub all : b ≡ true → finiteFrom (vec xs) 0 (length xs) ≡ true
-
--- m numbers of a list, in sixteens
-pub record SixteensPre (m len : ℕ) : Type 0 where
-  pub sixteens : m % 16 ≡ 0
-  pub there : m ≤ len
+-- where b is true the lower positions of a panel of n rows and c columns are finite; where it is false nothing is said of them
+pub record KnownFinite (b : Bool) (a : Mat) (n c : ℕ) : Type 0 where
+  pub all : b ≡ true → lowerFinite a n c ≡ true
 
 -- a list that is a panel of n rows and c columns
 pub record PanelPre (n c len : ℕ) : Type 0 where

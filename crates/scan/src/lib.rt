@@ -1,14 +1,16 @@
 // Scans that only read a panel: the greatest square, the first number that is not finite, the marks of the tail.
-// Each is equal to its definition in crates/model, not-a-number, ties and signed zeros included.
+// Each is equal to its definition in crates/model, not-a-number, ties and signed zeros included. No scan reads an upper
+// position (row < column): tests/upper.c sees to it, since no contract can say what is not read.
 ghost use mathlib.Core.Path.{_≡_};
-ghost use Prim.Native.Nat.{_+_, _-_, _/_, _<_, _≤_};
+ghost use Prim.Native.Nat.{_+_, _<_, _≤_};
 ghost use lib.ListN.{length};
-ghost use Rattle.model.specs.Scalar.{_⊕_, squareOf, isFinite};
+ghost use Rattle.model.specs.Scalar.{zeroF, squareOf};
 ghost use Rattle.model.specs.Matrix.{view, vec};
+ghost use Rattle.model.specs.Panel.{sumFrom};
 ghost use Rattle.model.specs.Choice.{columnGreatest, rowGreatest};
 ghost use Rattle.model.specs.Factor.{columnsCheck};
 ghost use Rattle.scan.specs.Finite.{markedBy, finiteFrom, columnFinite, firstRow, checkOf};
-ghost use Rattle.scan.specs.Finite.{everySecond, evens, sumFinite, KnownFinite, SixteensPre, PanelPre};
+ghost use Rattle.scan.specs.Finite.{everySecond, longSum, sumOf, columnSum, sumFinite, KnownFinite, PanelPre};
 ghost use Rattle.scan.specs.Marks.{partMarked, marked, tailMarks, ColumnMarksPre, TailColumnPre, MarksPre};
 ghost use Rattle.scan.specs.Greatest.{found, better, greatestDown, greatestAlong};
 ghost use Rattle.scan.specs.Greatest.{DownPre, AlongPre, ColumnPre, RowPre, Within};
@@ -142,35 +144,76 @@ fn every_second(xs: &[f64], i: usize) -> f64
         + ((xs[i + 8] + xs[i + 10]) + (xs[i + 12] + xs[i + 14]))
 }
 
-// Whether the sum of the first m numbers, a multiple of sixteen, is finite: then each of them is, since no sum loses an
-// infinity or a not-a-number. A sum that overflows says nothing of its terms. Numbers at even and at odd places are added
-// apart, so that the machine adds two at a time.
-fn sum_finite(xs: &[f64], m: usize) -> bool
-    requires { ⌜ SixteensPre m (length (now xs)) ⌝ }
-    ensures { λ r. ⌜ r ≡ isFinite (evens (vec (now (xs .entry))) 0 (m / 16) ⊕ evens (vec (now (xs .entry))) 1 (m / 16)) ⌝ }
+// A sum of sixteen numbers or more. The last sixteen come first, then sixteens from the first number on until they meet
+// them: where they do, numbers count twice, so that none is left over to be added by itself. Numbers at even and at odd
+// places are added apart, so that the machine adds two at a time.
+fn long_sum(xs: &[f64]) -> f64
+    requires { ⌜ 16 ≤ length (now xs) ⌝ }
+    ensures { λ r. ⌜ r ≡ longSum (vec (now (xs .entry))) (length (now (xs .entry))) ⌝ }
 {
-    let mut s = 0.0;
-    let mut t = 0.0;
+    let last = xs.len() - 16;
+    let mut s = every_second(xs, last);
+    let mut t = every_second(xs, last + 1);
     let mut i = 0;
-    while i < m {
+    while i < last {
         s = s + every_second(xs, i);
         t = t + every_second(xs, i + 1);
         i += 16;
     }
-    scalar::is_finite(s + t)
+    s + t
 }
 
-// Whether all numbers are known to be finite, by one pass over them: then they are (`sum-known` of proofs/Finite.antt).
-// False says nothing of them: a panel has upper positions, which do not count, and the sum of finite numbers can overflow.
-pub fn known_finite(xs: &[f64]) -> bool
-    ensures { λ r. ⌜ r ≡ sumFinite (now (xs .entry)) ⌝ }
+// The sum of all numbers, in order.
+fn short_sum(xs: &[f64]) -> f64
+    ensures { λ r. ⌜ r ≡ sumFrom (vec (now (xs .entry))) 0 (length (now (xs .entry))) zeroF ⌝ }
 {
-    let n = xs.len();
-    let m = n / 16 * 16;
-    if !sum_finite(xs, m) {
-        return false;
+    let mut s = 0.0;
+    for i in 0..xs.len() {
+        s = s + xs[i];
     }
-    all_finite(&xs[m..n], n - m)
+    s
+}
+
+// A sum in which every number is a term.
+fn sum_of(xs: &[f64]) -> f64
+    ensures { λ r. ⌜ r ≡ sumOf (vec (now (xs .entry))) (length (now (xs .entry))) ⌝ }
+{
+    if xs.len() < 16 {
+        return short_sum(xs);
+    }
+    long_sum(xs)
+}
+
+// .. of column j from its diagonal down.
+fn column_sum(panel: &[f64], nrow: usize, j: usize) -> f64
+    requires { ⌜ DownPre nrow j j nrow (length (now panel)) ⌝ }
+    ensures { λ r. ⌜ r ≡ columnSum (view nrow (now (panel .entry))) nrow j ⌝ }
+{
+    let start = j + j * nrow;
+    let end = nrow + j * nrow;
+    sum_of(&panel[start..end])
+}
+
+// .. of all lower positions. A column's own sum waits for no other.
+fn lower_sum(panel: &[f64], ncol: usize, nrow: usize) -> f64
+    requires { ⌜ PanelPre nrow ncol (length (now panel)) ⌝ }
+    ensures { λ r. ⌜ r ≡ sumFrom (columnSum (view nrow (now (panel .entry))) nrow) 0 ncol zeroF ⌝ }
+{
+    let mut s = 0.0;
+    for j in 0..ncol {
+        s = s + column_sum(panel, nrow, j);
+    }
+    s
+}
+
+// Whether the lower positions are known to be finite, by one pass over them: if their sum is, they are, since no sum loses an
+// infinity or a not-a-number (`sum-known` of proofs/Finite.antt). False says nothing of them: the sum of finite numbers can
+// overflow. Upper positions are not read.
+pub fn known_finite(panel: &[f64], ncol: usize, nrow: usize) -> bool
+    requires { ⌜ PanelPre nrow ncol (length (now panel)) ⌝ }
+    ensures { λ r. ⌜ r ≡ sumFinite (view nrow (now (panel .entry))) nrow ncol ⌝ }
+{
+    scalar::is_finite(lower_sum(panel, ncol, nrow))
 }
 
 // Whether rows lo up to hi of column j are finite.
@@ -224,13 +267,13 @@ fn first_by_columns(input: &[f64], ncol: usize, nrow: usize) -> Scan
     Scan::Clean
 }
 
-// The first number of the lower panel that is not finite, by column and then by row: refusal 6. One pass over all numbers
+// The first number of the lower panel that is not finite, by column and then by row: refusal 6. One pass over its numbers
 // comes first: where they are known to be finite, there is none.
 pub fn first_not_finite(input: &[f64], ncol: usize, nrow: usize) -> Scan
     requires { ⌜ PanelPre nrow ncol (length (now input)) ⌝ }
     ensures { λ r. ⌜ checkOf r ≡ columnsCheck (view nrow (now (input .entry))) nrow ncol 0 ⌝ }
 {
-    if known_finite(input) {
+    if known_finite(input, ncol, nrow) {
         return Scan::Clean;
     }
     first_by_columns(input, ncol, nrow)
@@ -260,11 +303,11 @@ fn mark_tail(marks: &mut [u8], panel: &[f64], ncol: usize, nrow: usize, j: usize
 }
 
 // The marks of the tail, by columns: 1 if a row holds a number not finite, else 0.
-// in: panel; finite, whether all of its numbers are known to be: then the zeros stay / out: marks
+// in: panel; finite, whether its lower positions, the tail among them, are known to be: then the zeros stay / out: marks
 // origin: src/numeric/ldlt/bunch_kaufman.rs, fn ll_cdiv_emit
 pub fn marks_of(panel: &[f64], marks: &mut [u8], ncol: usize, nrow: usize, finite: bool)
     requires { ⌜ MarksPre nrow ncol (length (now panel)) (length (now marks)) ⌝ }
-    requires { ⌜ KnownFinite finite (now panel) ⌝ }
+    requires { ⌜ KnownFinite finite (view nrow (now panel)) nrow ncol ⌝ }
     ensures { λ _. ⌜ now (marks .exit) ≡ tailMarks (view nrow (now (panel .entry))) ncol nrow ncol ⌝ }
 {
     grid::kernels::zero_bytes(marks);
