@@ -3,53 +3,44 @@ use mathlib.Core.Path.{_≡_, refl, sym, _∙_, ap}
 use mathlib.Core.Bool.{Bool, true, false, not, _&&_, _||_}
 use mathlib.Core.List.{List}
 use Prim.Native.Nat.{ℕ, zero, suc, _+_, _-_, _<_, _≤_}
-use native.Mathlib.Nat.{pos-of-ne-zero}
 use native.Mathlib.Omega.{arith}
-use borrow.Author.Tests.{lt-ltb, le-leb, ne-eqb, not-true, not-false}
-use lib.Dec.{eqb}
+use borrow.Author.Tests.{lt-ltb, le-leb, eqb-true, not-true, not-false}
 use lib.ListN.{length, getD}
 use lib.Ieee.{Float, nan}
-use Rattle.model.specs.Scalar.{_⊖_, _⊗_, reciprocalOf, isFinite}
+use Rattle.model.specs.Scalar.{reciprocalOf, isFinite}
 use Rattle.model.specs.Matrix.{Row, Mat, view, vec, bytes, headOf}
+use Rattle.model.specs.Step.{begins, endsBlock, blockAt}
 use Rattle.model.specs.Head.{State}
 use Rattle.model.specs.Factor.{everyFrom, pivotSound, columnSound, resultCheck}
 use Rattle.model.specs.Answer.{Check, sound, stop}
+use Rattle.model.specs.declared.Block.{Block}
+use Rattle.diagonal.specs.Diagonal.{BlockPre}
 use Rattle.grid.proofs.Laws.{col-in}
 use Rattle.scan.specs.Finite.{columnFinite, KnownFinite}
 use Rattle.scan.specs.Greatest.{DownPre}
 use Rattle.scan.proofs.Laws.{every-same}
 use Rattle.scan.proofs.Finite.{known-column}
-use Rattle.finish.specs.Result.{pivotsOf, emitted, blockSound, endsBlock, HeadPre, PivotsPre, ResultPre}
+use Rattle.finish.specs.Result.{pivotsOf, emitted, blockSound, HeadPre, PivotsPre, ResultPre}
 
 -- ---- a pivot
 
-pub block-is : (d11 d21 d22 q : Float) (s t : Bool) → s ≡ isFinite (d11 ⊗ d22 ⊖ d21 ⊗ d21) → q ≡ reciprocalOf (d11 ⊗ d22 ⊖ d21 ⊗ d21) → t ≡ isFinite q
-    → s && t ≡ blockSound d11 d21 d22
+pub block-is : (b : Block) (q : Float) (s t : Bool) → s ≡ isFinite (b .det) → q ≡ reciprocalOf (b .det) → t ≡ isFinite q → s && t ≡ blockSound b
 unfolding blockSound
-block-is d11 d21 d22 q s t f e g = rw (f, g, e)
+block-is b q s t f e g = rw (f, g, e)
 
-pub ends-first : (bs : List ℕ) (k : ℕ) → k ≡ 0 → false ≡ endsBlock (bytes bs) k
-unfolding endsBlock
-ends-first bs k e = rw e
+-- a block has its second column
+pub block-pre : (n subs : ℕ) (bs : List ℕ) (k : ℕ) (t : Bool) → PivotsPre n subs bs → k < n → t ≡ begins (bytes bs) k → t ≡ true → BlockPre k n subs
+block-pre n subs bs k t h l e z = record { d = h .room k l (eqb-true (bytes bs k) 1 (sym e ∙ z)); sub = omega (arith, h .sub) }
 
-pub ends-later : (bs : List ℕ) (k : ℕ) → (k ≡ 0 → ⊥) → eqb (getD bs (k - 1) 0) 1 ≡ endsBlock (bytes bs) k
-unfolding endsBlock bytes
-ends-later bs k h = rw (lt-ltb 0 k (pos-of-ne-zero h))
+module _ (ds subs : List Float) (bs : List ℕ) (k : ℕ) (t : Bool) (e : t ≡ begins (bytes bs) k) where
+  pub pivot-two : (b : Block) (r : Bool) → t ≡ true → b ≡ blockAt (vec ds) (vec subs) k → r ≡ blockSound b → r ≡ pivotSound (pivotsOf (vec ds) (vec subs) (bytes bs)) k
+  unfolding pivotSound pivotsOf blockSound
+  pivot-two b r z h g = rw (sym e ∙ z) (g ∙ rw h)
 
-pub next-in : (n subs : ℕ) (bs : List ℕ) (k : ℕ) → PivotsPre n subs bs → k < n → getD bs k 0 ≡ 1 → k + 1 < n
-unfolding bytes
-next-in n subs bs k h l b = h .room k l b
-
-module _ (ds subs : List Float) (bs : List ℕ) (k : ℕ) where
-  pub pivot-two : (r : Bool) → getD bs k 0 ≡ 1 → r ≡ blockSound (getD ds k nan) (getD subs k nan) (getD ds (k + 1) nan)
-      → r ≡ pivotSound (pivotsOf (vec ds) (vec subs) (bytes bs)) k
-  unfolding pivotSound pivotsOf blockSound vec bytes
-  pivot-two r b e = rw b e
-
-  pub pivot-one : (e f : Bool) (q : Float) → (getD bs k 0 ≡ 1 → ⊥) → e ≡ endsBlock (bytes bs) k → q ≡ reciprocalOf (getD ds k nan) → f ≡ isFinite q
-      → e || f ≡ pivotSound (pivotsOf (vec ds) (vec subs) (bytes bs)) k
-  unfolding pivotSound pivotsOf endsBlock vec bytes
-  pivot-one e f q b h g i = rw (ne-eqb (getD bs k 0) 1 b, h, i, g)
+  pub pivot-one : (u f : Bool) (q : Float) → t ≡ false → u ≡ endsBlock (bytes bs) k → q ≡ reciprocalOf (getD ds k nan) → f ≡ isFinite q
+      → u || f ≡ pivotSound (pivotsOf (vec ds) (vec subs) (bytes bs)) k
+  unfolding pivotSound pivotsOf vec
+  pivot-one u f q z h g i = rw (sym e ∙ z, h, i, g)
 
 -- ---- a column
 

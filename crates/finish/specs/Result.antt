@@ -3,15 +3,14 @@
 use mathlib.Core.Path.{_≡_}
 use mathlib.Core.Bool.{Bool, _&&_}
 use mathlib.Core.List.{List}
-use Prim.Native.Nat.{ℕ, _+_, _-_, _*_, _<_, _≤_}
-use lib.Dec.{ltb}
+use Prim.Native.Nat.{ℕ, _+_, _*_, _<_, _≤_}
 use lib.ListN.{length}
-use lib.Ieee.{Float}
 use Rattle.model.specs.Scalar.{zeroF, reciprocalOf, isFinite}
 use Rattle.model.specs.Matrix.{Row, Mat, bytes}
-use Rattle.model.specs.Step.{Pivots, blockOf, begins}
+use Rattle.model.specs.Step.{Pivots}
 use Rattle.model.specs.Head.{State, blank}
 use Rattle.model.specs.Answer.{Check, sound, turnedAway}
+use Rattle.model.specs.declared.Block.{Block}
 use Rattle.model.specs.declared.Refusal.the-variants.{NotFinite}
 use Rattle.entry.specs.Entry.{stopOf}
 use Rattle.finish.specs.declared.Found.{Found}
@@ -30,12 +29,8 @@ unfoldable pub emitted : Mat → Row → Row → (ℕ → ℕ) → State
 emitted a d sub blocks = record { a = a; mult = blank; pivots = pivotsOf d sub blocks; rounds = 0 }
 
 -- a block's determinant and its reciprocal
-unfoldable pub blockSound : Float → Float → Float → Bool
-blockSound d11 d21 d22 = let det = blockOf d11 d21 d22 .det in isFinite det && isFinite (reciprocalOf det)
-
--- a block's second column
-unfoldable pub endsBlock : (ℕ → ℕ) → ℕ → Bool
-endsBlock blocks k = ltb 0 k && begins blocks (k - 1)
+unfoldable pub blockSound : Block → Bool
+blockSound b = isFinite (b .det) && isFinite (reciprocalOf (b .det))
 
 -- column k of the head of a panel of nrow rows and ncol columns
 pub record HeadPre (nrow ncol k len : ℕ) : Type 0 where

@@ -8,9 +8,10 @@ ghost use Rattle.model.specs.Matrix.{view, vec, bytes, withPart, headOf};
 ghost use Rattle.model.specs.Factor.{pivotSound, columnSound, resultCheck, zeros};
 ghost use Rattle.finish.specs.Buffers.{buffersOf, inOrder, Begun, PartPre};
 ghost use Rattle.scan.specs.Finite.{columnFinite, KnownFinite};
-ghost use Rattle.finish.specs.Result.{foundSays, pivotsOf, emitted, blockSound, endsBlock};
+ghost use Rattle.finish.specs.Result.{foundSays, pivotsOf, emitted, blockSound};
 ghost use Rattle.finish.specs.Result.{HeadPre, PivotsPre, ResultPre};
 use grid::kernels;
+use model::Block;
 use model::Elim;
 
 // How many numbers are copied at a time: a longer copy is slow where two buffers lie badly in the cache.
@@ -83,35 +84,24 @@ pub enum Found {
 }
 
 // Whether a block's determinant and its reciprocal are finite.
-fn block_sound(d11: f64, d21: f64, d22: f64) -> bool
-    ensures { λ r. ⌜ r ≡ blockSound d11 d21 d22 ⌝ }
+fn block_sound(b: Block) -> bool
+    ensures { λ r. ⌜ r ≡ blockSound b ⌝ }
 {
-    let det = d11 * d22 - d21 * d21;
-    scalar::is_finite(det) & scalar::is_finite(scalar::reciprocal(det))
-}
-
-// Whether k is a block's second column.
-fn ends_block(blocks: &[u8], k: usize) -> bool
-    requires { ⌜ k < length (now blocks) ⌝ }
-    ensures { λ r. ⌜ r ≡ endsBlock (bytes (now (blocks .entry))) k ⌝ }
-{
-    if k == 0 {
-        return false;
-    }
-    blocks[k - 1] == 1
+    scalar::is_finite(b.det) & scalar::is_finite(scalar::reciprocal(b.det))
 }
 
 // Whether the pivot's own number at k is finite: a 1x1's reciprocal, or what a block's first column answers for.
-fn pivot_sound(d: &[f64], sub: &[f64], blocks: &[u8], k: usize) -> bool
+fn pivot_sound(d: &[f64], sub: &[f64], blocks: &[u8], k: Elim) -> bool
     requires { ⌜ PivotsPre (length (now d)) (length (now sub)) (now blocks) ⌝ }
-    requires { ⌜ k < length (now d) ⌝ }
-    ensures { λ r. ⌜ r
-        ≡ pivotSound (pivotsOf (vec (now (d .entry))) (vec (now (sub .entry))) (bytes (now (blocks .entry)))) k ⌝ }
+    requires { ⌜ k .0 < length (now d) ⌝ }
+    ensures { λ r. ⌜ r ≡ pivotSound
+        (pivotsOf (vec (now (d .entry))) (vec (now (sub .entry))) (bytes (now (blocks .entry)))) (k .0) ⌝ }
 {
-    if blocks[k] == 1 {
-        return block_sound(d[k], sub[k], d[k + 1]);
+    if diagonal::block_begins(blocks, k) {
+        return block_sound(diagonal::block_at(d, sub, k));
     }
-    ends_block(blocks, k) | scalar::is_finite(scalar::reciprocal(d[k]))
+    let at = k.0;
+    diagonal::ends_block(blocks, k) | scalar::is_finite(scalar::reciprocal(d[at]))
 }
 
 // Whether column k of the head is finite from its diagonal down. Where the panel is known to be finite it is not read.
@@ -145,7 +135,7 @@ fn column_sound(
 {
     scalar::is_finite(d[k])
         & (scalar::is_finite(sub[k])
-            & (pivot_sound(d, sub, blocks, k) & head_finite(panel, nrow, ncol, k, finite)))
+            & (pivot_sound(d, sub, blocks, Elim(k)) & head_finite(panel, nrow, ncol, k, finite)))
 }
 
 // Refusal 9, an added guard: the least column of the result that holds a number not finite.
