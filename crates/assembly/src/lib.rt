@@ -14,6 +14,7 @@ ghost use Rattle.entry.specs.Entry.{entrySays};
 ghost use Rattle.assembly.specs.Call.{entriesOf, finiteAt, answerOf, leaves, AddPre};
 use entry::Entry;
 use model::Applied;
+use model::Elim;
 use model::LocalRow;
 use model::Refusal;
 
@@ -38,11 +39,11 @@ fn entries_sound(
     (cols.len() == n) & ((numbers.len() == n) & (panel.len() == nrow * ncol))
 }
 
-// Refusal 11's test: row i, column j is a place of the lower triangle or of the tail.
-fn place_sound(ncol: usize, nrow: usize, i: LocalRow, j: usize) -> bool
-    ensures { λ r. ⌜ r ≡ ltb (i .0) nrow && (ltb j ncol && leb j (i .0)) ⌝ }
+// Refusal 11's test: row and column are a place of the lower triangle or of the tail.
+fn place_sound(ncol: usize, nrow: usize, row: LocalRow, column: Elim) -> bool
+    ensures { λ r. ⌜ r ≡ ltb (row .0) nrow && (ltb (column .0) ncol && leb (column .0) (row .0)) ⌝ }
 {
-    (i.0 < nrow) & ((j < ncol) & (j <= i.0))
+    (row.0 < nrow) & ((column.0 < ncol) & (column.0 <= row.0))
 }
 
 // Refusal 11: the first entry whose place is not in the panel's lower part.
@@ -54,7 +55,7 @@ fn first_bad_place(ncol: usize, nrow: usize, rows: &[usize], cols: &[usize]) -> 
 {
     let mut k = 0;
     while k < rows.len() {
-        if !place_sound(ncol, nrow, LocalRow(rows[k]), cols[k]) {
+        if !place_sound(ncol, nrow, LocalRow(rows[k]), Elim(cols[k])) {
             return Entry::Refused(Refusal::AssemblyPlace(k));
         }
         k += 1;
@@ -110,12 +111,12 @@ pub fn answer(checked: Entry) -> Applied
 
 // ---- the entries
 
-// v is added at row i, column j.
-fn add_at(panel: &mut [f64], nrow: usize, i: LocalRow, j: usize, v: f64)
-    requires { ⌜ In nrow (i .0) j (length (now panel)) ⌝ }
-    ensures { λ _. ⌜ view nrow (now (panel .exit)) ≡ addedAt (view nrow (now (panel .entry))) (i .0) j v ⌝ }
+// v is added at a row and a column.
+fn add_at(panel: &mut [f64], nrow: usize, row: LocalRow, column: Elim, v: f64)
+    requires { ⌜ In nrow (row .0) (column .0) (length (now panel)) ⌝ }
+    ensures { λ _. ⌜ view nrow (now (panel .exit)) ≡ addedAt (view nrow (now (panel .entry))) (row .0) (column .0) v ⌝ }
 {
-    let at = i.0 + j * nrow;
+    let at = row.0 + column.0 * nrow;
     panel[at] = panel[at] + v;
 }
 
@@ -129,7 +130,7 @@ fn add_entries(nrow: usize, rows: &[usize], cols: &[usize], numbers: &[f64], pan
 {
     let mut k = 0;
     while k < rows.len() {
-        add_at(panel, nrow, LocalRow(rows[k]), cols[k], numbers[k]);
+        add_at(panel, nrow, LocalRow(rows[k]), Elim(cols[k]), numbers[k]);
         k += 1;
     }
 }

@@ -26,7 +26,7 @@ same-length : tie.Need-same-length
 same-length c = search needs
 
 returns : tie.Need-returns
-returns c = added-set _ _ _ _ _ (c .before .before .pre)
+returns c = added-set _ _ _ _ _ (c .before .before .before .pre)
 
 pub add-at-spec : {M : Type 1} → statement M
 add-at-spec =

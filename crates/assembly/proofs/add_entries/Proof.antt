@@ -28,17 +28,17 @@ mul-t7 c = search needs
 shared-slice-read-t13 : tie.Need-shared-slice-read-t13 Inv-loop μ-loop
 shared-slice-read-t13 c = search needs
 
+mul-t15 : tie.Need-mul-t15 Inv-loop μ-loop
+mul-t15 c = search needs
+
+shared-slice-read-t17 : tie.Need-shared-slice-read-t17 Inv-loop μ-loop
+shared-slice-read-t17 c = search needs
+
 mul-add-at : tie.Need-mul-add-at Inv-loop μ-loop
 mul-add-at c = search needs
 
 shared-slice-read-add-at : tie.Need-shared-slice-read-add-at Inv-loop μ-loop
 shared-slice-read-add-at c = search needs
-
-mul-add-at-2 : tie.Need-mul-add-at-2 Inv-loop μ-loop
-mul-add-at-2 c = search needs
-
-shared-slice-read-add-at-2 : tie.Need-shared-slice-read-add-at-2 Inv-loop μ-loop
-shared-slice-read-add-at-2 c = search needs
 
 add-at-requires : tie.Need-add-at-requires Inv-loop μ-loop
 unfolding bytes
@@ -74,10 +74,10 @@ add-entries-spec =
     loop-holds
     mul-t7
     shared-slice-read-t13
+    mul-t15
+    shared-slice-read-t17
     mul-add-at
     shared-slice-read-add-at
-    mul-add-at-2
-    shared-slice-read-add-at-2
     add-at-requires
     add-k
     loop-less

@@ -27,11 +27,11 @@ mul-t6 c = search needs
 shared-slice-read-t9 : tie.Need-shared-slice-read-t9 Inv-loop μ-loop
 shared-slice-read-t9 c = search needs
 
-mul-place-sound : tie.Need-mul-place-sound Inv-loop μ-loop
-mul-place-sound c = search needs
+mul-t11 : tie.Need-mul-t11 Inv-loop μ-loop
+mul-t11 c = search needs
 
-shared-slice-read-place-sound : tie.Need-shared-slice-read-place-sound Inv-loop μ-loop
-shared-slice-read-place-sound c = search needs
+shared-slice-read-t13 : tie.Need-shared-slice-read-t13 Inv-loop μ-loop
+shared-slice-read-t13 c = search needs
 
 place-sound-requires : tie.Need-place-sound-requires Inv-loop μ-loop
 place-sound-requires c κs = search needs
@@ -62,8 +62,8 @@ first-bad-place-spec =
     loop-holds
     mul-t6
     shared-slice-read-t9
-    mul-place-sound
-    shared-slice-read-place-sound
+    mul-t11
+    shared-slice-read-t13
     place-sound-requires
     returns
     add-k
