@@ -110,9 +110,9 @@ module _ (a : Mat) (v : Row) (lo hi : ℕ) where
       let z : s ≡ n = omega arith in
       d ∙ rw (e, z) (part-over f lo hi zeroed (sums a v n))
 
-pub sum-column : (nk n lo hi room panel v s len : ℕ) → SumPre nk n lo hi room panel v → s < nk → len ≡ room → ColumnPre n s lo hi panel len
-sum-column nk n lo hi room panel v s len w h e =
-    record { col = col-in n nk s panel (w .area) h; up = w .up; rows = w .rows; places = omega (arith, w .fits) }
+pub sum-column : (nk n i room panel v s len : ℕ) → SumPre nk n i room panel v → s < nk → len ≡ room → ColumnPre n s i n panel len
+sum-column nk n i room panel v s len w h e =
+    record { col = col-in n nk s panel (w .area) h; up = w .row; rows = omega arith; places = omega (arith, w .fits) }
 
 -- ---- what a column loses
 

@@ -73,11 +73,10 @@ pub record WeighPre (nk n i : ℕ) (bs : List ℕ) (panel d sub room : ℕ) : Ty
   pub check : checkBytes bs ≡ sound
   pub fits : nk ≤ room
 
--- rows lo up to hi of a panel of n rows and nk columns, with v, and room for acc
-pub record SumPre (nk n lo hi room panel v : ℕ) : Type 0 where
-  pub up : lo ≤ hi
-  pub rows : hi ≤ n
-  pub fits : hi ≤ room
+-- the rows from i on of a panel of n rows and nk columns, with v, and room for acc
+pub record SumPre (nk n i room panel v : ℕ) : Type 0 where
+  pub row : i ≤ n
+  pub fits : n ≤ room
   pub area : panel ≡ n * nk
   pub weights : nk ≤ v
 

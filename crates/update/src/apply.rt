@@ -12,101 +12,104 @@ use super::COLUMNS_MAX;
 use super::ROWS_MAX;
 use super::rows;
 use grid::columns;
+use model::Elim;
 use model::GlobalRow;
 use model::LocalRow;
 
-// v at column s: l·d; a·d11 + b·d21 in a block's first column, a·d21 + b·d22 in its second.
+// v at a column: l·d; a·d11 + b·d21 in a block's first column, a·d21 + b·d22 in its second.
 fn weight(
     kpanel: &[f64],
     all: usize,
-    i: LocalRow,
+    row: LocalRow,
     kd: &[f64],
     ksub: &[f64],
     kblocks: &[u8],
-    s: usize,
+    column: Elim,
 ) -> f64
-    requires { ⌜ WeightPre all (i .0) (now kblocks) s (length (now kpanel)) (length (now kd)) (length (now ksub)) ⌝ }
+    requires { ⌜ WeightPre all (row .0) (now kblocks) (column .0) (length (now kpanel)) (length (now kd))
+        (length (now ksub)) ⌝ }
     ensures { λ r. ⌜ r ≡ weighed (now (kd .entry)) (now (ksub .entry)) (now (kblocks .entry))
-        (view all (now (kpanel .entry)) (i .0)) s ⌝ }
+        (view all (now (kpanel .entry)) (row .0)) (column .0) ⌝ }
 {
-    let l = grid::get(kpanel, all, i.0, s);
+    let s = column.0;
+    let l = grid::get(kpanel, all, row.0, s);
     if kblocks[s] == 1 {
-        return l * kd[s] + grid::get(kpanel, all, i.0, s + 1) * ksub[s];
+        return l * kd[s] + grid::get(kpanel, all, row.0, s + 1) * ksub[s];
     }
     if s == 0 {
         return l * kd[s];
     }
     if kblocks[s - 1] == 1 {
-        return grid::get(kpanel, all, i.0, s - 1) * ksub[s - 1] + l * kd[s];
+        return grid::get(kpanel, all, row.0, s - 1) * ksub[s - 1] + l * kd[s];
     }
     l * kd[s]
 }
 
-// v, of row i of the descendant's panel.
+// v, of a row of the descendant's panel.
 fn weigh(
     kpanel: &[f64],
     all: usize,
-    i: LocalRow,
+    row: LocalRow,
     kd: &[f64],
     ksub: &[f64],
     kblocks: &[u8],
     nk: usize,
     v: &mut [f64],
 )
-    requires { ⌜ WeighPre nk all (i .0) (now kblocks) (length (now kpanel)) (length (now kd)) (length (now ksub))
+    requires { ⌜ WeighPre nk all (row .0) (now kblocks) (length (now kpanel)) (length (now kd)) (length (now ksub))
         (length (now v)) ⌝ }
     ensures { λ _. ⌜ vec (now (v .exit)) ≡ withPart (vec (now (v .entry))) 0 nk
         (weighed (now (kd .entry)) (now (ksub .entry)) (now (kblocks .entry))
-        (view all (now (kpanel .entry)) (i .0))) ⌝ }
+        (view all (now (kpanel .entry)) (row .0))) ⌝ }
 {
     let mut s = 0;
     while s < nk {
-        v[s] = weight(kpanel, all, i, kd, ksub, kblocks, s);
+        v[s] = weight(kpanel, all, row, kd, ksub, kblocks, Elim(s));
         s += 1;
     }
 }
 
-// acc of the panel's rows lo up to hi.
-fn sum(acc: &mut [f64], kpanel: &[f64], all: usize, lo: usize, hi: usize, v: &[f64], nk: usize)
-    requires { ⌜ SumPre nk all lo hi (length (now acc)) (length (now kpanel)) (length (now v)) ⌝ }
-    ensures { λ _. ⌜ vec (now (acc .exit)) ≡ withPart (vec (now (acc .entry))) lo hi
+// acc of the panel's rows from `row` on.
+fn sum(acc: &mut [f64], kpanel: &[f64], all: usize, row: LocalRow, v: &[f64], nk: usize)
+    requires { ⌜ SumPre nk all (row .0) (length (now acc)) (length (now kpanel)) (length (now v)) ⌝ }
+    ensures { λ _. ⌜ vec (now (acc .exit)) ≡ withPart (vec (now (acc .entry))) (row .0) all
         (sums (view all (now (kpanel .entry))) (vec (now (v .entry))) nk) ⌝ }
 {
-    columns::zero(acc, lo, hi);
+    columns::zero(acc, row.0, all);
     let mut s = 0;
     while s < nk {
-        columns::plus(acc, kpanel, all, s, lo, hi, v[s]);
+        columns::plus(acc, kpanel, all, s, row.0, all, v[s]);
         s += 1;
     }
 }
 
-// x is subtracted at row i, column j.
-fn less_at(panel: &mut [f64], nrow: usize, i: LocalRow, j: usize, x: f64)
-    requires { ⌜ In nrow (i .0) j (length (now panel)) ⌝ }
-    ensures { λ _. ⌜ view nrow (now (panel .exit)) ≡ lessAt (view nrow (now (panel .entry))) (i .0) j x ⌝ }
+// x is subtracted at a row and a column.
+fn less_at(panel: &mut [f64], nrow: usize, row: LocalRow, column: Elim, x: f64)
+    requires { ⌜ In nrow (row .0) (column .0) (length (now panel)) ⌝ }
+    ensures { λ _. ⌜ view nrow (now (panel .exit)) ≡ lessAt (view nrow (now (panel .entry))) (row .0) (column .0) x ⌝ }
 {
-    let at = i.0 + j * nrow;
+    let at = row.0 + column.0 * nrow;
     panel[at] = panel[at] - x;
 }
 
-// Column j of the target loses acc at the places of the descendant's rows lo up to hi.
+// A column of the target loses acc at the places of the descendant's rows lo up to hi.
 fn subtract(
     panel: &mut [f64],
     nrow: usize,
-    j: usize,
+    column: Elim,
     places: &[usize],
     acc: &[f64],
     nk: usize,
     lo: usize,
     hi: usize,
 )
-    requires { ⌜ SubtractPre nrow j (now places) nk lo hi (length (now panel)) (length (now acc)) ⌝ }
+    requires { ⌜ SubtractPre nrow (column .0) (now places) nk lo hi (length (now panel)) (length (now acc)) ⌝ }
     ensures { λ _. ⌜ view nrow (now (panel .exit)) ≡ lessFrom (bytes (now (places .entry)))
-        (fromRow (vec (now (acc .entry))) nk) j (hi - lo) lo (view nrow (now (panel .entry))) ⌝ }
+        (fromRow (vec (now (acc .entry))) nk) (column .0) (hi - lo) lo (view nrow (now (panel .entry))) ⌝ }
 {
     let mut r = lo;
     while r < hi {
-        less_at(panel, nrow, LocalRow(places[r]), j, acc[nk + r]);
+        less_at(panel, nrow, LocalRow(places[r]), column, acc[nk + r]);
         r += 1;
     }
 }
@@ -141,11 +144,11 @@ fn update_row(
         return;
     }
     let all = nk + mk;
-    let row = nk + c;
-    weigh(kpanel, all, LocalRow(row), kd, ksub, kblocks, nk, v);
-    sum(acc, kpanel, all, row, all, v, nk);
-    let j = rows::column_of(first, g);
-    subtract(panel, nrow, j, places, acc, nk, c, mk);
+    let row = LocalRow(nk + c);
+    weigh(kpanel, all, row, kd, ksub, kblocks, nk, v);
+    sum(acc, kpanel, all, row, v, nk);
+    let column = rows::column_of(first, g);
+    subtract(panel, nrow, column, places, acc, nk, c, mk);
 }
 
 // The descendant's rows from `start` on, each if it lands.

@@ -107,7 +107,7 @@ pub fn lists_check(
     inertia::first_bad_byte(kblocks)
 }
 
-// Refusal 18's test: column c's d, its subdiagonal under a 1, and its numbers below the head are finite.
+// Refusal 18's test: the column's d, its subdiagonal under a 1, and its numbers below the head are finite.
 fn column_sound(
     nk: usize,
     mk: usize,
@@ -115,13 +115,15 @@ fn column_sound(
     kd: &[f64],
     ksub: &[f64],
     kblocks: &[u8],
-    c: usize,
+    column: Elim,
 ) -> bool
-    requires { ⌜ ColumnPre nk mk c (length (now kpanel)) (length (now kd)) (length (now ksub))
+    requires { ⌜ ColumnPre nk mk (column .0) (length (now kpanel)) (length (now kd)) (length (now ksub))
         (length (now kblocks)) ⌝ }
     ensures { λ r. ⌜ r ≡ descendantSound
-        (descendantOf nk mk (now (kpanel .entry)) (now (kd .entry)) (now (ksub .entry)) (now (kblocks .entry)) []) c ⌝ }
+        (descendantOf nk mk (now (kpanel .entry)) (now (kd .entry)) (now (ksub .entry)) (now (kblocks .entry)) [])
+        (column .0) ⌝ }
 {
+    let c = column.0;
     if !scalar::is_finite(kd[c]) {
         return false;
     }
@@ -149,8 +151,9 @@ pub fn first_bad_column(
 {
     let mut c = 0;
     while c < nk {
-        if !column_sound(nk, mk, kpanel, kd, ksub, kblocks, c) {
-            return Entry::Refused(Refusal::DescendantNumber(Elim(c)));
+        let column = Elim(c);
+        if !column_sound(nk, mk, kpanel, kd, ksub, kblocks, column) {
+            return Entry::Refused(Refusal::DescendantNumber(column));
         }
         c += 1;
     }

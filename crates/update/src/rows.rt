@@ -1,5 +1,6 @@
-// Rows of the system (GlobalRow) and rows of the target's panel (LocalRow): two types, and `local_row` is the one way
-// from the first to the second. Both lists of rows rise, so a search goes on where the one before it ended.
+// Rows of the system (GlobalRow), rows of the target's panel (LocalRow) and its columns (Elim): three types. `local_row`
+// is the one way from the first to the second, `column_of` the one way to the third. Both lists of rows rise, so a
+// search goes on where the one before it ended.
 ghost use mathlib.Core.Path.{_≡_};
 ghost use Prim.Native.Nat.{_+_, _-_, _<_, _≤_, _^_};
 ghost use lib.Dec.{eqb};
@@ -13,6 +14,7 @@ ghost use Rattle.entry.specs.Entry.{entrySays};
 ghost use Rattle.update.specs.Rows.{risesAt, standsAt, landsOn, landsAt, firstFrom, thereAt};
 ghost use Rattle.update.specs.Rows.{ColumnsPre, LocatePre, Located};
 use entry::Entry;
+use model::Elim;
 use model::GlobalRow;
 use model::LocalRow;
 use model::Refusal;
@@ -25,7 +27,9 @@ fn rises_at(rows: &[u32], i: usize) -> bool
     if i + 1 == rows.len() {
         return true;
     }
-    rows[i] < rows[i + 1]
+    let g = GlobalRow(rows[i]);
+    let next = GlobalRow(rows[i + 1]);
+    g.0 < next.0
 }
 
 // Whether the rows are strictly rising.
@@ -43,12 +47,12 @@ pub fn rising(rows: &[u32]) -> bool
     true
 }
 
-// Whether g is the row of column j.
-fn stands_at(first: GlobalRow, j: usize, g: GlobalRow) -> bool
-    requires { ⌜ j < 2 ^ 32 ⌝ }
-    ensures { λ r. ⌜ r ≡ eqb (g .0) (first .0 + j) ⌝ }
+// Whether g is the row of a column.
+fn stands_at(first: GlobalRow, column: Elim, g: GlobalRow) -> bool
+    requires { ⌜ column .0 < 2 ^ 32 ⌝ }
+    ensures { λ r. ⌜ r ≡ eqb (g .0) (first .0 + column .0) ⌝ }
 {
-    g.0 as usize == first.0 as usize + j
+    g.0 as usize == first.0 as usize + column.0
 }
 
 // Whether the first ncol rows are first, first + 1, ..
@@ -58,7 +62,7 @@ pub fn begins_at(first: GlobalRow, rows: &[u32], ncol: usize) -> bool
 {
     let mut j = 0;
     while j < ncol {
-        if !stands_at(first, j, GlobalRow(rows[j])) {
+        if !stands_at(first, Elim(j), GlobalRow(rows[j])) {
             return false;
         }
         j += 1;
@@ -75,11 +79,11 @@ pub fn lands(first: GlobalRow, ncol: usize, g: GlobalRow) -> bool
 }
 
 // The column that the landing row g lands on.
-pub fn column_of(first: GlobalRow, g: GlobalRow) -> usize
+pub fn column_of(first: GlobalRow, g: GlobalRow) -> Elim
     requires { ⌜ first .0 ≤ g .0 ⌝ }
-    ensures { λ r. ⌜ r ≡ g .0 - first .0 ⌝ }
+    ensures { λ r. ⌜ r .0 ≡ g .0 - first .0 ⌝ }
 {
-    (g.0 - first.0) as usize
+    Elim((g.0 - first.0) as usize)
 }
 
 // The first of the descendant's rows that lands; their count where none does.
@@ -106,7 +110,8 @@ fn local_row(rows: &[u32], from: LocalRow, g: GlobalRow) -> LocalRow
 {
     let mut i = from.0;
     while i < rows.len() {
-        if rows[i] == g.0 {
+        let here = GlobalRow(rows[i]);
+        if here.0 == g.0 {
             return LocalRow(i);
         }
         i += 1;

@@ -26,7 +26,7 @@ same-length : tie.Need-same-length
 same-length c = search needs
 
 returns : tie.Need-returns
-returns c = less-set _ _ _ _ _ (c .before .before .pre)
+returns c = less-set _ _ _ _ _ (c .before .before .before .pre)
 
 pub less-at-spec : {M : Type 1} → statement M
 less-at-spec =

@@ -11,13 +11,13 @@ use Rattle.update.proofs.apply.subtract.Statement.{statement}
 use Rattle.update.proofs.apply.subtract.Tie as tie
 
 abbrev Inv-loop : tie.InvT-loop
-Inv-loop panel₀ nrow j places acc nk lo hi r₀ panel r =
+Inv-loop panel₀ nrow column places acc nk lo hi r₀ panel r =
     (lo ≤ r) × (r ≤ hi) × (length panel ≡ length panel₀)
-    × (lessFrom (bytes places) (fromRow (vec acc) nk) j (hi - r) r (view nrow panel)
-    ≡ lessFrom (bytes places) (fromRow (vec acc) nk) j (hi - lo) lo (view nrow panel₀))
+    × (lessFrom (bytes places) (fromRow (vec acc) nk) (column .0) (hi - r) r (view nrow panel)
+    ≡ lessFrom (bytes places) (fromRow (vec acc) nk) (column .0) (hi - lo) lo (view nrow panel₀))
 
 abbrev μ-loop : tie.MeasureT-loop
-μ-loop panel₀ nrow j places acc nk lo hi r₀ panel r = hi - r
+μ-loop panel₀ nrow column places acc nk lo hi r₀ panel r = hi - r
 
 loop-holds : tie.Need-loop-holds Inv-loop μ-loop
 loop-holds c = (search needs, search needs, search needs, refl)

@@ -11,11 +11,11 @@ use Rattle.update.proofs.apply.sum.Statement.{statement}
 use Rattle.update.proofs.apply.sum.Tie as tie
 
 abbrev Inv-loop : tie.InvT-loop
-Inv-loop acc₀ kpanel all lo hi v nk s₀ acc s =
-    (s ≤ nk) × (length acc ≡ length acc₀) × (vec acc ≡ withPart (vec acc₀) lo hi (sums (view all kpanel) (vec v) s))
+Inv-loop acc₀ kpanel all row v nk s₀ acc s =
+    (s ≤ nk) × (length acc ≡ length acc₀) × (vec acc ≡ withPart (vec acc₀) (row .0) all (sums (view all kpanel) (vec v) s))
 
 abbrev μ-loop : tie.MeasureT-loop
-μ-loop acc₀ kpanel all lo hi v nk s₀ acc s = nk - s
+μ-loop acc₀ kpanel all row v nk s₀ acc s = nk - s
 
 zero-requires : tie.Need-zero-requires Inv-loop μ-loop
 zero-requires c κs = search needs
@@ -33,7 +33,7 @@ plus-requires : tie.Need-plus-requires Inv-loop μ-loop
 plus-requires c κs =
     let at = c .before .before in
     let start = at .before .before .before .before .before .before .before .before .before in
-    sum-column _ _ _ _ _ _ _ _ _ (start .pre) (at .loop-test .taken) (search needs)
+    sum-column _ _ _ _ _ _ _ _ (start .pre) (at .loop-test .taken) (search needs)
 
 add-s : tie.Need-add-s Inv-loop μ-loop
 add-s c = search needs

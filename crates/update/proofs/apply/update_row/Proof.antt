@@ -23,8 +23,8 @@ returns c = row-none _ _ _ _ _ _ (c .before .lands .ensures) _ (c .if1 .taken)
 add-all : tie.Need-add-all
 add-all c = search needs
 
-add-row : tie.Need-add-row
-add-row c = search needs
+add-t20 : tie.Need-add-t20
+add-t20 c = search needs
 
 weigh-requires : tie.Need-weigh-requires
 weigh-requires c κs =
@@ -72,7 +72,7 @@ update-row-spec =
     lands-requires
     returns
     add-all
-    add-row
+    add-t20
     weigh-requires
     sum-requires
     column-of-requires

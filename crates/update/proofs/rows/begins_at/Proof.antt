@@ -20,11 +20,11 @@ abbrev μ-loop : tie.MeasureT-loop
 loop-holds : tie.Need-loop-holds Inv-loop μ-loop
 loop-holds c = search (needs, every-none)
 
-mul-t6 : tie.Need-mul-t6 Inv-loop μ-loop
-mul-t6 c = search needs
+mul-t7 : tie.Need-mul-t7 Inv-loop μ-loop
+mul-t7 c = search needs
 
-shared-slice-read-t8 : tie.Need-shared-slice-read-t8 Inv-loop μ-loop
-shared-slice-read-t8 c = search needs
+shared-slice-read-t9 : tie.Need-shared-slice-read-t9 Inv-loop μ-loop
+shared-slice-read-t9 c = search needs
 
 stands-at-requires : tie.Need-stands-at-requires Inv-loop μ-loop
 stands-at-requires c κs = search needs
@@ -53,8 +53,8 @@ begins-at-spec =
     Inv-loop
     μ-loop
     loop-holds
-    mul-t6
-    shared-slice-read-t8
+    mul-t7
+    shared-slice-read-t9
     stands-at-requires
     returns
     add-j

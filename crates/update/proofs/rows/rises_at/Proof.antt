@@ -13,24 +13,24 @@ returns : tie.Need-returns
 unfolding risesAt
 returns c = rw (eq-eqb _ _ (c .if1 .taken))
 
-mul-result : tie.Need-mul-result
-mul-result c = search needs
+mul-t5 : tie.Need-mul-t5
+mul-t5 c = search needs
 
-shared-slice-read-result : tie.Need-shared-slice-read-result
-shared-slice-read-result c = search needs
+shared-slice-read-t9 : tie.Need-shared-slice-read-t9
+shared-slice-read-t9 c = search needs
 
-add-result : tie.Need-add-result
-add-result c = search needs
+add-t6 : tie.Need-add-t6
+add-t6 c = search needs
 
-mul-result-2 : tie.Need-mul-result-2
-mul-result-2 c = search needs
+mul-t5-2 : tie.Need-mul-t5-2
+mul-t5-2 c = search needs
 
-shared-slice-read-result-2 : tie.Need-shared-slice-read-result-2
-shared-slice-read-result-2 c = search needs
+shared-slice-read-t9-2 : tie.Need-shared-slice-read-t9-2
+shared-slice-read-t9-2 c = search needs
 
 returns-2 : tie.Need-returns-2
 unfolding risesAt bytes
-returns-2 c = rw (ne-eqb _ _ (c .before .before .if1 .left))
+returns-2 c = rw (ne-eqb _ _ (c .before .before .before .before .if1 .left))
 
 pub rises-at-spec : {M : Type 1} → statement M
 rises-at-spec =
@@ -38,9 +38,9 @@ rises-at-spec =
     (tie.spec
     add-if1
     returns
-    mul-result
-    shared-slice-read-result
-    add-result
-    mul-result-2
-    shared-slice-read-result-2
+    mul-t5
+    shared-slice-read-t9
+    add-t6
+    mul-t5-2
+    shared-slice-read-t9-2
     returns-2)
