@@ -1,6 +1,6 @@
-// Rows of the system (GlobalRow), rows of the target's panel (LocalRow) and its columns (Elim): three types. `local_row`
-// is the one way from the first to the second, `column_of` the one way to the third. Both lists of rows rise, so a
-// search goes on where the one before it ended.
+// Rows of the system (GlobalRow), rows of the target's panel (LocalRow) and its columns (Elim) are three types.
+// `local_row` is the one way from the first to the second, `column_of` the one way from the first to the third.
+// Both lists of rows rise, so a search goes on where the one before it ended.
 ghost use mathlib.Core.Path.{_≡_};
 ghost use Prim.Native.Nat.{_+_, _-_, _<_, _≤_, _^_};
 ghost use lib.Dec.{eqb};
