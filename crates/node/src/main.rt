@@ -24,6 +24,9 @@ fn main() {
     let mut text = [0u8; ROOM];
     let written = answer::respond(&stream[..read], &mut text);
     if !print(&text, written) {
-        io::write_all(STDERR_FILENO, b"node: standard output could not be written\n");
+        io::write_all(
+            STDERR_FILENO,
+            b"node: standard output could not be written\n",
+        );
     }
 }

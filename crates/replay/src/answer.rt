@@ -5,7 +5,7 @@ use model::Factored;
 use model::Refusal;
 
 // Number 0 is no refusal; a, b: the refusal's place; the rounds and the counts of a call that has them.
-pub struct Answer {
+pub(crate) struct Answer {
     pub number: usize,
     pub a: usize,
     pub b: usize,
@@ -40,7 +40,7 @@ fn refused(why: Refusal) -> Answer {
     }
 }
 
-pub fn of_factor(x: Factored) -> Answer {
+pub(crate) fn of_factor(x: Factored) -> Answer {
     match x {
         Factored::Accepted(r) => counted(
             r.rounds,
@@ -52,7 +52,7 @@ pub fn of_factor(x: Factored) -> Answer {
     }
 }
 
-pub fn of_inertia(x: Counted) -> Answer {
+pub(crate) fn of_inertia(x: Counted) -> Answer {
     match x {
         Counted::Counts(t) => counted(0, t.positive, t.negative, t.zero),
         Counted::Refused(why) => refused(why),
@@ -60,14 +60,14 @@ pub fn of_inertia(x: Counted) -> Answer {
 }
 
 // Of an assembly or an update.
-pub fn of_panel(x: Applied) -> Answer {
+pub(crate) fn of_panel(x: Applied) -> Answer {
     match x {
         Applied::Done => counted(0, 0, 0, 0),
         Applied::Refused(why) => refused(why),
     }
 }
 
-pub fn same(x: Answer, y: Answer) -> bool {
+pub(crate) fn same(x: Answer, y: Answer) -> bool {
     let place = (x.number == y.number) & ((x.a == y.a) & (x.b == y.b));
     let counts = (x.positive == y.positive) & ((x.negative == y.negative) & (x.zero == y.zero));
     place & ((x.rounds == y.rounds) & counts)

@@ -148,7 +148,7 @@ fn factor_same(
     answer::same(answer::of_factor(factored), recorded) & left
 }
 
-pub fn factor_case(fd: i32) -> bool {
+pub(crate) fn factor_case(fd: i32) -> bool {
     let recorded = read_answer(fd);
     let c = read_settings(fd);
     let mut n = [0usize; 10];
@@ -183,7 +183,7 @@ pub fn factor_case(fd: i32) -> bool {
 
 // ---- inertia
 
-pub fn inertia_case(fd: i32) -> bool {
+pub(crate) fn inertia_case(fd: i32) -> bool {
     let recorded = read_answer(fd);
     let mut n = [0usize; 3];
     file::counts(fd, 3, &mut n);
@@ -206,7 +206,7 @@ fn panel_same(fd: i32, recorded: Answer, applied: Applied, panel: &[f64]) -> boo
     answer::same(answer::of_panel(applied), recorded) & left
 }
 
-pub fn assembly_case(fd: i32) -> bool {
+pub(crate) fn assembly_case(fd: i32) -> bool {
     let recorded = read_answer(fd);
     let mut n = [0usize; 6];
     file::counts(fd, 6, &mut n);
@@ -222,7 +222,7 @@ pub fn assembly_case(fd: i32) -> bool {
     panel_same(fd, recorded, applied, panel)
 }
 
-pub fn update_case(fd: i32) -> bool {
+pub(crate) fn update_case(fd: i32) -> bool {
     let recorded = read_answer(fd);
     let mut n = [0usize; 4];
     let mut first = [0u32; 1];
