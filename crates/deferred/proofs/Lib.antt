@@ -1,5 +1,4 @@
--- Laws of the deferred update: of the products, of the sums, of the later columns, of two of them at once.
+-- Laws of the deferred update: of the products, of the sums, of the later columns.
 pub mod Product
 pub mod Sum
 pub mod Columns
-pub mod Pair

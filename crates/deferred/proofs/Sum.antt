@@ -1,18 +1,23 @@
 -- Laws of the sums: terms one after the other, one or four in a pass. Assumes nothing.
 use Prim.Native.Nat.{ℕ, zero, suc, _+_, _-_, _*_, _<_, _≤_}
-use mathlib.Core.Path.{_≡_, sym, _∙_, ap, fun-ext}
+use mathlib.Core.Path.{_≡_, refl, sym, _∙_, ap, fun-ext}
 use mathlib.Core.Bool.{_&&_}
-use native.Mathlib.Nat.{mul-le-mul-right, le-antisymm}
+use mathlib.Core.List.{List}
+use native.Mathlib.Nat.{mul-le-mul-right, add-mul, le-antisymm}
 use native.Mathlib.Omega.{arith}
-use lib.Ieee.{Float}
-use borrow.Author.Tests.{eqb-true}
-use lib.Dec.{ltb, leb, eqb}
+use lib.Ieee.{Float, nan, binary64, add, mul}
+use lib.ListN.{length, getD, set, drop}
+use lib.Seq.{getD-drop}
+use borrow.Author.Tests.{lt-ltb, le-leb, ltb-true}
+use borrow.Rule.Slice.PartMut.{midOf}
+use lib.Dec.{ltb, leb}
 use Rattle.model.specs.Scalar.{_⊕_, _⊗_}
-use Rattle.model.specs.Matrix.{Row, Mat, withColumn, withPart}
+use Rattle.model.specs.Matrix.{Row, Mat, view, vec, withPart}
 use Rattle.model.specs.Panel.{sumFrom}
-use Rattle.grid.specs.Rules.{columnOf, zeroed, lessEach, plusTimes, plusFour}
-use Rattle.grid.proofs.Laws.{test}
-use Rattle.deferred.specs.Sums.{laterRow, gathered, columnDeferred, TermsPre, GatherPre}
+use Rattle.grid.specs.Rules.{ahead, plusTimes, plusFour}
+use Rattle.grid.proofs.Laws.{test, vec-part}
+use Rattle.grid.proofs.Rules.{plus-four-step}
+use Rattle.deferred.specs.Sums.{laterRow, rowsFrom, gathered, TermsPre, GatherPre}
 
 -- ---- a sum in two parts
 
@@ -27,24 +32,77 @@ sum-append f (suc m) n c x =
     let b : c + suc m ≡ c + 1 + m = omega arith in
     rw (a, b) (sum-append f m n (c + 1) (x ⊕ f c))
 
+-- ---- the kernel: one place more
+
+dropped : (q : ℕ) (gs : List Float) → vec (drop q gs) ≡ ahead q (vec gs)
+unfolding vec ahead
+dropped q gs = fun-ext λ i. getD-drop q gs i nan ∙ ap (λ (x : ℕ). getD gs x nan) (omega arith)
+
+pub four-step : (f : Row) (xs gs : List Float) (a p i n len : ℕ) (l0 l1 l2 l3 : Float) → i < n → n ≤ len → length xs ≡ len
+    → vec xs ≡ withPart f 0 i (plusFour f (ahead a (vec gs)) (ahead (a + p) (vec gs)) (ahead (a + p + p) (vec gs)) (ahead (a + p + p + p) (vec gs)) l0 l1 l2 l3)
+    → vec (set xs i (add binary64
+    (add binary64 (add binary64 (add binary64 (getD xs i nan) (mul binary64 (getD gs (a + i) nan) l0)) (mul binary64 (getD gs (a + p + i) nan) l1))
+    (mul binary64 (getD gs (a + p + p + i) nan) l2)) (mul binary64 (getD gs (a + p + p + p + i) nan) l3)))
+    ≡ withPart f 0 (i + 1) (plusFour f (ahead a (vec gs)) (ahead (a + p) (vec gs)) (ahead (a + p + p) (vec gs)) (ahead (a + p + p + p) (vec gs)) l0 l1 l2 l3)
+four-step f xs gs a p i n len l0 l1 l2 l3 l h r =
+    rw (← dropped a gs, ← dropped (a + p) gs, ← dropped (a + p + p) gs, ← dropped (a + p + p + p) gs)
+    (rw (
+      getD-drop a gs i nan,
+      getD-drop (a + p) gs i nan,
+      getD-drop (a + p + p) gs i nan,
+      getD-drop (a + p + p + p) gs i nan,
+    ) at (plus-four-step f xs (drop a gs) (drop (a + p) gs) (drop (a + p + p) gs) (drop (a + p + p + p) gs) i n len l0 l1 l2 l3 l h r))
+
 -- ---- one and four terms
 
-pub one-term : (x y : Row) (G a : Mat) (lo hi c kb t : ℕ) (l : Float) → l ≡ a c (kb + t) → y ≡ withPart x lo hi (plusTimes x (columnOf G t) l)
-    → y ≡ withPart x lo hi (gathered x G (laterRow a c kb) t 1)
-unfolding gathered laterRow plusTimes columnOf sumFrom
-one-term x y G a lo hi c kb t l e p = p ∙ rw e
+-- what a kernel reads of column t of g, from row lo on
+column-from : (N : ℕ) (gs : List Float) (t lo b i : ℕ) → lo + i < N → b ≡ lo + t * N → vec gs (i + b) ≡ rowsFrom lo (view N gs) i t
+unfolding vec view rowsFrom
+column-from N gs t lo b i h e = rw (lt-ltb (lo + i) N h) (ap (λ (x : ℕ). getD gs x nan) (omega arith))
 
-pub four-terms : (x y : Row) (G a : Mat) (lo hi c kb t : ℕ) (l0 l1 l2 l3 : Float) → l0 ≡ a c (kb + t) → l1 ≡ a c (kb + t + 1) → l2 ≡ a c (kb + t + 2)
-    → l3 ≡ a c (kb + t + 3) → y ≡ withPart x lo hi (plusFour x (columnOf G t) (columnOf G (t + 1)) (columnOf G (t + 2)) (columnOf G (t + 3)) l0 l1 l2 l3)
-    → y ≡ withPart x lo hi (gathered x G (laterRow a c kb) t 4)
-unfolding gathered laterRow plusFour columnOf sumFrom
-four-terms x y G a lo hi c kb t l0 l1 l2 l3 e0 e1 e2 e3 p =
+part-same : (x N O : Row) (n : ℕ) → ((i : ℕ) → i < n → N i ≡ O i) → withPart x 0 n N ≡ withPart x 0 n O
+unfolding withPart
+part-same x N O n h = fun-ext λ i. rw (le-leb 0 i (omega arith)) (test (ltb i n) (λ q. rw q (h i (ltb-true i n q))) (λ q. rw q))
+
+pub one-term : (x y : Row) (gs : List Float) (a : Mat) (N lo n c kb t : ℕ) (l : Float) → lo + n ≤ N → l ≡ a c (kb + t)
+    → y ≡ withPart x 0 n (plusTimes x (vec (midOf (lo + t * N) (lo + t * N + n - (lo + t * N)) gs)) l)
+    → y ≡ withPart x 0 n (gathered x (rowsFrom lo (view N gs)) (laterRow a c kb) t 1)
+unfolding gathered laterRow plusTimes sumFrom
+one-term x y gs a N lo n c kb t l h e p =
+    p ∙ part-same x _ _ n (λ i u. rw (
+      e,
+      vec-part (lo + t * N) (lo + t * N + n) gs i (omega arith),
+      ap (vec gs) {x = lo + t * N + i} {y = i + (lo + t * N)} (omega arith),
+      column-from N gs t lo (lo + t * N) i (omega arith) refl,
+    ))
+
+pub four-terms : (x y : Row) (gs : List Float) (a : Mat) (N lo n c kb t : ℕ) (l0 l1 l2 l3 : Float) → lo + n ≤ N → l0 ≡ a c (kb + t) → l1 ≡ a c (kb + t + 1)
+    → l2 ≡ a c (kb + t + 2) → l3 ≡ a c (kb + t + 3)
+    → y ≡ withPart x 0 n (plusFour x (ahead (lo + t * N) (vec gs)) (ahead (lo + t * N + N) (vec gs)) (ahead (lo + t * N + N + N) (vec gs))
+    (ahead (lo + t * N + N + N + N) (vec gs)) l0 l1 l2 l3)
+    → y ≡ withPart x 0 n (gathered x (rowsFrom lo (view N gs)) (laterRow a c kb) t 4)
+unfolding gathered laterRow plusFour ahead sumFrom
+four-terms x y gs a N lo n c kb t l0 l1 l2 l3 h e0 e1 e2 e3 p =
     let s2 : t + 1 + 1 ≡ t + 2 = omega arith in
     let s3 : t + 2 + 1 ≡ t + 3 = omega arith in
     let k1 : kb + (t + 1) ≡ kb + t + 1 = omega arith in
     let k2 : kb + (t + 2) ≡ kb + t + 2 = omega arith in
     let k3 : kb + (t + 3) ≡ kb + t + 3 = omega arith in
-    p ∙ ap (λ (N : Row). withPart x lo hi N) (fun-ext λ i. rw (e0, e1, e2, e3, s2, s3, k1, k2, k3))
+    p ∙ part-same x _ _ n (λ i u. rw (
+      e0,
+      e1,
+      e2,
+      e3,
+      s2,
+      s3,
+      k1,
+      k2,
+      k3,
+      column-from N gs t lo (lo + t * N) i (omega arith) refl,
+      column-from N gs (t + 1) lo (lo + t * N + N) i (omega arith) (omega (arith, add-mul t 1 N)),
+      column-from N gs (t + 2) lo (lo + t * N + N + N) i (omega arith) (omega (arith, add-mul t 2 N)),
+      column-from N gs (t + 3) lo (lo + t * N + N + N + N) i (omega arith) (omega (arith, add-mul t 3 N)),
+    ))
 
 -- ---- terms after terms
 
@@ -88,45 +146,32 @@ pub ones-end : (x y : Row) (G : Mat) (l : Row) (lo hi s t w : ℕ) → t ≤ w �
     → y ≡ withPart x lo hi (gathered x G l s (w - s))
 ones-end x y G l lo hi s t w h g p = p ∙ ap (λ (k : ℕ). withPart x lo hi (gathered x G l s (k - s))) (le-antisymm h g)
 
-pub fours-pre : (n c kb w t alen alen′ glen len : ℕ) → GatherPre n c kb w alen glen len → 4 ≤ w - t → alen′ ≡ alen → TermsPre n c kb t 4 alen′ glen len
-fours-pre n c kb w t alen alen′ glen len h g e =
-    let out : (t + 4) * n ≤ w * n = mul-le-mul-right n (omega arith) in
-    let columns : (kb + t + 4) * n ≤ (kb + w) * n = mul-le-mul-right n (omega arith) in
+terms-pre : (n c kb w t count lo m alen alen′ glen len : ℕ) → GatherPre n c kb w lo m alen glen len → t + count ≤ w → alen′ ≡ alen
+    → TermsPre n c kb t count lo m alen′ glen len
+terms-pre n c kb w t count lo m alen alen′ glen len h g e =
+    let out : (t + count) * n ≤ w * n = mul-le-mul-right n g in
+    let columns : (kb + t + count) * n ≤ (kb + w) * n = mul-le-mul-right n (omega arith) in
     record {
       row = h .row;
+      rows = h .rows;
       sums = omega arith;
       fits = omega arith;
       out = omega arith;
       columns = omega arith;
     }
 
-pub ones-pre : (n c kb w t alen alen′ glen len : ℕ) → GatherPre n c kb w alen glen len → t < w → alen′ ≡ alen → TermsPre n c kb t 1 alen′ glen len
-ones-pre n c kb w t alen alen′ glen len h g e =
-    let out : (t + 1) * n ≤ w * n = mul-le-mul-right n (omega arith) in
-    let columns : (kb + t + 1) * n ≤ (kb + w) * n = mul-le-mul-right n (omega arith) in
-    record {
-      row = h .row;
-      sums = omega arith;
-      fits = omega arith;
-      out = omega arith;
-      columns = omega arith;
-    }
+pub fours-pre : (n c kb w t lo m alen alen′ glen len : ℕ) → GatherPre n c kb w lo m alen glen len → 4 ≤ w - t → alen′ ≡ alen
+    → TermsPre n c kb t 4 lo m alen′ glen len
+fours-pre n c kb w t lo m alen alen′ glen len h g e = terms-pre n c kb w t 4 lo m alen alen′ glen len h (omega arith) e
 
--- ---- the column's sums, and the column less them
+pub ones-pre : (n c kb w t lo m alen alen′ glen len : ℕ) → GatherPre n c kb w lo m alen glen len → t < w → alen′ ≡ alen
+    → TermsPre n c kb t 1 lo m alen′ glen len
+ones-pre n c kb w t lo m alen alen′ glen len h g e = terms-pre n c kb w t 1 lo m alen alen′ glen len h (omega arith) e
 
-pub sums-whole : (x y z u : Row) (G : Mat) (l : Row) (lo hi s w : ℕ) → s ≤ w → y ≡ withPart x lo hi zeroed → z ≡ withPart y lo hi (gathered y G l 0 s)
-    → u ≡ withPart z lo hi (gathered z G l s (w - s)) → u ≡ withPart x lo hi (gathered zeroed G l 0 w)
-unfolding withPart gathered zeroed
-sums-whole x y z u G l lo hi s w h p q r =
+-- fours, then ones
+pub sums-whole : (x y z : Row) (G : Mat) (l : Row) (lo hi s w : ℕ) → s ≤ w → y ≡ withPart x lo hi (gathered x G l 0 s)
+    → z ≡ withPart y lo hi (gathered y G l s (w - s)) → z ≡ withPart x lo hi (gathered x G l 0 w)
+sums-whole x y z G l lo hi s w h p q =
     let a : s ≡ 0 + s = omega arith in
     let b : s + (w - s) ≡ w = omega arith in
-    gather-more y z u G l lo hi 0 s (w - s) q (r ∙ ap (λ (k : ℕ). withPart z lo hi (gathered z G l k (w - s))) a)
-    ∙ rw (b, p) (fun-ext λ i. test (leb lo i && ltb i hi) (λ c. rw c) (λ c. rw c))
-
-pub column-less : (P Q G : Mat) (x y : Row) (c kb n w : ℕ) → y ≡ withPart x c n (gathered zeroed G (laterRow P c kb) 0 w)
-    → Q ≡ withColumn P c c n (lessEach (columnOf P c) y) → Q ≡ withColumn P c c n (columnDeferred P G c kb w)
-unfolding withColumn lessEach columnOf columnDeferred withPart
-column-less P Q G x y c kb n w p q =
-    q ∙ fun-ext λ i. fun-ext λ j. test (eqb j c)
-    (λ a. rw (a, eqb-true j c a) (test (leb c i && ltb i n) (λ b. rw (b, p, b)) (λ b. rw b)))
-    (λ a. rw a)
+    rw b at (gather-more x y z G l lo hi 0 s (w - s) p (q ∙ ap (λ (k : ℕ). withPart y lo hi (gathered y G l k (w - s))) a))

@@ -29,15 +29,13 @@ deferredRows nrow ncol p a = λ i.
 unfoldable pub deferred : ℕ → ℕ → ℕ → ℕ → Row → Row → (ℕ → ℕ) → Mat → Mat
 deferred nrow ncol kb ke d sub blocks a = deferredRows nrow ncol (panelOf kb ke d sub blocks a) a
 
--- The panel's columns kb to ke of a matrix of n rows and c columns, with their pivots, of which the last begins no block; room for L·D of them in g,
--- and for a sum for each row.
-pub record DeferredPre (n c kb ke alen glen len dlen slen : ℕ) (blocks : List ℕ) : Type 0 where
+-- The panel's columns kb to ke of a matrix of n rows and c columns, with their pivots, of which the last begins no block, and room for L·D of them in g.
+pub record DeferredPre (n c kb ke glen len dlen slen : ℕ) (blocks : List ℕ) : Type 0 where
   pub start : kb ≤ ke
   pub stop : ke ≤ c
   pub rows : c ≤ n
   pub panel : len ≡ n * c
   pub out : (ke - kb) * n ≤ glen
-  pub sums : n ≤ alen
   pub pivots : ke ≤ dlen
   pub subs : ke ≤ slen
   pub flags : ke ≤ length blocks

@@ -3,6 +3,7 @@
 use mathlib.Core.Path.{_≡_}
 use mathlib.Core.Bool.{cond, _&&_}
 use Prim.Native.Nat.{ℕ, _+_, _-_, _*_, _<_, _≤_}
+use lib.Dec.{leb}
 use Rattle.model.specs.Scalar.{_⊖_, _⊗_}
 use Rattle.model.specs.Matrix.{Row, Mat, within}
 use Rattle.model.specs.Panel.{sumFrom}
@@ -12,6 +13,10 @@ use Rattle.grid.specs.Rules.{zeroed}
 unfoldable pub laterRow : Mat → ℕ → ℕ → Row
 laterRow a c kb = λ t. a c (kb + t)
 
+-- the rows from lo on, counted from there
+unfoldable pub rowsFrom : ℕ → Mat → Mat
+rowsFrom lo g = λ i. g (lo + i)
+
 -- each number of x with the n terms g·l from column s on added in their order
 unfoldable pub gathered : Row → Mat → Row → ℕ → ℕ → Row
 gathered x g l s n = λ i. sumFrom (λ t. g i t ⊗ l t) s n (x i)
@@ -20,46 +25,67 @@ gathered x g l s n = λ i. sumFrom (λ t. g i t ⊗ l t) s n (x i)
 unfoldable pub columnDeferred : Mat → Mat → ℕ → ℕ → ℕ → Row
 columnDeferred a g c kb w = λ i. a i c ⊖ gathered zeroed g (laterRow a c kb) 0 w i
 
--- columns c up to end, each from its diagonal down to row hi, less their sums
-unfoldable pub partDeferred : Mat → Mat → ℕ → ℕ → ℕ → ℕ → ℕ → Mat
-partDeferred a g kb w c end hi = λ i j. cond (within c end j && within j hi i) (columnDeferred a g j kb w i) (a i j)
-
--- the same for the columns after a panel's, from ke up to end
-unfoldable pub columnsDeferred : Mat → Mat → ℕ → ℕ → ℕ → ℕ → Mat
-columnsDeferred a g kb ke hi end = partDeferred a g kb (ke - kb) ke end hi
+-- columns c up to end, of each the rows lo up to hi that stand on its diagonal or below, less their sums
+unfoldable pub partDeferred : Mat → Mat → ℕ → ℕ → ℕ → ℕ → ℕ → ℕ → Mat
+partDeferred a g kb w c end lo hi = λ i j. cond (within c end j && (leb j i && within lo hi i)) (columnDeferred a g j kb w i) (a i j)
 
 -- ---- what the callers owe
 
--- row c is there, the sums have a place for each row, and so are the n terms from t on: columns of g, and columns of the panel after kb
-pub record TermsPre (n c kb t count alen glen len : ℕ) : Type 0 where
+-- four columns of a list, of which each begins p places after the one before it, the first at a: n numbers of each, and as many sums
+pub record FourPre (n a p xlen ylen glen : ℕ) : Type 0 where
+  pub first : n ≤ xlen
+  pub second : n ≤ ylen
+  pub columns : a + p + p + p + n ≤ glen
+
+-- row c is there, and so are m rows from lo on, a sum for each, and the terms from t on: columns of g, and columns of the panel after kb
+pub record TermsPre (n c kb t count lo m xlen glen len : ℕ) : Type 0 where
   pub row : c < n
-  pub sums : n ≤ alen
+  pub rows : lo + m ≤ n
+  pub sums : m ≤ xlen
   pub fits : kb + t + count ≤ n
   pub out : (t + count) * n ≤ glen
   pub columns : (kb + t + count) * n ≤ len
 
 -- the same for the columns before w
-pub record GatherPre (n c kb w alen glen len : ℕ) : Type 0 where
+pub record GatherPre (n c kb w lo m xlen glen len : ℕ) : Type 0 where
   pub row : c < n
-  pub sums : n ≤ alen
+  pub rows : lo + m ≤ n
+  pub sums : m ≤ xlen
   pub fits : kb + w ≤ n
   pub out : w * n ≤ glen
   pub columns : (kb + w) * n ≤ len
 
--- and column c
-pub record DeferColumnPre (n c kb w alen glen len : ℕ) : Type 0 where
-  pub row : c < n
+-- column j is there, rows lo up to hi reach its diagonal, and each has its sum
+pub record LosePre (n j lo hi len slen : ℕ) : Type 0 where
+  pub column : n + j * n ≤ len
+  pub up : lo ≤ hi
+  pub diagonal : j ≤ hi
+  pub rows : hi ≤ n
+  pub sums : hi ≤ lo + slen
+
+-- columns c and e, which is c or the next, after the panel's, and in them at most `most` rows from lo on
+pub record PairPre (n c e kb w lo hi most glen len : ℕ) : Type 0 where
+  pub after : kb + w ≤ c
+  pub next : (c ≤ e) × (e ≤ c + 1)
+  pub diagonal : (c ≤ lo) × (e < hi)
+  pub up : lo ≤ hi
+  pub rows : hi ≤ n
+  pub few : hi ≤ lo + most
   pub column : n + c * n ≤ len
-  pub sums : n ≤ alen
-  pub fits : kb + w ≤ n
+  pub second : n + e * n ≤ len
   pub out : w * n ≤ glen
   pub columns : (kb + w) * n ≤ len
 
--- the later columns of a panel of n rows and c columns, with the products in g and a sum for each row
-pub record ColumnsPre (n c kb ke alen glen len : ℕ) : Type 0 where
+-- the later columns of a panel of n rows and c columns, with the products in g
+pub record ColumnsPre (n c kb ke glen len : ℕ) : Type 0 where
   pub start : kb ≤ ke
   pub stop : ke ≤ c
   pub rows : c ≤ n
   pub panel : len ≡ n * c
   pub out : (ke - kb) * n ≤ glen
-  pub sums : n ≤ alen
+
+-- and at most `most` of their rows
+pub record RowsPre (n lo hi most : ℕ) : Type 0 where
+  pub up : lo ≤ hi
+  pub rows : hi ≤ n
+  pub few : hi ≤ lo + most

@@ -1,121 +1,149 @@
-// The deferred update: what a finished panel does to the columns after it. L·D is formed in products.rt, the sums of a
-// column in sums.rt, those of two columns at once in both.rt. A reader may rely on the contract of deferred_update:
-// every rounding is the definition's.
+// The deferred update: what a finished panel does to the columns after it. L·D is formed in products.rt, the sums of
+// two columns at once in sums.rt. A reader may rely on the contract of deferred_update: every rounding is the
+// definition's.
 ghost use mathlib.Core.Path.{_≡_};
-ghost use mathlib.Core.Bool.{_&&_};
-ghost use Prim.Native.Nat.{_+_, _-_, _<_, _≤_};
-ghost use lib.Dec.{leb};
+ghost use Prim.Native.Nat.{_+_, _-_, _<_, _≤_, min, max};
 ghost use lib.ListN.{length};
 ghost use Rattle.model.specs.Matrix.{view, vec, bytes, withColumn};
+ghost use Rattle.grid.specs.Rules.{columnOf, behind, lessEach};
 ghost use Rattle.deferred.specs.Deferred.{deferred, DeferredPre};
-ghost use Rattle.deferred.specs.Sums.{columnDeferred, partDeferred, columnsDeferred, DeferColumnPre, ColumnsPre};
+ghost use Rattle.deferred.specs.Products.{withProducts};
+ghost use Rattle.deferred.specs.Sums.{partDeferred, LosePre, PairPre, ColumnsPre, RowsPre};
 
-mod both;
 mod products;
 mod sums;
 
-// Column c from its diagonal down loses its sums.
-fn defer_column(
-    panel: &mut [f64],
-    g: &[f64],
-    acc: &mut [f64],
-    nrow: usize,
-    c: usize,
-    kb: usize,
-    w: usize,
-)
-    requires { ⌜ DeferColumnPre nrow c kb w (length (now acc)) (length (now g)) (length (now panel)) ⌝ }
-    ensures { λ _. ⌜ view nrow (now (panel .exit))
-        ≡ withColumn (view nrow (now (panel .entry))) c c nrow
-        (columnDeferred (view nrow (now (panel .entry))) (view nrow (now (g .entry))) c kb w) ⌝ }
+// How many rows are worked at a time: their sums are local arrays, and their part of L·D stays in the cache for all
+// later columns.
+const PART: usize = 128;
+
+fn smaller(a: usize, b: usize) -> usize
+    ensures { λ r. ⌜ r ≡ min a b ⌝ }
 {
-    sums::column_sums(acc, g, panel, nrow, c, kb, w);
-    grid::columns::less_each(panel, nrow, c, c, nrow, acc);
+    if a < b {
+        return a;
+    }
+    b
 }
 
-// Columns c and c + 1, each from its diagonal down, lose their sums. Both sums are there before either column changes.
+fn larger(a: usize, b: usize) -> usize
+    ensures { λ r. ⌜ r ≡ max a b ⌝ }
+{
+    if a < b {
+        return b;
+    }
+    a
+}
+
+// Of column j the rows lo up to hi that stand on its diagonal or below lose s, whose first number is row lo's.
+fn lose(panel: &mut [f64], nrow: usize, j: usize, lo: usize, hi: usize, s: &[f64])
+    requires { ⌜ LosePre nrow j lo hi (length (now panel)) (length (now s)) ⌝ }
+    ensures { λ _. ⌜ view nrow (now (panel .exit))
+        ≡ withColumn (view nrow (now (panel .entry))) j (max lo j) hi
+        (lessEach (columnOf (view nrow (now (panel .entry))) j) (behind lo (vec (now (s .entry))))) ⌝ }
+{
+    let from = larger(lo, j);
+    let a = from + j * nrow;
+    let b = hi + j * nrow;
+    let p = from - lo;
+    let q = hi - lo;
+    grid::kernels::less_each(&mut panel[a..b], &s[p..q], hi - from);
+}
+
+// Rows lo up to hi of columns c and e, each from its diagonal down, lose their sums. Both sums are there before either
+// column changes. Where e is c there is one column.
 fn defer_two(
     panel: &mut [f64],
     g: &[f64],
-    acc: &mut [f64],
-    other: &mut [f64],
     nrow: usize,
     c: usize,
+    e: usize,
     kb: usize,
     w: usize,
+    lo: usize,
+    hi: usize,
 )
-    requires { ⌜ DeferColumnPre nrow c kb w (length (now acc)) (length (now g)) (length (now panel)) ⌝ }
-    requires { ⌜ DeferColumnPre nrow (c + 1) kb w (length (now other)) (length (now g)) (length (now panel)) ⌝ }
+    requires { ⌜ PairPre nrow c e kb w lo hi 128 (length (now g)) (length (now panel)) ⌝ }
     ensures { λ _. ⌜ view nrow (now (panel .exit))
-        ≡ partDeferred (view nrow (now (panel .entry))) (view nrow (now (g .entry))) kb w c (c + 2) nrow ⌝ }
+        ≡ partDeferred (view nrow (now (panel .entry))) (view nrow (now (g .entry))) kb w c (e + 1) lo hi ⌝ }
 {
-    both::both_sums(acc, other, g, panel, nrow, c, kb, w);
-    grid::columns::less_each(panel, nrow, c, c, nrow, acc);
-    grid::columns::less_each(panel, nrow, c + 1, c + 1, nrow, other);
-}
-
-// Whether two columns are left, and there is room for a second sum for each row.
-fn two_fit(nrow: usize, room: usize, left: usize) -> bool
-    ensures { λ r. ⌜ r ≡ (leb 2 left && leb nrow room) ⌝ }
-{
-    if left < 2 {
-        return false;
+    let mut x = [0.0; PART];
+    let mut y = [0.0; PART];
+    sums::both_sums(&mut x, &mut y, g, panel, nrow, c, e, kb, w, lo, hi - lo);
+    lose(panel, nrow, c, lo, hi, &x);
+    if e == c {
+        return;
     }
-    nrow <= room
+    lose(panel, nrow, e, lo, hi, &y);
 }
 
-// Column c and, where two fit, the one after it, each from its diagonal down, lose their sums. The answer is the first
-// column left.
+// Column c and, if it stands before end, the next lose their sums in rows lo up to hi. The answer is the first column
+// left.
 fn defer_next(
     panel: &mut [f64],
     g: &[f64],
-    acc: &mut [f64],
-    other: &mut [f64],
     nrow: usize,
     ncol: usize,
     c: usize,
+    end: usize,
     kb: usize,
     ke: usize,
+    lo: usize,
+    hi: usize,
 ) -> usize
-    requires { ⌜ ColumnsPre nrow ncol kb ke (length (now acc)) (length (now g)) (length (now panel)) ⌝ }
-    requires { ⌜ (ke ≤ c) × (c < ncol) ⌝ }
+    requires { ⌜ ColumnsPre nrow ncol kb ke (length (now g)) (length (now panel)) ⌝ }
+    requires { ⌜ RowsPre nrow lo hi 128 ⌝ }
+    requires { ⌜ (ke ≤ c) × (c < end) × (end ≡ min ncol hi) ⌝ }
     ensures { λ r. ⌜ view nrow (now (panel .exit))
-        ≡ partDeferred (view nrow (now (panel .entry))) (view nrow (now (g .entry))) kb (ke - kb) c r nrow ⌝ }
-    ensures { λ r. ⌜ (c < r) × (r ≤ ncol) ⌝ }
+        ≡ partDeferred (view nrow (now (panel .entry))) (view nrow (now (g .entry))) kb (ke - kb) c r lo hi ⌝ }
+    ensures { λ r. ⌜ r ≡ min (c + 2) end ⌝ }
 {
-    if two_fit(nrow, other.len(), ncol - c) {
-        defer_two(panel, g, acc, other, nrow, c, kb, ke - kb);
-        return c + 2;
-    }
-    defer_column(panel, g, acc, nrow, c, kb, ke - kb);
-    c + 1
+    let from = larger(lo, c);
+    let e = smaller(c + 1, end - 1);
+    defer_two(panel, g, nrow, c, e, kb, ke - kb, from, hi);
+    e + 1
 }
 
-// The columns from ke on, each from its diagonal down, lose their sums: two at a time, or one at a time where there are
-// more rows than the second sums have room for.
-fn defer_columns(
+// Rows lo up to hi of the columns from ke on, each from its diagonal down, lose their sums.
+fn defer_rows(
     panel: &mut [f64],
     g: &[f64],
-    acc: &mut [f64],
     nrow: usize,
     ncol: usize,
     kb: usize,
     ke: usize,
+    lo: usize,
+    hi: usize,
 )
-    requires { ⌜ ColumnsPre nrow ncol kb ke (length (now acc)) (length (now g)) (length (now panel)) ⌝ }
+    requires { ⌜ ColumnsPre nrow ncol kb ke (length (now g)) (length (now panel)) ⌝ }
+    requires { ⌜ RowsPre nrow lo hi 128 ⌝ }
     ensures { λ _. ⌜ view nrow (now (panel .exit))
-        ≡ columnsDeferred (view nrow (now (panel .entry))) (view nrow (now (g .entry))) kb ke nrow ncol ⌝ }
+        ≡ partDeferred (view nrow (now (panel .entry))) (view nrow (now (g .entry))) kb (ke - kb) ke ncol lo hi ⌝ }
 {
-    let mut other = [0.0; 1024];
+    let end = smaller(ncol, hi);
     let mut c = ke;
-    while c < ncol {
-        c = defer_next(panel, g, acc, &mut other, nrow, ncol, c, kb, ke);
+    while c < end {
+        c = defer_next(panel, g, nrow, ncol, c, end, kb, ke, lo, hi);
+    }
+}
+
+// The columns from ke on, each from its diagonal down, lose their sums, a part of the rows at a time.
+fn defer_columns(panel: &mut [f64], g: &[f64], nrow: usize, ncol: usize, kb: usize, ke: usize)
+    requires { ⌜ ColumnsPre nrow ncol kb ke (length (now g)) (length (now panel)) ⌝ }
+    ensures { λ _. ⌜ view nrow (now (panel .exit))
+        ≡ partDeferred (view nrow (now (panel .entry))) (view nrow (now (g .entry))) kb (ke - kb) ke ncol ke nrow ⌝ }
+{
+    let mut lo = ke;
+    while lo < nrow {
+        let hi = lo + smaller(PART, nrow - lo);
+        defer_rows(panel, g, nrow, ncol, kb, ke, lo, hi);
+        lo = hi;
     }
 }
 
 // Every later x (row ≥ column ≥ ke) becomes x − acc: acc from +0.0 over the panel's columns kb to ke in their order,
 // each term L·D of x's row times L of x's column's row.
-// work: g (ke − kb)·nrow numbers, acc nrow numbers, any on entry.
+// work: g (ke − kb)·nrow numbers, any on entry; L·D of the rows from ke on afterwards.
 // origin: src/numeric/ldlt/bunch_kaufman.rs, fn ll_cdiv_emit
 pub fn deferred_update(
     panel: &mut [f64],
@@ -123,18 +151,20 @@ pub fn deferred_update(
     sub: &[f64],
     blocks: &[u8],
     g: &mut [f64],
-    acc: &mut [f64],
     nrow: usize,
     ncol: usize,
     kb: usize,
     ke: usize,
 )
-    requires { ⌜ DeferredPre nrow ncol kb ke (length (now acc)) (length (now g)) (length (now panel)) (length (now d))
+    requires { ⌜ DeferredPre nrow ncol kb ke (length (now g)) (length (now panel)) (length (now d))
         (length (now sub)) (now blocks) ⌝ }
     ensures { λ _. ⌜ view nrow (now (panel .exit))
         ≡ deferred nrow ncol kb ke (vec (now (d .entry))) (vec (now (sub .entry))) (bytes (now (blocks .entry)))
         (view nrow (now (panel .entry))) ⌝ }
+    ensures { λ _. ⌜ view nrow (now (g .exit))
+        ≡ withProducts (view nrow (now (g .entry))) (vec (now (d .entry))) (vec (now (sub .entry)))
+        (bytes (now (blocks .entry))) (view nrow (now (panel .entry))) kb ke nrow (ke - kb) ⌝ }
 {
     products::products(g, panel, d, sub, blocks, nrow, kb, ke);
-    defer_columns(panel, g, acc, nrow, ncol, kb, ke);
+    defer_columns(panel, g, nrow, ncol, kb, ke);
 }

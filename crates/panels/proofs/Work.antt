@@ -129,13 +129,12 @@ wide-fits nrow nb len h =
     let b : nrow * (nb + 1) ≤ 3 * nrow * (nb + 1) = mul-le-mul-right (nb + 1) (omega arith) in
     omega (arith, mul-comm nb nrow)
 
-pub deferred-pre : (nrow ncol nb kb ke len lenW ld ls lb lp la : ℕ) (ws : List Float) (blocks partners : List ℕ)
-    → AfterPre nrow ncol nb kb ke len lenW ld ls lb lp → length blocks ≡ lb → length ws ≡ lenW → la ≡ 1024
-    → StepsPre ke (bytes blocks) (bytes partners) → deferral.DeferredPre nrow ncol kb ke la (length (midOf 0 (nb * nrow - 0) ws)) len ld ls blocks
-deferred-pre nrow ncol nb kb ke len lenW ld ls lb lp la ws blocks partners a eb e f s =
+pub deferred-pre : (nrow ncol nb kb ke len lenW ld ls lb lp : ℕ) (ws : List Float) (blocks partners : List ℕ)
+    → AfterPre nrow ncol nb kb ke len lenW ld ls lb lp → length blocks ≡ lb → length ws ≡ lenW → StepsPre ke (bytes blocks) (bytes partners)
+    → deferral.DeferredPre nrow ncol kb ke (length (midOf 0 (nb * nrow - 0) ws)) len ld ls blocks
+deferred-pre nrow ncol nb kb ke len lenW ld ls lb lp ws blocks partners a eb e s =
     let cols = a .cols in
     let here = a .here in
-    let rows = a .fewRows in
     let width = a .width in
     record {
       start = omega arith;
@@ -143,7 +142,6 @@ deferred-pre nrow ncol nb kb ke len lenW ld ls lb lp la ws blocks partners a eb 
       rows = a .head;
       panel = a .panel;
       out = out;
-      sums = omega arith;
       pivots = omega (arith, a .d);
       subs = omega (arith, a .sub);
       flags = omega (arith, a .blocks);

@@ -145,7 +145,6 @@ fn later_columns(
     if ke == ncol {
         return;
     }
-    let mut acc = [0.0; 1024];
     let size = nb * nrow;
     deferred::deferred_update(
         panel,
@@ -153,7 +152,6 @@ fn later_columns(
         sub,
         blocks,
         &mut work[0..size],
-        &mut acc,
         nrow,
         ncol,
         kb,

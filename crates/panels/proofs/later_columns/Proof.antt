@@ -20,13 +20,10 @@ part-deferred-update-start c = search needs
 part-deferred-update-end : tie.Need-part-deferred-update-end
 part-deferred-update-end c = search needs
 
-slice-aggregate-deferred-update : tie.Need-slice-aggregate-deferred-update
-slice-aggregate-deferred-update c = search needs
-
 deferred-update-requires : tie.Need-deferred-update-requires
 deferred-update-requires c κs =
-    let pre = c .before .before .before .before .before .before .before .before .before .before .pre in
-    deferred-pre _ _ _ _ _ _ _ _ _ _ _ _ _ _ _ (pre .0) refl refl refl (pre .1)
+    let pre = c .before .before .before .before .before .before .before .before .pre in
+    deferred-pre _ _ _ _ _ _ _ _ _ _ _ _ _ _ (pre .0) refl refl (pre .1)
 
 same-length : tie.Need-same-length
 same-length c = search needs
@@ -46,7 +43,6 @@ later-columns-spec =
     sub-deferred-update
     part-deferred-update-start
     part-deferred-update-end
-    slice-aggregate-deferred-update
     deferred-update-requires
     same-length
     same-length-2

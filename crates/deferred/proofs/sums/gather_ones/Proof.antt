@@ -1,21 +1,22 @@
--- `deferred::sums::gather_ones` meets its contract. The invariant: the terms from s on and before t are in. The measure is what is left. Assumes nothing.
+-- `deferred::sums::gather_ones` meets its contract. The invariant: the terms before t are in. The measure is what is left. Assumes nothing.
 use Prim.Native.Nat.{_-_, _≤_}
 use mathlib.Core.Path.{_≡_}
 use lib.ListN.{length}
 use borrow.Author.Needs.{needs}
 use Rattle.model.specs.Matrix.{view, vec, withPart}
-use Rattle.deferred.specs.Sums.{laterRow, gathered}
+use Rattle.deferred.specs.Sums.{laterRow, rowsFrom, gathered}
 use Rattle.deferred.proofs.Sum.{ones-none, ones-pre, ones-step, ones-end}
+use borrow.Author.Needs.{needs}
 use Rattle.deferred.proofs.sums.gather_ones.Statement.{statement}
 use Rattle.deferred.proofs.sums.gather_ones.Tie as tie
 
 abbrev Inv-loop : tie.InvT-loop
-Inv-loop acc₀ g panel nrow c kb s w t₀ acc t =
-    (s ≤ t) × (t ≤ w) × (length acc ≡ length acc₀)
-    × (vec acc ≡ withPart (vec acc₀) c nrow (gathered (vec acc₀) (view nrow g) (laterRow (view nrow panel) c kb) s (t - s)))
+Inv-loop x₀ g panel nrow c kb s w lo n t₀ x t =
+    (s ≤ t) × (t ≤ w) × (length x ≡ length x₀)
+    × (vec x ≡ withPart (vec x₀) 0 n (gathered (vec x₀) (rowsFrom lo (view nrow g)) (laterRow (view nrow panel) c kb) s (t - s)))
 
 abbrev μ-loop : tie.MeasureT-loop
-μ-loop acc₀ g panel nrow c kb s w t₀ acc t = w - t
+μ-loop x₀ g panel nrow c kb s w lo n t₀ x t = w - t
 
 loop-holds : tie.Need-loop-holds Inv-loop μ-loop
 loop-holds c = search (needs, ones-none)
@@ -30,7 +31,7 @@ loop-less : tie.Need-loop-less Inv-loop μ-loop
 loop-less c = search needs
 
 loop-again : tie.Need-loop-again Inv-loop μ-loop
-loop-again c = search (needs, ones-step)
+loop-again c = (search needs, search needs, search needs, search ones-step)
 
 same-length : tie.Need-same-length Inv-loop μ-loop
 same-length c = search needs

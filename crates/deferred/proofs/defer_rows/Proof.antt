@@ -1,0 +1,54 @@
+-- `deferred::defer_rows` meets its contract. The invariant: the columns before c have lost their sums. The measure is what is left. Assumes nothing.
+use Prim.Native.Nat.{_-_, _≤_}
+use mathlib.Core.Path.{_≡_}
+use lib.ListN.{length}
+use borrow.Author.Needs.{needs}
+use Rattle.model.specs.Matrix.{view}
+use Rattle.deferred.specs.Sums.{partDeferred}
+use Rattle.deferred.proofs.Columns.{columns-none, columns-still, columns-step, columns-end}
+use borrow.Author.Needs.{needs}
+use Rattle.deferred.proofs.defer_rows.Statement.{statement}
+use Rattle.deferred.proofs.defer_rows.Tie as tie
+
+abbrev Inv-loop : tie.InvT-loop
+Inv-loop panel₀ g nrow ncol kb ke lo hi end c₀ panel c =
+    (ke ≤ c) × (c ≤ ncol) × (length panel ≡ length panel₀)
+    × (view nrow panel ≡ partDeferred (view nrow panel₀) (view nrow g) kb (ke - kb) ke c lo hi)
+
+abbrev μ-loop : tie.MeasureT-loop
+μ-loop panel₀ g nrow ncol kb ke lo hi end c₀ panel c = end - c
+
+smaller-requires : tie.Need-smaller-requires Inv-loop μ-loop
+smaller-requires c κs = search needs
+
+loop-holds : tie.Need-loop-holds Inv-loop μ-loop
+loop-holds c = (search needs, search needs, search needs, search columns-none)
+
+defer-next-requires : tie.Need-defer-next-requires Inv-loop μ-loop
+defer-next-requires c κs = (search columns-still, (search needs, search needs))
+
+loop-less : tie.Need-loop-less Inv-loop μ-loop
+loop-less c = search needs
+
+loop-again : tie.Need-loop-again Inv-loop μ-loop
+loop-again c = (search needs, search needs, search needs, search columns-step)
+
+same-length : tie.Need-same-length Inv-loop μ-loop
+same-length c = search needs
+
+returns : tie.Need-returns Inv-loop μ-loop
+returns c = search columns-end
+
+pub defer-rows-spec : {M : Type 1} → statement M
+defer-rows-spec =
+    tie.close
+    (tie.spec
+    Inv-loop
+    μ-loop
+    smaller-requires
+    loop-holds
+    defer-next-requires
+    loop-less
+    loop-again
+    same-length
+    returns)
