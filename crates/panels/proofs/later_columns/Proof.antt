@@ -22,7 +22,7 @@ part-deferred-update-end c = search needs
 
 deferred-update-requires : tie.Need-deferred-update-requires
 deferred-update-requires c κs =
-    let pre = c .before .before .before .before .before .before .before .before .pre in
+    let pre = c .before .before .before .before .before .before .before .before .before .pre in
     deferred-pre _ _ _ _ _ _ _ _ _ _ _ _ _ _ (pre .0) refl refl (pre .1)
 
 same-length : tie.Need-same-length
