@@ -19,6 +19,7 @@ use Rattle.model.specs.declared.Mode.{Mode}
 use Rattle.model.specs.declared.Mode.the-variants.{Fail, Lift}
 use Rattle.model.proofs.Cases.{and-right}
 use Rattle.model.proofs.Entry.{second-sound, not-refused, passed}
+use Rattle.model.proofs.Recorded.{none-recorded}
 use Rattle.whole.specs.Whole.{WholeRun, wholePanelsOf}
 use Rattle.finish.specs.Buffers.{Begun}
 use Rattle.finish.proofs.Buffers.{bytes-zeros, begun-start}
@@ -94,6 +95,7 @@ noted-none n blocks partners e f = record {
   few = omega arith;
   pair = λ c h. absurd (omega (arith, ap (λ (g : ℕ → ℕ). g c) (ap bytes e ∙ bytes-zeros n)));
   partner = λ c. omega (arith, ap (λ (g : ℕ → ℕ). g c) (ap bytes f ∙ bytes-zeros 128));
+  recorded = none-recorded (bytes blocks) (bytes partners);
 }
 
 -- the slices show the start

@@ -135,7 +135,7 @@ module _ (c : Settings) (input : List Float) (b : Buffers) (e : entryCheck c inp
         let n : length (a .blocks) ≡ c .ncol = l .blocks ∙ checked .lengths .blocks in
         ap (λ (m : ℕ). bytesFrom (bytes (a .blocks)) m m 0) n
         ∙ ap (λ (p : Pivots). bytesFrom (p .blocks) (c .ncol) (c .ncol) 0) same
-        ∙ bytes-sound (reach .state .pivots .blocks) (c .ncol) (c .ncol) 0 (omega arith) (kept .blocks)
+        ∙ bytes-sound (reach .state .pivots .blocks) (c .ncol) (c .ncol) 0 (omega arith) (kept .recorded .paired)
 
     pub judge-pre : JudgePre (c .nrow) (c .ncol) (length (a .panel)) (length (a .d)) (length (a .sub)) (length (a .marks)) (a .blocks)
     judge-pre = record {

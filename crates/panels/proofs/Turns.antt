@@ -128,12 +128,13 @@ holds-same nrow ncol ld ls la lb ll lo lp ld₀ ls₀ la₀ lb₀ ll₀ lo₀ lp
 pub noted-more : (k ke ke′ rounds : ℕ) (blocks partners : ℕ → ℕ) → NotedTo k ke rounds blocks partners → ke ≤ ke′
     → NotedTo k ke′ rounds blocks partners
 noted-more k ke ke′ rounds blocks partners w h =
-    record { few = w .few; pair = λ c e. omega (arith, w .pair c e); partner = λ c. omega (arith, w .partner c) }
+    record { few = w .few; pair = λ c e. omega (arith, w .pair c e); partner = λ c. omega (arith, w .partner c); recorded = w .recorded }
 
-pub done-leaves : (ke rounds : ℕ) (r : Ran) (blocks partners : ℕ → ℕ) → RanTo ke r blocks partners → r ≡ Done rounds
+pub done-leaves : (kb ke rounds : ℕ) (r : Ran) (blocks partners : ℕ → ℕ) → RanTo kb ke r blocks partners → r ≡ Done rounds
     → NotedTo ke (ke + 1) rounds blocks partners
-done-leaves ke rounds r blocks partners w e =
-    noted-more ke ke (ke + 1) rounds blocks partners (subst (λ (x : Ran). RanTo ke x blocks partners) e w) (omega arith)
+done-leaves kb ke rounds r blocks partners w e =
+    let v = subst (λ (x : Ran). RanTo kb ke x blocks partners) e w in
+    noted-more ke ke (ke + 1) rounds blocks partners (v .noted) (omega arith)
 
 pub end-leaves : (k n rounds : ℕ) (blocks partners : ℕ → ℕ) → NotedTo k (k + 1) rounds blocks partners → n ≤ k → k ≤ n
     → NotedTo n (n + 1) rounds blocks partners
@@ -141,10 +142,10 @@ end-leaves k n rounds blocks partners w h l =
     let e : k ≡ n = omega arith in
     subst (λ (m : ℕ). NotedTo m (m + 1) rounds blocks partners) e w
 
-pub stopped-leaves : (ke ncol : ℕ) (r : Ran) (x : Refusal) (blocks partners : ℕ → ℕ) → RanTo ke r blocks partners → r ≡ Stopped x
+pub stopped-leaves : (kb ke ncol : ℕ) (r : Ran) (x : Refusal) (blocks partners : ℕ → ℕ) → RanTo kb ke r blocks partners → r ≡ Stopped x
     → RunLeaves ncol r blocks partners
-stopped-leaves ke ncol r x blocks partners w e =
-    subst (λ (y : Ran). RunLeaves ncol y blocks partners) (sym e) (subst (λ (y : Ran). RanTo ke y blocks partners) e w)
+stopped-leaves kb ke ncol r x blocks partners w e =
+    subst (λ (y : Ran). RunLeaves ncol y blocks partners) (sym e) (subst (λ (y : Ran). RanTo kb ke y blocks partners) e w)
 
 pub begun : (ncol nb kb ke : ℕ) → 1 ≤ nb → kb < ncol → ke ≡ min (kb + nb) ncol → kb + 1 ≤ ke
 begun ncol nb kb ke some h e = omega arith

@@ -29,7 +29,7 @@ use Rattle.tail.proofs.Laws.{steps-alike}
 use Rattle.deferred.specs.Deferred as deferral
 use Rattle.bunch_kaufman.specs.Slices.{pivots, state}
 use Rattle.bunch_kaufman.specs.Answers.{progress}
-use Rattle.bunch_kaufman.specs.Terms.{PanelPre, NotesPre, NotedTo, RanTo}
+use Rattle.bunch_kaufman.specs.Terms.{PanelPre, NotesPre, PanelNoted, RanTo}
 use Rattle.panels.specs.Turn.{between, onward, turnOf}
 use Rattle.panels.specs.Run.{TurnPre, TurnHolds, AfterPre}
 use Rattle.bunch_kaufman.specs.declared.Ran.{Ran}
@@ -130,7 +130,7 @@ wide-fits nrow nb len h =
     omega (arith, mul-comm nb nrow)
 
 pub deferred-pre : (nrow ncol nb kb ke len lenW ld ls lb lp : ℕ) (ws : List Float) (blocks partners : List ℕ)
-    → AfterPre nrow ncol nb kb ke len lenW ld ls lb lp → length blocks ≡ lb → length ws ≡ lenW → StepsPre ke (bytes blocks) (bytes partners)
+    → AfterPre nrow ncol nb kb ke len lenW ld ls lb lp → length blocks ≡ lb → length ws ≡ lenW → StepsPre kb ke (bytes blocks) (bytes partners)
     → deferral.DeferredPre nrow ncol kb ke (length (midOf 0 (nb * nrow - 0) ws)) len ld ls blocks
 deferred-pre nrow ncol nb kb ke len lenW ld ls lb lp ws blocks partners a eb e s =
     let cols = a .cols in
@@ -240,11 +240,12 @@ after-pre nrow ncol nb kb ke mode limit len lenW ld ls la lb ll lo lp len′ len
   fewColumns = t .run .fewColumns;
 }
 
-pub leaves-done : (ke rounds : ℕ) (r : Ran) (blocks partners : ℕ → ℕ) → RanTo ke r blocks partners → r ≡ Done rounds
-    → NotedTo ke ke rounds blocks partners
-leaves-done ke rounds r blocks partners w e = subst (λ (x : Ran). RanTo ke x blocks partners) e w
+pub leaves-done : (kb ke rounds : ℕ) (r : Ran) (blocks partners : ℕ → ℕ) → RanTo kb ke r blocks partners → r ≡ Done rounds
+    → PanelNoted kb ke rounds blocks partners
+leaves-done kb ke rounds r blocks partners w e = subst (λ (x : Ran). RanTo kb ke x blocks partners) e w
 
-pub steps-pre : (ke rounds : ℕ) (r : Ran) (blocks partners : ℕ → ℕ) → RanTo ke r blocks partners → r ≡ Done rounds → StepsPre ke blocks partners
-steps-pre ke rounds r blocks partners w e =
-    let n : NotedTo ke ke rounds blocks partners = leaves-done ke rounds r blocks partners w e in
-    record { pair = λ k h f. n .pair k f; partner = λ k h. n .partner k }
+pub steps-pre : (kb ke rounds : ℕ) (r : Ran) (blocks partners : ℕ → ℕ) → RanTo kb ke r blocks partners → r ≡ Done rounds → StepsPre kb ke blocks partners
+steps-pre kb ke rounds r blocks partners w e =
+    let p = leaves-done kb ke rounds r blocks partners w e in
+    let n = p .noted in
+    record { pair = λ k h f. n .pair k f; partner = λ k h. n .partner k; recorded = n .recorded; start = p .start }

@@ -60,7 +60,7 @@ fn steps(
         (now (order .exit)) (now (partners .exit))) ≡ panelOf ke mode limit (ke - kb) kb (between nrow
         (now (panel .entry)) (now (d .entry)) (now (sub .entry)) (now (amounts .entry)) (now (blocks .entry))
         (now (lifts .entry)) (now (order .entry)) (now (partners .entry)) before) ⌝ }
-    ensures { λ r. ⌜ RanTo ke r (bytes (now (blocks .exit))) (bytes (now (partners .exit))) ⌝ }
+    ensures { λ r. ⌜ RanTo kb ke r (bytes (now (blocks .exit))) (bytes (now (partners .exit))) ⌝ }
 {
     let square = nb * nb;
     grid::columns::zero(work, 0, square);
@@ -101,7 +101,7 @@ fn rows_below(
 )
     requires { ⌜ AfterPre nrow ncol nb kb ke (length (now panel)) (length (now work)) (length (now d))
         (length (now sub)) (length (now blocks)) (length (now partners)) ⌝ }
-    requires { ⌜ StepsPre ke (bytes (now blocks)) (bytes (now partners)) ⌝ }
+    requires { ⌜ StepsPre kb ke (bytes (now blocks)) (bytes (now partners)) ⌝ }
     ensures { λ _. ⌜ view nrow (now (panel .exit)) ≡ below ke nrow (rowAfterSteps (pivotsOf (now (d .entry))
         (now (sub .entry)) (now (blocks .entry)) (now (partners .entry))) (inPanel kb ke (view nb
         (take (nb * nb) (now (work .entry))))) ke (ke - kb) kb) (view nrow (now (panel .entry))) ⌝ }
@@ -138,7 +138,7 @@ fn later_columns(
 )
     requires { ⌜ AfterPre nrow ncol nb kb ke (length (now panel)) (length (now work)) (length (now d))
         (length (now sub)) (length (now blocks)) (length (now partners)) ⌝ }
-    requires { ⌜ StepsPre ke (bytes (now blocks)) (bytes (now partners)) ⌝ }
+    requires { ⌜ StepsPre kb ke (bytes (now blocks)) (bytes (now partners)) ⌝ }
     ensures { λ _. ⌜ view nrow (now (panel .exit)) ≡ deferred nrow ncol kb ke (vec (now (d .entry)))
         (vec (now (sub .entry))) (bytes (now (blocks .entry))) (view nrow (now (panel .entry))) ⌝ }
 {
@@ -188,7 +188,7 @@ fn turn(
         turnOf mode limit nrow ncol kb ke (between nrow (now (panel .entry)) (now (d .entry)) (now (sub .entry))
         (now (amounts .entry)) (now (blocks .entry)) (now (lifts .entry)) (now (order .entry)) (now (partners .entry))
         before) ⌝ }
-    ensures { λ r. ⌜ RanTo ke r (bytes (now (blocks .exit))) (bytes (now (partners .exit))) ⌝ }
+    ensures { λ r. ⌜ RanTo kb ke r (bytes (now (blocks .exit))) (bytes (now (partners .exit))) ⌝ }
 {
     let ran = steps(
         panel,

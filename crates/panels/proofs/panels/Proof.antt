@@ -171,7 +171,7 @@ returns c =
     let told = c .enum-told .given .1 in (
       run-stop (a .mode) (a .limit) (a .nrow) (a .ncol) (a .nb) (start .pre .0 .some) (l .kb) (p .panel-end .result) (held (looped p)) (left t)
           (left t) (t .turn .result) _ (whole start) (l .inv .10) (p .before .loop-test .taken) (p .panel-end .ensures) (t .turn .ensures .0) told,
-      stopped-leaves (p .panel-end .result) (a .ncol) (t .turn .result) _ (blocks-left t) (partners-left t) (t .turn .ensures .1) told,
+      stopped-leaves (l .kb) (p .panel-end .result) (a .ncol) (t .turn .result) _ (blocks-left t) (partners-left t) (t .turn .ensures .1) told,
     )
 
 loop-less : tie.Need-loop-less Inv-loop μ-loop
@@ -201,7 +201,7 @@ loop-again c =
       kept .1 .1 .1 .1 .1 .1 .1 .1 .0 ∙ inv .9,
       run-more (a .mode) (a .limit) (a .nrow) (a .ncol) (a .nb) (start .pre .0 .some) (l .kb) (p .panel-end .result) _ (held (looped p)) (left t)
           (t .turn .result) (whole start) (inv .10) (p .before .loop-test .taken) (p .panel-end .ensures) (t .turn .ensures .0) told,
-      done-leaves (p .panel-end .result) _ (t .turn .result) (blocks-left t) (partners-left t) (t .turn .ensures .1) told,
+      done-leaves (l .kb) (p .panel-end .result) _ (t .turn .result) (blocks-left t) (partners-left t) (t .turn .ensures .1) told,
     )
 
 same-length-10 : tie.Need-same-length-10 Inv-loop μ-loop

@@ -114,10 +114,10 @@ sizes s len e =
     (length (blocks-left s)) (length (partners-left s)) (entry s .pre .0) (entry s .pre .1 .0) e
     (kept .1 .0) (kept .1 .1 .0) (kept .1 .1 .1 .0) (kept .1 .1 .1 .1 .1 .0) (kept .1 .1 .1 .1 .1 .1 .1 .1 .0)
 
-noted : (g : tie.After-ran) → StepsPre (entry (stepped g) .args .ke) (bytes (blocks-left (stepped g))) (bytes (partners-left (stepped g)))
+noted : (g : tie.After-ran) → StepsPre (entry (stepped g) .args .kb) (entry (stepped g) .args .ke) (bytes (blocks-left (stepped g))) (bytes (partners-left (stepped g)))
 noted g =
     let s = stepped g in
-    steps-pre (entry s .args .ke) _ (s .steps .result) (bytes (blocks-left s)) (bytes (partners-left s)) (s .steps .ensures .1) (g .ran .given .1)
+    steps-pre (entry s .args .kb) (entry s .args .ke) _ (s .steps .result) (bytes (blocks-left s)) (bytes (partners-left s)) (s .steps .ensures .1) (g .ran .given .1)
 
 -- ---- the needs
 
@@ -217,7 +217,7 @@ returns-2 c =
           (r .rows-below .last .0) (l .later-columns .last .0) (d-left s) (sub-left s) (amounts-left s) (kept-part s) (blocks-left s)
           (lifts-left s) (order-left s) (partners-left s) (given (entry s)) (s .steps .ensures .0) told (r .rows-below .ensures)
           (l .later-columns .ensures),
-      leaves-done (a .ke) _ (s .steps .result) (bytes (blocks-left s)) (bytes (partners-left s)) (s .steps .ensures .1) told,
+      leaves-done (a .kb) (a .ke) _ (s .steps .result) (bytes (blocks-left s)) (bytes (partners-left s)) (s .steps .ensures .1) told,
     )
 
 pub turn-spec : {M : Type 1} → statement M
