@@ -13,11 +13,15 @@
  *
  * POINTERS. Each must be aligned for its type, not null, and point to as many elements as its length says; with
  * length 0 it is never followed, but must still not be null. A buffer that a call writes must not overlap any other
- * buffer of the call; buffers that are only read may overlap. No pointer is kept after the call. This is all that a
- * caller must see to: the rest is checked, and refused by number. No call allocates, waits, or ends the program.
- * Calls on buffers of their own may run at the same time.
+ * buffer of the call; buffers that are only read may overlap. No pointer is kept after the call. Calls on buffers of
+ * their own may run at the same time.
  *
- * ROUNDING. The thread rounds to nearest, ties to even, and keeps subnormal numbers, as at a program's start.
+ * FLOATING POINT. The calling thread rounds to nearest, ties to even, keeps subnormal numbers, and has the traps of all
+ * floating-point exceptions masked, as at a program's start: the numbers of a call may well be inexact, underflow,
+ * overflow, divide by zero or be not-a-numbers. A call may raise the exceptions' flags; it reads and clears none.
+ *
+ * Pointers and floating point are all that a caller must see to: the rest is checked, and refused by number. No call
+ * allocates, waits, or ends the program.
  *
  * REFUSALS. A call tests in the order of the numbers below, 19 before 16; the first condition that is met is the
  * answer. Numbers never shift. Places count from 0.
@@ -194,7 +198,8 @@ struct misuktaan_outcome misuktaan_update(
 /* Whether x is neither a not-a-number nor an infinity. */
 bool misuktaan_is_finite(double x);
 
-/* x with its sign cleared. */
+/* x with its sign cleared, that of a zero too. Of a not-a-number it is promised that the result is one, and no more:
+ * its sign and its other bits may be any. */
 double misuktaan_magnitude(double x);
 
 /* x * x, rounded once. */
@@ -209,7 +214,7 @@ double misuktaan_reciprocal(double x);
 /* d if |d| >= floor; floor if d is a zero; else d * (floor / |d|). */
 double misuktaan_lift(double floor, double d);
 
-/* The square root, correctly rounded: -0.0 of -0.0, a not-a-number below zero. */
+/* The square root, correctly rounded: -0.0 of -0.0, a not-a-number below zero and of a not-a-number. */
 double misuktaan_sqrt(double x);
 
 #ifdef __cplusplus

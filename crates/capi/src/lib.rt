@@ -47,7 +47,7 @@ pub extern "C" fn misuktaan_is_finite(x: f64) -> bool
     scalar::is_finite(x)
 }
 
-// x with its sign cleared.
+// x with its sign cleared; of a not-a-number a not-a-number, whose sign and other bits no contract can name.
 #[no_mangle]
 pub extern "C" fn misuktaan_magnitude(x: f64) -> f64
     ensures { λ r. ⌜ r ≡ magnitudeOf x ⌝ }
