@@ -5,10 +5,10 @@ use mathlib.Core.List.{List}
 use Prim.Native.Nat.{ℕ, zero, suc, _+_, _-_, _<_, _≤_}
 use native.Mathlib.Omega.{arith}
 use borrow.Author.Tests.{lt-ltb, le-leb, eqb-true, not-true, not-false}
-use lib.ListN.{length, getD}
+use lib.ListN.{getD}
 use lib.Ieee.{Float, nan}
 use Rattle.model.specs.Scalar.{reciprocalOf, isFinite}
-use Rattle.model.specs.Matrix.{Row, Mat, view, vec, bytes, headOf}
+use Rattle.model.specs.Matrix.{Row, Mat, vec, bytes, headOf}
 use Rattle.model.specs.Step.{begins, endsBlock, blockAt}
 use Rattle.model.specs.Head.{State}
 use Rattle.model.specs.Factor.{everyFrom, pivotSound, columnSound, resultCheck}

@@ -108,38 +108,43 @@ eight-same f g n i h l =
       h (i + 14) l,
     )
 
--- ---- sixteen numbers or more: the last sixteen and the sixteens from the first number on
+-- ---- sixteen numbers or more: the first sixteen and the sixteens that end with the last number
 
--- a turn and the end of the loop over them: i is the place, last where the last sixteen begin
-sixteen-turn : (f : Row) (p last i q : ℕ) (s y S : Float) → q ≡ i + p → i % 16 ≡ 0 → i < last → y ≡ everySecond f q
-    → sumFrom (sixteen f p) (i / 16) ((last + 15) / 16 - i / 16) s ≡ S
-    → sumFrom (sixteen f p) ((i + 16) / 16) ((last + 15) / 16 - (i + 16) / 16) (s ⊕ y) ≡ S
+-- a turn and the end of the loop over them: i is the place, counted from where they begin, rest how many numbers they have
+sixteen-turn : (f : Row) (p rest i q : ℕ) (s y S : Float) → q ≡ i + p → i % 16 ≡ 0 → i < rest → rest % 16 ≡ 0 → y ≡ everySecond f q
+    → sumFrom (sixteen f p) (i / 16) (rest / 16 - i / 16) s ≡ S → sumFrom (sixteen f p) ((i + 16) / 16) (rest / 16 - (i + 16) / 16) (s ⊕ y) ≡ S
 unfolding sixteen
-sixteen-turn f p last i q s y S d r h e w =
+sixteen-turn f p rest i q s y S d r h k e w =
     let next : (i + 16) / 16 ≡ i / 16 + 1 = omega arith in
     let at : q ≡ 16 * (i / 16) + p = omega arith in
-    rw next (sum-turn (sixteen f p) ((last + 15) / 16) (i / 16) s y S (omega arith) (e ∙ rw at) w)
+    rw next (sum-turn (sixteen f p) (rest / 16) (i / 16) s y S (omega arith) (e ∙ rw at) w)
 
-pub even-turn : (f : Row) (last i : ℕ) (s y S : Float) → i % 16 ≡ 0 → i < last → y ≡ everySecond f i
-    → sumFrom (sixteen f 0) (i / 16) ((last + 15) / 16 - i / 16) s ≡ S
-    → sumFrom (sixteen f 0) ((i + 16) / 16) ((last + 15) / 16 - (i + 16) / 16) (s ⊕ y) ≡ S
-even-turn f last i s y S r h e w = sixteen-turn f 0 last i i s y S (omega arith) r h e w
+pub even-turn : (f : Row) (from rest i : ℕ) (s y S : Float) → i % 16 ≡ 0 → i < rest → rest % 16 ≡ 0 → y ≡ everySecond f (from + i)
+    → sumFrom (sixteen f from) (i / 16) (rest / 16 - i / 16) s ≡ S → sumFrom (sixteen f from) ((i + 16) / 16) (rest / 16 - (i + 16) / 16) (s ⊕ y) ≡ S
+even-turn f from rest i s y S r h k e w = sixteen-turn f from rest i (from + i) s y S (omega arith) r h k e w
 
-pub odd-turn : (f : Row) (last i : ℕ) (s y S : Float) → i % 16 ≡ 0 → i < last → y ≡ everySecond f (i + 1)
-    → sumFrom (sixteen f 1) (i / 16) ((last + 15) / 16 - i / 16) s ≡ S
-    → sumFrom (sixteen f 1) ((i + 16) / 16) ((last + 15) / 16 - (i + 16) / 16) (s ⊕ y) ≡ S
-odd-turn f last i s y S r h e w = sixteen-turn f 1 last i (i + 1) s y S refl r h e w
+pub odd-turn : (f : Row) (from rest i : ℕ) (s y S : Float) → i % 16 ≡ 0 → i < rest → rest % 16 ≡ 0 → y ≡ everySecond f (from + i + 1)
+    → sumFrom (sixteen f (from + 1)) (i / 16) (rest / 16 - i / 16) s ≡ S
+    → sumFrom (sixteen f (from + 1)) ((i + 16) / 16) (rest / 16 - (i + 16) / 16) (s ⊕ y) ≡ S
+odd-turn f from rest i s y S r h k e w = sixteen-turn f (from + 1) rest i (from + i + 1) s y S (omega arith) r h k e w
 
-pub long-end : (f : Row) (n i : ℕ) (s t a b : Float) → n - 16 ≤ i → i % 16 ≡ 0 → a ≡ everySecond f (n - 16) → b ≡ everySecond f (n - 16 + 1)
-    → sumFrom (sixteen f 0) (i / 16) ((n - 16 + 15) / 16 - i / 16) s ≡ sumFrom (sixteen f 0) 0 ((n - 16 + 15) / 16) a
-    → sumFrom (sixteen f 1) (i / 16) ((n - 16 + 15) / 16 - i / 16) t ≡ sumFrom (sixteen f 1) 0 ((n - 16 + 15) / 16) b → s ⊕ t ≡ longSum f n
+pub long-end : (f : Row) (n i : ℕ) (s t a b : Float) → (n - 1) / 16 * 16 ≤ i → a ≡ everySecond f 0 → b ≡ everySecond f 1
+    → sumFrom (sixteen f (n - (n - 1) / 16 * 16)) (i / 16) ((n - 1) / 16 * 16 / 16 - i / 16) s
+    ≡ sumFrom (sixteen f (n - (n - 1) / 16 * 16)) 0 ((n - 1) / 16 * 16 / 16) a
+    → sumFrom (sixteen f (n - (n - 1) / 16 * 16 + 1)) (i / 16) ((n - 1) / 16 * 16 / 16 - i / 16) t
+    ≡ sumFrom (sixteen f (n - (n - 1) / 16 * 16 + 1)) 0 ((n - 1) / 16 * 16 / 16) b
+    → s ⊕ t ≡ longSum f n
 unfolding longSum
-long-end f n i s t a b h r ea eb es et =
-    let m : ℕ = (n - 16 + 15) / 16 in
-    let all : m ≤ i / 16 = omega arith in
-    rw (← ea, ← eb, sum-end (sixteen f 0) m (i / 16) s _ all es, sum-end (sixteen f 1) m (i / 16) t _ all et)
+long-end f n i s t a b h ea eb es et =
+    let m : ℕ = (n - 1) / 16 in
+    let from : ℕ = n - m * 16 in
+    let count : m * 16 / 16 ≡ m = omega arith in
+    let all : m * 16 / 16 ≤ i / 16 = omega arith in
+    let even : s ≡ sumFrom (sixteen f from) 0 (m * 16 / 16) a = sum-end (sixteen f from) (m * 16 / 16) (i / 16) s _ all es in
+    let odd : t ≡ sumFrom (sixteen f (from + 1)) 0 (m * 16 / 16) b = sum-end (sixteen f (from + 1)) (m * 16 / 16) (i / 16) t _ all et in
+    rw (even, odd, count, ea, eb)
 
--- a term at an even place or at an odd one, p
+-- a term from place p on
 sixteen-term : (f : Row) (p m : ℕ) (s : Float) (k : ℕ) → isFinite (sumFrom (sixteen f p) 0 m s) ≡ true → k < 8 * m → isFinite (f (2 * k + p)) ≡ true
 unfolding sixteen
 sixteen-term f p m s k e h =
@@ -149,39 +154,39 @@ sixteen-term f p m s k e h =
 long-term : (f : Row) (n k : ℕ) → isFinite (longSum f n) ≡ true → 16 ≤ n → k < n → isFinite (f k) ≡ true
 unfolding longSum
 long-term f n k e h l =
-    let last : ℕ = n - 16 in
-    let m : ℕ = (last + 15) / 16 in
-    let even : isFinite (sumFrom (sixteen f 0) 0 m (everySecond f last)) ≡ true = plus-l _ _ e in
-    let odd : isFinite (sumFrom (sixteen f 1) 0 m (everySecond f (last + 1))) ≡ true = plus-r _ _ e in
-    test (ltb k last)
-    (λ t. let first : k < last = ltb-true k last t in
+    let m : ℕ = (n - 1) / 16 in
+    let from : ℕ = n - m * 16 in
+    let even : isFinite (sumFrom (sixteen f from) 0 m (everySecond f 0)) ≡ true = plus-l _ _ e in
+    let odd : isFinite (sumFrom (sixteen f (from + 1)) 0 m (everySecond f 1)) ≡ true = plus-r _ _ e in
+    test (ltb k 16)
+    (λ t. let first : k < 16 = ltb-true k 16 t in
     test (eqb (k % 2) 0)
     (λ b. let par : k % 2 ≡ 0 = eqb-true (k % 2) 0 b in
-    ap (λ (i : ℕ). isFinite (f i)) (omega arith) ∙ sixteen-term f 0 m _ (k / 2) even (omega arith))
+    ap (λ (i : ℕ). isFinite (f i)) (omega arith) ∙ eight-terms f 0 (sum-begin (sixteen f from) 0 m _ even) (k / 2) (omega arith))
     (λ b. let par : k % 2 ≡ 0 → ⊥ = eqb-false (k % 2) 0 b in
-    ap (λ (i : ℕ). isFinite (f i)) (omega arith) ∙ sixteen-term f 1 m _ (k / 2) odd (omega arith)))
-    (λ t. let later : last ≤ k = ltb-false k last t in
-    test (eqb ((k - last) % 2) 0)
-    (λ b. let par : (k - last) % 2 ≡ 0 = eqb-true ((k - last) % 2) 0 b in
-    ap (λ (i : ℕ). isFinite (f i)) (omega arith) ∙ eight-terms f last (sum-begin (sixteen f 0) 0 m _ even) ((k - last) / 2) (omega arith))
-    (λ b. let par : (k - last) % 2 ≡ 0 → ⊥ = eqb-false ((k - last) % 2) 0 b in
-    ap (λ (i : ℕ). isFinite (f i)) (omega arith) ∙ eight-terms f (last + 1) (sum-begin (sixteen f 1) 0 m _ odd) ((k - last) / 2) (omega arith)))
+    ap (λ (i : ℕ). isFinite (f i)) (omega arith) ∙ eight-terms f 1 (sum-begin (sixteen f (from + 1)) 0 m _ odd) (k / 2) (omega arith)))
+    (λ t. let later : 16 ≤ k = ltb-false k 16 t in
+    test (eqb ((k - from) % 2) 0)
+    (λ b. let par : (k - from) % 2 ≡ 0 = eqb-true ((k - from) % 2) 0 b in
+    ap (λ (i : ℕ). isFinite (f i)) (omega arith) ∙ sixteen-term f from m _ ((k - from) / 2) even (omega arith))
+    (λ b. let par : (k - from) % 2 ≡ 0 → ⊥ = eqb-false ((k - from) % 2) 0 b in
+    ap (λ (i : ℕ). isFinite (f i)) (omega arith) ∙ sixteen-term f (from + 1) m _ ((k - from) / 2) odd (omega arith)))
 
-sixteen-same : (f g : Row) (n p m : ℕ) (s : Float) → ((k : ℕ) → k < n → f k ≡ g k) → p < 2 → 16 * m ≤ n
+sixteen-same : (f g : Row) (n p m : ℕ) (s : Float) → ((k : ℕ) → k < n → f k ≡ g k) → 16 * m + p ≤ n + 1
     → sumFrom (sixteen f p) 0 m s ≡ sumFrom (sixteen g p) 0 m s
 unfolding sixteen
-sixteen-same f g n p m s h q l = sum-same (sixteen f p) (sixteen g p) 0 m s (λ k r. eight-same f g n (16 * (0 + k) + p) h (omega arith))
+sixteen-same f g n p m s h l = sum-same (sixteen f p) (sixteen g p) 0 m s (λ k r. eight-same f g n (16 * (0 + k) + p) h (omega arith))
 
 long-same : (f g : Row) (n : ℕ) → ((k : ℕ) → k < n → f k ≡ g k) → 16 ≤ n → longSum f n ≡ longSum g n
 unfolding longSum
 long-same f g n h l =
-    let last : ℕ = n - 16 in
-    let m : ℕ = (last + 15) / 16 in
+    let m : ℕ = (n - 1) / 16 in
+    let from : ℕ = n - m * 16 in
     rw (
-      eight-same f g n last h (omega arith),
-      eight-same f g n (last + 1) h (omega arith),
-      sixteen-same f g n 0 m _ h (omega arith) (omega arith),
-      sixteen-same f g n 1 m _ h (omega arith) (omega arith),
+      eight-same f g n 0 h (omega arith),
+      eight-same f g n 1 h (omega arith),
+      sixteen-same f g n from m _ h (omega arith),
+      sixteen-same f g n (from + 1) m _ h (omega arith),
     )
 
 -- ---- any sum of a column

@@ -26,17 +26,17 @@ finiteFrom f i n = everyFrom (λ k. isFinite (f k)) n i
 unfoldable pub everySecond : Row → ℕ → Float
 everySecond f i = ((f i ⊕ f (i + 2)) ⊕ (f (i + 4) ⊕ f (i + 6))) ⊕ ((f (i + 8) ⊕ f (i + 10)) ⊕ (f (i + 12) ⊕ f (i + 14)))
 
--- .. of the numbers at p, p + 2, .. of the sixteen with number t
+-- .. of every second number of the sixteen with number t, counted from place p
 unfoldable pub sixteen : Row → ℕ → ℕ → Float
 sixteen f p t = everySecond f (16 * t + p)
 
--- a sum of n numbers, sixteen or more: the last sixteen, and on top of them as many sixteens from the first number on as it takes to reach them. Where the
--- two meet a number is a term twice. Numbers at even and at odd places are added apart
+-- a sum of n numbers, sixteen or more: the first sixteen, and on top of them as many sixteens before the last number as it takes to reach them. Where the two
+-- meet a number is a term twice. Numbers at even and at odd places are added apart
 unfoldable pub longSum : Row → ℕ → Float
 longSum f n =
-    let last = n - 16 in
-    let m = (last + 15) / 16 in
-    sumFrom (sixteen f 0) 0 m (everySecond f last) ⊕ sumFrom (sixteen f 1) 0 m (everySecond f (last + 1))
+    let m = (n - 1) / 16 in
+    let from = n - m * 16 in
+    sumFrom (sixteen f from) 0 m (everySecond f 0) ⊕ sumFrom (sixteen f (from + 1)) 0 m (everySecond f 1)
 
 -- a sum in which each of n numbers is a term
 unfoldable pub sumOf : Row → ℕ → Float

@@ -144,20 +144,21 @@ fn every_second(xs: &[f64], i: usize) -> f64
         + ((xs[i + 8] + xs[i + 10]) + (xs[i + 12] + xs[i + 14]))
 }
 
-// A sum of sixteen numbers or more. The last sixteen come first, then sixteens from the first number on until they meet
-// them: where they do, numbers count twice, so that none is left over to be added by itself. Numbers at even and at odd
-// places are added apart, so that the machine adds two at a time.
+// A sum of sixteen numbers or more: the first sixteen, then the sixteens that end with the last number. Where the two meet
+// numbers count twice, so that none is left over to be added by itself. Numbers at even and at odd places are added apart,
+// so that the machine adds two at a time; columns end, and do not begin, where it reads two at a time best.
 fn long_sum(xs: &[f64]) -> f64
     requires { ⌜ 16 ≤ length (now xs) ⌝ }
     ensures { λ r. ⌜ r ≡ longSum (vec (now (xs .entry))) (length (now (xs .entry))) ⌝ }
 {
-    let last = xs.len() - 16;
-    let mut s = every_second(xs, last);
-    let mut t = every_second(xs, last + 1);
+    let rest = (xs.len() - 1) / 16 * 16;
+    let from = xs.len() - rest;
+    let mut s = every_second(xs, 0);
+    let mut t = every_second(xs, 1);
     let mut i = 0;
-    while i < last {
-        s = s + every_second(xs, i);
-        t = t + every_second(xs, i + 1);
+    while i < rest {
+        s = s + every_second(xs, from + i);
+        t = t + every_second(xs, from + i + 1);
         i += 16;
     }
     s + t

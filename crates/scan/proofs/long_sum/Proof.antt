@@ -12,21 +12,25 @@ use Rattle.scan.proofs.long_sum.Statement.{statement}
 use Rattle.scan.proofs.long_sum.Tie as tie
 
 abbrev Inv-loop : tie.InvT-loop
-Inv-loop xs last s₀ t₀ i₀ s t i =
-    (i % 16 ≡ 0) × (sumFrom (sixteen (vec xs) 0) (i / 16) ((last + 15) / 16 - i / 16) s ≡ sumFrom (sixteen (vec xs) 0) 0 ((last + 15) / 16) s₀)
-    × (sumFrom (sixteen (vec xs) 1) (i / 16) ((last + 15) / 16 - i / 16) t ≡ sumFrom (sixteen (vec xs) 1) 0 ((last + 15) / 16) t₀)
+Inv-loop xs rest from s₀ t₀ i₀ s t i =
+    (i % 16 ≡ 0) × (rest % 16 ≡ 0)
+    × (sumFrom (sixteen (vec xs) from) (i / 16) (rest / 16 - i / 16) s ≡ sumFrom (sixteen (vec xs) from) 0 (rest / 16) s₀)
+    × (sumFrom (sixteen (vec xs) (from + 1)) (i / 16) (rest / 16 - i / 16) t ≡ sumFrom (sixteen (vec xs) (from + 1)) 0 (rest / 16) t₀)
 
 abbrev μ-loop : tie.MeasureT-loop
-μ-loop xs last s₀ t₀ i₀ s t i = last - i
+μ-loop xs rest from s₀ t₀ i₀ s t i = rest - i
 
-sub-last : tie.Need-sub-last Inv-loop μ-loop
-sub-last c = omega arith
+sub-rest : tie.Need-sub-rest Inv-loop μ-loop
+sub-rest c = omega arith
+
+mul-rest : tie.Need-mul-rest Inv-loop μ-loop
+mul-rest c = omega arith
+
+sub-from : tie.Need-sub-from Inv-loop μ-loop
+sub-from c = omega arith
 
 every-second-requires : tie.Need-every-second-requires Inv-loop μ-loop
 every-second-requires c κs = omega arith
-
-add-every-second : tie.Need-add-every-second Inv-loop μ-loop
-add-every-second c = omega arith
 
 every-second-requires-2 : tie.Need-every-second-requires-2 Inv-loop μ-loop
 every-second-requires-2 c κs = omega arith
@@ -34,11 +38,17 @@ every-second-requires-2 c κs = omega arith
 loop-holds : tie.Need-loop-holds Inv-loop μ-loop
 loop-holds c = search (needs, sum-none)
 
+add-every-second : tie.Need-add-every-second Inv-loop μ-loop
+add-every-second c = omega arith
+
 every-second-requires-3 : tie.Need-every-second-requires-3 Inv-loop μ-loop
 every-second-requires-3 c κs = omega arith
 
 add-every-second-2 : tie.Need-add-every-second-2 Inv-loop μ-loop
 add-every-second-2 c = omega arith
+
+add-every-second-3 : tie.Need-add-every-second-3 Inv-loop μ-loop
+add-every-second-3 c = omega arith
 
 every-second-requires-4 : tie.Need-every-second-requires-4 Inv-loop μ-loop
 every-second-requires-4 c κs = omega arith
@@ -50,7 +60,7 @@ loop-less : tie.Need-loop-less Inv-loop μ-loop
 loop-less c = omega arith
 
 loop-again : tie.Need-loop-again Inv-loop μ-loop
-loop-again c = (omega arith, search (needs, even-turn), search (needs, odd-turn))
+loop-again c = (omega arith, omega arith, search (needs, even-turn), search (needs, odd-turn))
 
 returns : tie.Need-returns Inv-loop μ-loop
 returns c = search (needs, long-end)
@@ -61,13 +71,16 @@ long-sum-spec =
     (tie.spec
     Inv-loop
     μ-loop
-    sub-last
+    sub-rest
+    mul-rest
+    sub-from
     every-second-requires
-    add-every-second
     every-second-requires-2
     loop-holds
+    add-every-second
     every-second-requires-3
     add-every-second-2
+    add-every-second-3
     every-second-requires-4
     add-i
     loop-less
