@@ -8,8 +8,8 @@ use native.Mathlib.Omega.{arith}
 use borrow.Author.Tests.{lt-ltb, le-ltb, le-leb, lt-leb, eq-eqb, ne-eqb, ltb-true, ltb-false, leb-true, leb-false}
 use borrow.Rule.Slice.PartMut.{midOf, putMid}
 use lib.Dec.{ltb, leb}
-use lib.Ieee.{Float, nan}
-use lib.ListN.{length, replicate, getD-replicate}
+use lib.Ieee.{Float}
+use lib.ListN.{length}
 use Rattle.model.specs.Scalar.{_⊕_, _⊖_, _⊗_, zeroF}
 use Rattle.model.specs.Matrix.{Row, Mat, view, vec, within, withColumn, withPart}
 use Rattle.model.specs.Step.{Pivots}
@@ -50,14 +50,14 @@ lose-lent n xs ys zs j lo hi from start room u d h ly e =
     ))
     ∙ ap (λ (k : ℕ). withColumn (view n xs) j k hi (λ i. view n xs i j ⊖ vec zs (i - lo))) start
 
--- the sums are those of the matrix A, which has the same row j in the panel's columns, and began as +0.0
+-- the sums are those of the matrix A, which has the same row j in the panel's columns
 module _ (A P Q G : Mat) (x y : Row) (j kb w lo hi : ℕ) (row : (t : ℕ) → t < w → A j (kb + t) ≡ P j (kb + t))
-    (zero : (i : ℕ) → i < hi - lo → x i ≡ zeroF) (p : y ≡ withPart x 0 (hi - lo) (gathered x (rowsFrom lo G) (laterRow A j kb) 0 w)) where
+    (p : y ≡ withPart x 0 (hi - lo) (gathered zeroed (rowsFrom lo G) (laterRow A j kb) 0 w)) where
   sum-at : (i : ℕ) → lo ≤ i → i < hi → behind lo y i ≡ gathered zeroed G (laterRow P j kb) 0 w i
   unfolding behind gathered rowsFrom laterRow zeroed withPart
   sum-at i l h =
       ap (λ (f : Row). f (i - lo)) p
-      ∙ rw (le-leb 0 (i - lo) (omega arith), lt-ltb (i - lo) (hi - lo) (omega arith), zero (i - lo) (omega arith))
+      ∙ rw (le-leb 0 (i - lo) (omega arith), lt-ltb (i - lo) (hi - lo) (omega arith))
       (sum-same _ (λ t. G i t ⊗ P j (kb + t)) w 0 0 zeroF
       (λ k g. let e : lo + (i - lo) ≡ i = omega arith in let z : 0 + k ≡ k = omega arith in rw (e, z, row k g)))
 
@@ -162,32 +162,26 @@ rows-more a P Q G kb w c end lo mid hi g h l p q =
 
 -- ---- two columns, or one
 
-began : (n i : ℕ) → n ≤ 128 → i < n → vec (replicate 128 zeroF) i ≡ zeroF
-unfolding vec
-began n i h l = getD-replicate 128 i zeroF nan (omega arith)
-
-pub one-lost : (A Q G : Mat) (y : Row) (c e kb w lo hi : ℕ) → e ≡ c → hi ≤ lo + 128
-    → y ≡ withPart (vec (replicate 128 zeroF)) 0 (hi - lo) (gathered (vec (replicate 128 zeroF)) (rowsFrom lo G) (laterRow A c kb) 0 w)
+pub one-lost : (A Q G : Mat) (x y : Row) (c e kb w lo hi : ℕ) → e ≡ c → y ≡ withPart x 0 (hi - lo) (gathered zeroed (rowsFrom lo G) (laterRow A c kb) 0 w)
     → Q ≡ withColumn A c (max lo c) hi (lessEach (columnOf A c) (behind lo y)) → Q ≡ partDeferred A G kb w c (e + 1) lo hi
-one-lost A Q G y c e kb w lo hi s few p q =
-    rw s (column-lost A A Q G _ y c kb w lo hi (λ t h. refl) (λ i h. began (hi - lo) i (omega arith) h) p q)
+one-lost A Q G x y c e kb w lo hi s p q = rw s (column-lost A A Q G x y c kb w lo hi (λ t h. refl) p q)
 
 -- the second one's numbers are those from before the first one changed
-pub two-lost : (A R Q G : Mat) (y z : Row) (c e kb w lo hi : ℕ) → kb + w ≤ c → (c ≤ e) × (e ≤ c + 1) → (e ≡ c → ⊥) → hi ≤ lo + 128
-    → y ≡ withPart (vec (replicate 128 zeroF)) 0 (hi - lo) (gathered (vec (replicate 128 zeroF)) (rowsFrom lo G) (laterRow A c kb) 0 w)
-    → z ≡ withPart (vec (replicate 128 zeroF)) 0 (hi - lo) (gathered (vec (replicate 128 zeroF)) (rowsFrom lo G) (laterRow A e kb) 0 w)
+pub two-lost : (A R Q G : Mat) (x y u z : Row) (c e kb w lo hi : ℕ) → kb + w ≤ c → (c ≤ e) × (e ≤ c + 1) → (e ≡ c → ⊥)
+    → y ≡ withPart x 0 (hi - lo) (gathered zeroed (rowsFrom lo G) (laterRow A c kb) 0 w)
+    → z ≡ withPart u 0 (hi - lo) (gathered zeroed (rowsFrom lo G) (laterRow A e kb) 0 w)
     → R ≡ withColumn A c (max lo c) hi (lessEach (columnOf A c) (behind lo y)) → Q ≡ withColumn R e (max lo e) hi (lessEach (columnOf R e) (behind lo z))
     → Q ≡ partDeferred A G kb w c (e + 1) lo hi
-two-lost A R Q G y z c e kb w lo hi after next apart few p q r s =
+two-lost A R Q G x y u z c e kb w lo hi after next apart p q r s =
     let c1 : c + 1 ≡ e = omega arith in
-    let first : R ≡ partDeferred A G kb w c e lo hi = rw c1 at (one-lost A R G y c c kb w lo hi refl few p r) in
-    let same : (t : ℕ) → t < w → A e (kb + t) ≡ R e (kb + t) = λ t h. sym (ap (λ (M : Mat). M e (kb + t)) first ∙ before-part A G kb w c e lo hi e (kb + t) (omega arith)) in
-    columns-more A R Q G kb w c e (e + 1) lo hi after (omega arith) (omega arith) first
-    (column-lost A R Q G _ z e kb w lo hi same (λ i h. began (hi - lo) i (omega arith) h) q s)
+    let first : R ≡ partDeferred A G kb w c e lo hi = rw c1 at (one-lost A R G x y c c kb w lo hi refl p r) in
+    let same : (t : ℕ) → t < w → A e (kb + t) ≡ R e (kb + t) =
+    λ t h. sym (ap (λ (M : Mat). M e (kb + t)) first ∙ before-part A G kb w c e lo hi e (kb + t) (omega arith)) in
+    columns-more A R Q G kb w c e (e + 1) lo hi after (omega arith) (omega arith) first (column-lost A R Q G u z e kb w lo hi same q s)
 
-pub pair-pre : (n m kb ke c end e from lo hi glen len : ℕ) → ColumnsPre n m kb ke glen len → RowsPre n lo hi 128 → ke ≤ c → c < end → end ≡ min m hi
-    → from ≡ max lo c → e ≡ min (c + 1) (end - 1) → PairPre n c e kb (ke - kb) from hi 128 glen len
-pair-pre n m kb ke c end e from lo hi glen len h r l g s f t =
+pub pair-pre : (n m kb ke c end e from lo hi xlen ylen glen len : ℕ) → ColumnsPre n m kb ke glen len → RowsPre n lo hi xlen → RowsPre n lo hi ylen → ke ≤ c
+    → c < end → end ≡ min m hi → from ≡ max lo c → e ≡ min (c + 1) (end - 1) → PairPre n c e kb (ke - kb) from hi xlen ylen glen len
+pair-pre n m kb ke c end e from lo hi xlen ylen glen len h r q l g s f t =
     let k : kb + (ke - kb) ≡ ke = omega arith in
     let here : n + c * n ≤ len = col-in n m c len (h .panel) (omega arith) in
     let there : n + e * n ≤ len = col-in n m e len (h .panel) (omega arith) in
@@ -197,7 +191,8 @@ pair-pre n m kb ke c end e from lo hi glen len h r l g s f t =
       diagonal = (omega arith, omega arith);
       up = omega arith;
       rows = r .rows;
-      few = omega arith;
+      first = omega arith;
+      other = omega arith;
       column = here;
       second = there;
       out = h .out;

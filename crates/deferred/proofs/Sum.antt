@@ -14,7 +14,7 @@ use lib.Dec.{ltb, leb}
 use Rattle.model.specs.Scalar.{_⊕_, _⊗_}
 use Rattle.model.specs.Matrix.{Row, Mat, view, vec, withPart}
 use Rattle.model.specs.Panel.{sumFrom}
-use Rattle.grid.specs.Rules.{ahead, plusTimes, plusFour}
+use Rattle.grid.specs.Rules.{ahead, zeroed, plusTimes, plusFour}
 use Rattle.grid.proofs.Laws.{test, vec-part}
 use Rattle.grid.proofs.Rules.{plus-four-step}
 use Rattle.deferred.specs.Sums.{laterRow, rowsFrom, gathered, TermsPre, GatherPre}
@@ -106,40 +106,51 @@ four-terms x y gs a N lo n c kb t l0 l1 l2 l3 h e0 e1 e2 e3 p =
 
 -- ---- terms after terms
 
-gather-more : (x y z : Row) (G : Mat) (l : Row) (lo hi s m n : ℕ) → y ≡ withPart x lo hi (gathered x G l s m) → z ≡ withPart y lo hi (gathered y G l (s + m) n)
-    → z ≡ withPart x lo hi (gathered x G l s (m + n))
+gather-more : (b x y z : Row) (G : Mat) (l : Row) (lo hi s m n : ℕ) → y ≡ withPart x lo hi (gathered b G l s m)
+    → z ≡ withPart y lo hi (gathered y G l (s + m) n) → z ≡ withPart x lo hi (gathered b G l s (m + n))
 unfolding withPart gathered
-gather-more x y z G l lo hi s m n p q =
+gather-more b x y z G l lo hi s m n p q =
     q ∙ fun-ext λ i. let f : Row = λ t. G i t ⊗ l t in
     test (leb lo i && ltb i hi)
-    (λ b. let e : y i ≡ sumFrom f s m (x i) = ap (λ (r : Row). r i) p ∙ rw b in rw (b, e) (sym (sum-append f m n s (x i))))
-    (λ b. let e : y i ≡ x i = ap (λ (r : Row). r i) p ∙ rw b in rw (b, e))
+    (λ c. let e : y i ≡ sumFrom f s m (b i) = ap (λ (r : Row). r i) p ∙ rw c in rw (c, e) (sym (sum-append f m n s (b i))))
+    (λ c. let e : y i ≡ x i = ap (λ (r : Row). r i) p ∙ rw c in rw (c, e))
 
-gather-none : (x : Row) (G : Mat) (l : Row) (lo hi s : ℕ) → x ≡ withPart x lo hi (gathered x G l s 0)
-unfolding withPart gathered sumFrom
-gather-none x G l lo hi s = fun-ext λ i. test (leb lo i && ltb i hi) (λ b. rw b) (λ b. rw b)
+gather-none : (b : Row) (G : Mat) (l : Row) (s : ℕ) → b ≡ gathered b G l s 0
+unfolding gathered sumFrom
+gather-none b G l s = refl
 
 -- as the loops have it: from 0 in fours, from s in ones
 
+part-self : (x : Row) (lo hi : ℕ) → x ≡ withPart x lo hi x
+unfolding withPart
+part-self x lo hi = fun-ext λ i. test (leb lo i && ltb i hi) (λ c. rw c) (λ c. rw c)
+
 pub fours-none : (x : Row) (G : Mat) (l : Row) (lo hi : ℕ) → x ≡ withPart x lo hi (gathered x G l 0 0)
-fours-none x G l lo hi = gather-none x G l lo hi 0
+fours-none x G l lo hi = part-self x lo hi ∙ ap (λ (N : Row). withPart x lo hi N) (gather-none x G l 0)
 
 pub fours-step : (x y z : Row) (G : Mat) (l : Row) (lo hi t : ℕ) → y ≡ withPart x lo hi (gathered x G l 0 t) → z ≡ withPart y lo hi (gathered y G l t 4)
     → z ≡ withPart x lo hi (gathered x G l 0 (t + 4))
 fours-step x y z G l lo hi t p q =
     let e : t ≡ 0 + t = omega arith in
-    gather-more x y z G l lo hi 0 t 4 p (q ∙ ap (λ (s : ℕ). withPart y lo hi (gathered y G l s 4)) e)
+    gather-more x x y z G l lo hi 0 t 4 p (q ∙ ap (λ (s : ℕ). withPart y lo hi (gathered y G l s 4)) e)
+
+-- from +0.0
+pub fours-begun : (x y z : Row) (G : Mat) (l : Row) (lo hi t : ℕ) → y ≡ withPart x lo hi zeroed → z ≡ withPart y lo hi (gathered y G l 0 t)
+    → z ≡ withPart x lo hi (gathered zeroed G l 0 t)
+unfolding withPart gathered
+fours-begun x y z G l lo hi t p q = q ∙ rw p (fun-ext λ i. test (leb lo i && ltb i hi) (λ c. rw c) (λ c. rw c))
 
 pub ones-none : (x : Row) (G : Mat) (l : Row) (lo hi s : ℕ) → x ≡ withPart x lo hi (gathered x G l s (s - s))
 ones-none x G l lo hi s =
-    let e : 0 ≡ s - s = omega arith in gather-none x G l lo hi s ∙ ap (λ (n : ℕ). withPart x lo hi (gathered x G l s n)) e
+    let e : 0 ≡ s - s = omega arith in
+    part-self x lo hi ∙ ap (λ (N : Row). withPart x lo hi N) (gather-none x G l s) ∙ ap (λ (n : ℕ). withPart x lo hi (gathered x G l s n)) e
 
 pub ones-step : (x y z : Row) (G : Mat) (l : Row) (lo hi s t : ℕ) → s ≤ t → y ≡ withPart x lo hi (gathered x G l s (t - s))
     → z ≡ withPart y lo hi (gathered y G l t 1) → z ≡ withPart x lo hi (gathered x G l s (t + 1 - s))
 ones-step x y z G l lo hi s t h p q =
     let a : t ≡ s + (t - s) = omega arith in
     let b : t - s + 1 ≡ t + 1 - s = omega arith in
-    gather-more x y z G l lo hi s (t - s) 1 p (q ∙ ap (λ (k : ℕ). withPart y lo hi (gathered y G l k 1)) a)
+    gather-more x x y z G l lo hi s (t - s) 1 p (q ∙ ap (λ (k : ℕ). withPart y lo hi (gathered y G l k 1)) a)
     ∙ ap (λ (n : ℕ). withPart x lo hi (gathered x G l s n)) b
 
 pub ones-end : (x y : Row) (G : Mat) (l : Row) (lo hi s t w : ℕ) → t ≤ w → w ≤ t → y ≡ withPart x lo hi (gathered x G l s (t - s))
@@ -169,9 +180,9 @@ pub ones-pre : (n c kb w t lo m alen alen′ glen len : ℕ) → GatherPre n c k
 ones-pre n c kb w t lo m alen alen′ glen len h g e = terms-pre n c kb w t 1 lo m alen alen′ glen len h (omega arith) e
 
 -- fours, then ones
-pub sums-whole : (x y z : Row) (G : Mat) (l : Row) (lo hi s w : ℕ) → s ≤ w → y ≡ withPart x lo hi (gathered x G l 0 s)
-    → z ≡ withPart y lo hi (gathered y G l s (w - s)) → z ≡ withPart x lo hi (gathered x G l 0 w)
+pub sums-whole : (x y z : Row) (G : Mat) (l : Row) (lo hi s w : ℕ) → s ≤ w → y ≡ withPart x lo hi (gathered zeroed G l 0 s)
+    → z ≡ withPart y lo hi (gathered y G l s (w - s)) → z ≡ withPart x lo hi (gathered zeroed G l 0 w)
 sums-whole x y z G l lo hi s w h p q =
     let a : s ≡ 0 + s = omega arith in
     let b : s + (w - s) ≡ w = omega arith in
-    rw b at (gather-more x y z G l lo hi 0 s (w - s) p (q ∙ ap (λ (k : ℕ). withPart y lo hi (gathered y G l k (w - s))) a))
+    rw b at (gather-more zeroed x y z G l lo hi 0 s (w - s) p (q ∙ ap (λ (k : ℕ). withPart y lo hi (gathered y G l k (w - s))) a))

@@ -63,14 +63,15 @@ pub record LosePre (n j lo hi len slen : ℕ) : Type 0 where
   pub rows : hi ≤ n
   pub sums : hi ≤ lo + slen
 
--- columns c and e, which is c or the next, after the panel's, and in them at most `most` rows from lo on
-pub record PairPre (n c e kb w lo hi most glen len : ℕ) : Type 0 where
+-- columns c and e, which is c or the next, after the panel's, and in them rows lo up to hi, for each of which there are two sums
+pub record PairPre (n c e kb w lo hi xlen ylen glen len : ℕ) : Type 0 where
   pub after : kb + w ≤ c
   pub next : (c ≤ e) × (e ≤ c + 1)
   pub diagonal : (c ≤ lo) × (e < hi)
   pub up : lo ≤ hi
   pub rows : hi ≤ n
-  pub few : hi ≤ lo + most
+  pub first : hi ≤ lo + xlen
+  pub other : hi ≤ lo + ylen
   pub column : n + c * n ≤ len
   pub second : n + e * n ≤ len
   pub out : w * n ≤ glen
@@ -84,8 +85,8 @@ pub record ColumnsPre (n c kb ke glen len : ℕ) : Type 0 where
   pub panel : len ≡ n * c
   pub out : (ke - kb) * n ≤ glen
 
--- and at most `most` of their rows
-pub record RowsPre (n lo hi most : ℕ) : Type 0 where
+-- rows lo up to hi of n, at most as many as there are sums
+pub record RowsPre (n lo hi count : ℕ) : Type 0 where
   pub up : lo ≤ hi
   pub rows : hi ≤ n
-  pub few : hi ≤ lo + most
+  pub few : hi ≤ lo + count

@@ -15,7 +15,7 @@ mod sums;
 
 // How many rows are worked at a time: their sums are local arrays, and their part of L·D stays in the cache for all
 // later columns.
-const PART: usize = 128;
+const PART: usize = 256;
 
 fn smaller(a: usize, b: usize) -> usize
     ensures { λ r. ⌜ r ≡ min a b ⌝ }
@@ -52,9 +52,12 @@ fn lose(panel: &mut [f64], nrow: usize, j: usize, lo: usize, hi: usize, s: &[f64
 
 // Rows lo up to hi of columns c and e, each from its diagonal down, lose their sums. Both sums are there before either
 // column changes. Where e is c there is one column.
+// work: x and y, a number for each row, any on entry.
 fn defer_two(
     panel: &mut [f64],
     g: &[f64],
+    x: &mut [f64],
+    y: &mut [f64],
     nrow: usize,
     c: usize,
     e: usize,
@@ -63,25 +66,26 @@ fn defer_two(
     lo: usize,
     hi: usize,
 )
-    requires { ⌜ PairPre nrow c e kb w lo hi 128 (length (now g)) (length (now panel)) ⌝ }
+    requires { ⌜ PairPre nrow c e kb w lo hi (length (now x)) (length (now y)) (length (now g)) (length (now panel)) ⌝ }
     ensures { λ _. ⌜ view nrow (now (panel .exit))
         ≡ partDeferred (view nrow (now (panel .entry))) (view nrow (now (g .entry))) kb w c (e + 1) lo hi ⌝ }
 {
-    let mut x = [0.0; PART];
-    let mut y = [0.0; PART];
-    sums::both_sums(&mut x, &mut y, g, panel, nrow, c, e, kb, w, lo, hi - lo);
-    lose(panel, nrow, c, lo, hi, &x);
+    sums::both_sums(x, y, g, panel, nrow, c, e, kb, w, lo, hi - lo);
+    lose(panel, nrow, c, lo, hi, x);
     if e == c {
         return;
     }
-    lose(panel, nrow, e, lo, hi, &y);
+    lose(panel, nrow, e, lo, hi, y);
 }
 
 // Column c and, if it stands before end, the next lose their sums in rows lo up to hi. The answer is the first column
 // left.
+// work: x and y, as above.
 fn defer_next(
     panel: &mut [f64],
     g: &[f64],
+    x: &mut [f64],
+    y: &mut [f64],
     nrow: usize,
     ncol: usize,
     c: usize,
@@ -92,7 +96,8 @@ fn defer_next(
     hi: usize,
 ) -> usize
     requires { ⌜ ColumnsPre nrow ncol kb ke (length (now g)) (length (now panel)) ⌝ }
-    requires { ⌜ RowsPre nrow lo hi 128 ⌝ }
+    requires { ⌜ RowsPre nrow lo hi (length (now x)) ⌝ }
+    requires { ⌜ RowsPre nrow lo hi (length (now y)) ⌝ }
     requires { ⌜ (ke ≤ c) × (c < end) × (end ≡ min ncol hi) ⌝ }
     ensures { λ r. ⌜ view nrow (now (panel .exit))
         ≡ partDeferred (view nrow (now (panel .entry))) (view nrow (now (g .entry))) kb (ke - kb) c r lo hi ⌝ }
@@ -100,7 +105,7 @@ fn defer_next(
 {
     let from = larger(lo, c);
     let e = smaller(c + 1, end - 1);
-    defer_two(panel, g, nrow, c, e, kb, ke - kb, from, hi);
+    defer_two(panel, g, x, y, nrow, c, e, kb, ke - kb, from, hi);
     e + 1
 }
 
@@ -116,14 +121,16 @@ fn defer_rows(
     hi: usize,
 )
     requires { ⌜ ColumnsPre nrow ncol kb ke (length (now g)) (length (now panel)) ⌝ }
-    requires { ⌜ RowsPre nrow lo hi 128 ⌝ }
+    requires { ⌜ RowsPre nrow lo hi 256 ⌝ }
     ensures { λ _. ⌜ view nrow (now (panel .exit))
         ≡ partDeferred (view nrow (now (panel .entry))) (view nrow (now (g .entry))) kb (ke - kb) ke ncol lo hi ⌝ }
 {
+    let mut x = [0.0; PART];
+    let mut y = [0.0; PART];
     let end = smaller(ncol, hi);
     let mut c = ke;
     while c < end {
-        c = defer_next(panel, g, nrow, ncol, c, end, kb, ke, lo, hi);
+        c = defer_next(panel, g, &mut x, &mut y, nrow, ncol, c, end, kb, ke, lo, hi);
     }
 }
 

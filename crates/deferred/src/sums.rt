@@ -5,7 +5,7 @@ ghost use mathlib.Core.Path.{_≡_};
 ghost use Prim.Native.Nat.{_+_, _-_, _≤_};
 ghost use lib.ListN.{length};
 ghost use Rattle.model.specs.Matrix.{view, vec, withPart};
-ghost use Rattle.grid.specs.Rules.{ahead, plusFour};
+ghost use Rattle.grid.specs.Rules.{ahead, zeroed, plusFour};
 ghost use Rattle.deferred.specs.Sums.{laterRow, rowsFrom, gathered, FourPre, TermsPre, GatherPre};
 
 // (((x + g0·l0) + g1·l1) + g2·l2) + g3·l3, and the same of y with m0 to m3; the n numbers g0 begin at a of g, each of
@@ -120,6 +120,35 @@ fn gather_fours(
     t
 }
 
+// The same from +0.0.
+fn begin_by_fours(
+    x: &mut [f64],
+    y: &mut [f64],
+    g: &[f64],
+    panel: &[f64],
+    nrow: usize,
+    c: usize,
+    e: usize,
+    kb: usize,
+    w: usize,
+    lo: usize,
+    n: usize,
+) -> usize
+    requires { ⌜ GatherPre nrow c kb w lo n (length (now x)) (length (now g)) (length (now panel)) ⌝ }
+    requires { ⌜ GatherPre nrow e kb w lo n (length (now y)) (length (now g)) (length (now panel)) ⌝ }
+    ensures { λ t. ⌜ vec (now (x .exit))
+        ≡ withPart (vec (now (x .entry))) 0 n
+        (gathered zeroed (rowsFrom lo (view nrow (now (g .entry)))) (laterRow (view nrow (now (panel .entry))) c kb) 0 t) ⌝ }
+    ensures { λ t. ⌜ vec (now (y .exit))
+        ≡ withPart (vec (now (y .entry))) 0 n
+        (gathered zeroed (rowsFrom lo (view nrow (now (g .entry)))) (laterRow (view nrow (now (panel .entry))) e kb) 0 t) ⌝ }
+    ensures { λ t. ⌜ t ≤ w ⌝ }
+{
+    grid::columns::zero(x, 0, n);
+    grid::columns::zero(y, 0, n);
+    gather_fours(x, y, g, panel, nrow, c, e, kb, w, lo, n)
+}
+
 // The sums of one column gain the term of the panel's column t.
 fn add_one(
     x: &mut [f64],
@@ -169,7 +198,7 @@ fn gather_ones(
     }
 }
 
-// x and y gain the terms of all w columns of the panel, in their order: x those of column c, y those of column e.
+// From +0.0 over the w columns of the panel in their order: x the sums of column c, y those of column e.
 pub fn both_sums(
     x: &mut [f64],
     y: &mut [f64],
@@ -187,14 +216,12 @@ pub fn both_sums(
     requires { ⌜ GatherPre nrow e kb w lo n (length (now y)) (length (now g)) (length (now panel)) ⌝ }
     ensures { λ _. ⌜ vec (now (x .exit))
         ≡ withPart (vec (now (x .entry))) 0 n
-        (gathered (vec (now (x .entry))) (rowsFrom lo (view nrow (now (g .entry))))
-        (laterRow (view nrow (now (panel .entry))) c kb) 0 w) ⌝ }
+        (gathered zeroed (rowsFrom lo (view nrow (now (g .entry)))) (laterRow (view nrow (now (panel .entry))) c kb) 0 w) ⌝ }
     ensures { λ _. ⌜ vec (now (y .exit))
         ≡ withPart (vec (now (y .entry))) 0 n
-        (gathered (vec (now (y .entry))) (rowsFrom lo (view nrow (now (g .entry))))
-        (laterRow (view nrow (now (panel .entry))) e kb) 0 w) ⌝ }
+        (gathered zeroed (rowsFrom lo (view nrow (now (g .entry)))) (laterRow (view nrow (now (panel .entry))) e kb) 0 w) ⌝ }
 {
-    let s = gather_fours(x, y, g, panel, nrow, c, e, kb, w, lo, n);
+    let s = begin_by_fours(x, y, g, panel, nrow, c, e, kb, w, lo, n);
     gather_ones(x, g, panel, nrow, c, kb, s, w, lo, n);
     gather_ones(y, g, panel, nrow, e, kb, s, w, lo, n);
 }

@@ -28,6 +28,12 @@ add-result c = search needs
 same-length : tie.Need-same-length
 same-length c = search needs
 
+same-length-2 : tie.Need-same-length-2
+same-length-2 c = search needs
+
+same-length-3 : tie.Need-same-length-3
+same-length-3 c = search needs
+
 returns : tie.Need-returns
 returns c = (search from-diagonal, search needs)
 
@@ -43,4 +49,6 @@ defer-next-spec =
     defer-two-requires
     add-result
     same-length
+    same-length-2
+    same-length-3
     returns)

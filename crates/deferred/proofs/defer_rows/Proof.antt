@@ -6,32 +6,37 @@ use borrow.Author.Needs.{needs}
 use Rattle.model.specs.Matrix.{view}
 use Rattle.deferred.specs.Sums.{partDeferred}
 use Rattle.deferred.proofs.Columns.{columns-none, columns-still, columns-step, columns-end}
-use borrow.Author.Needs.{needs}
 use Rattle.deferred.proofs.defer_rows.Statement.{statement}
 use Rattle.deferred.proofs.defer_rows.Tie as tie
 
 abbrev Inv-loop : tie.InvT-loop
-Inv-loop panel₀ g nrow ncol kb ke lo hi end c₀ panel c =
-    (ke ≤ c) × (c ≤ ncol) × (length panel ≡ length panel₀)
+Inv-loop panel₀ g nrow ncol kb ke lo hi x₀ y₀ end c₀ panel x y c =
+    (ke ≤ c) × (c ≤ ncol) × (length panel ≡ length panel₀) × (length x ≡ 256) × (length y ≡ 256)
     × (view nrow panel ≡ partDeferred (view nrow panel₀) (view nrow g) kb (ke - kb) ke c lo hi)
 
 abbrev μ-loop : tie.MeasureT-loop
-μ-loop panel₀ g nrow ncol kb ke lo hi end c₀ panel c = end - c
+μ-loop panel₀ g nrow ncol kb ke lo hi x₀ y₀ end c₀ panel x y c = end - c
 
 smaller-requires : tie.Need-smaller-requires Inv-loop μ-loop
 smaller-requires c κs = search needs
 
 loop-holds : tie.Need-loop-holds Inv-loop μ-loop
-loop-holds c = (search needs, search needs, search needs, search columns-none)
+loop-holds c = (search needs, search needs, search needs, search needs, search needs, search columns-none)
+
+slice-aggregate-defer-next : tie.Need-slice-aggregate-defer-next Inv-loop μ-loop
+slice-aggregate-defer-next c = search needs
+
+slice-aggregate-defer-next-2 : tie.Need-slice-aggregate-defer-next-2 Inv-loop μ-loop
+slice-aggregate-defer-next-2 c = search needs
 
 defer-next-requires : tie.Need-defer-next-requires Inv-loop μ-loop
-defer-next-requires c κs = (search columns-still, (search needs, search needs))
+defer-next-requires c κs = (search columns-still, (search needs, (search needs, search needs)))
 
 loop-less : tie.Need-loop-less Inv-loop μ-loop
 loop-less c = search needs
 
 loop-again : tie.Need-loop-again Inv-loop μ-loop
-loop-again c = (search needs, search needs, search needs, search columns-step)
+loop-again c = (search needs, search needs, search needs, search needs, search needs, search columns-step)
 
 same-length : tie.Need-same-length Inv-loop μ-loop
 same-length c = search needs
@@ -47,6 +52,8 @@ defer-rows-spec =
     μ-loop
     smaller-requires
     loop-holds
+    slice-aggregate-defer-next
+    slice-aggregate-defer-next-2
     defer-next-requires
     loop-less
     loop-again

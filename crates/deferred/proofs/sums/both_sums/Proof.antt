@@ -4,8 +4,8 @@ use borrow.Author.Needs.{needs}
 use Rattle.deferred.proofs.sums.both_sums.Statement.{statement}
 use Rattle.deferred.proofs.sums.both_sums.Tie as tie
 
-gather-fours-requires : tie.Need-gather-fours-requires
-gather-fours-requires c κs = search needs
+begin-by-fours-requires : tie.Need-begin-by-fours-requires
+begin-by-fours-requires c κs = search needs
 
 gather-ones-requires : tie.Need-gather-ones-requires
 gather-ones-requires c κs = search needs
@@ -26,7 +26,7 @@ pub both-sums-spec : {M : Type 1} → statement M
 both-sums-spec =
     tie.close
     (tie.spec
-    gather-fours-requires
+    begin-by-fours-requires
     gather-ones-requires
     gather-ones-requires-2
     same-length
