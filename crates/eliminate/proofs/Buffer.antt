@@ -77,7 +77,7 @@ unfolding times columnOf
 keep-one-lent nb n xs ys zs kb ke c lo r pre h ly e =
     let above = pre .above in
     ap (λ (B : Mat). inPanel kb ke B)
-    (column-lent nb xs ys (c - kb) (lo - kb) (ke - kb) _ _ (λ a. view n zs (a + kb) c ⊗ r) (pre .col) (omega (arith, pre .up)) (omega (arith, pre .width)) ly e
+    (column-lent nb xs ys (c - kb) (lo - kb) (ke - kb) _ _ (λ a. view n zs (a + kb) c ⊗ r) (omega (arith, pre .col, pre .width)) (omega (arith, pre .up)) (omega (arith, pre .width)) ly e
     (λ t l. rw (column-at n zs c lo ke t h (omega arith), shift lo kb t above)))
     ∙ kept-column kb ke (view nb xs) c lo _ _ (pre .from) (pre .here) above (λ a g m. ap (λ (x : ℕ). view n zs x c ⊗ r) (omega arith))
 
@@ -105,7 +105,7 @@ unfolding combined columnOf
 keep-two-lent nb n xs ys zs kb ke c t lo p q r pre h ly e =
     let above = pre .above in
     ap (λ (B : Mat). inPanel kb ke B)
-    (column-lent nb xs ys (c - kb) (lo - kb) (ke - kb) _ _ (λ a. (p ⊗ view n zs (a + kb) c ⊖ q ⊗ view n zs (a + kb) t) ⊗ r) (pre .col)
+    (column-lent nb xs ys (c - kb) (lo - kb) (ke - kb) _ _ (λ a. (p ⊗ view n zs (a + kb) c ⊖ q ⊗ view n zs (a + kb) t) ⊗ r) (omega (arith, pre .col, pre .width))
     (omega (arith, pre .up)) (omega (arith, pre .width)) ly e
     (λ i l. rw (column-at n zs c lo ke i h (omega arith), column-at n zs t lo ke i h (omega arith), shift lo kb i above)))
     ∙ kept-column kb ke (view nb xs) c lo _ _ (pre .from) (pre .here) above

@@ -3,7 +3,7 @@ use Prim.Native.Nat.{ℕ, _+_, _-_, _*_, _<_, _≤_}
 use mathlib.Core.Path.{_≡_, _∙_}
 use native.Mathlib.Omega.{arith}
 use Rattle.grid.specs.Grid.{In}
-use Rattle.grid.specs.Rules.{RowsPre, ExchangePre}
+use Rattle.grid.specs.Rules.{RowsPre}
 use Rattle.grid.proofs.Laws.{in-panel, col-in}
 use Rattle.eliminate.specs.Eliminate.{KeepPre, SourcePre}
 
@@ -34,9 +34,3 @@ source-pre-first n c ke k len e g f h = source-pre n c ke k len e g f (omega ari
 
 pub diagonal-in : (n c ke k len len′ : ℕ) → len ≡ n * c → c ≤ n → ke ≤ c → k < ke → len′ ≡ len → In n k k len′
 diagonal-in n c ke k len len′ e g f h l = in-panel n c k k len′ (omega arith) (omega arith) (omega arith)
-
--- ---- the rows below
-
-pub exchange-pre : (n c ke p q len : ℕ) → len ≡ n * c → c ≤ n → ke ≤ c → p < ke → q < ke → ExchangePre n p q ke n len
-exchange-pre n c ke p q len e g f h l =
-    record { one = col-in n c p len e (omega arith); other = col-in n c q len e (omega arith); up = omega arith; rows = omega arith }

@@ -7,14 +7,13 @@ use borrow.Author.Tests.{lt-ltb, le-ltb, le-leb, lt-leb, eq-eqb, ne-eqb, eqb-tru
 use lib.Dec.{ltb, leb, eqb}
 use lib.Ieee.{Float}
 use Rattle.model.specs.Scalar.{_⊗_, reciprocalOf}
-use Rattle.model.specs.Matrix.{Row, Mat, within, put, putAt, withColumn, exchangedPlace}
-use Rattle.model.specs.Step.{one, two, eliminated, rowAfterStep}
+use Rattle.model.specs.Matrix.{Row, Mat, within, put, putAt, withColumn}
+use Rattle.model.specs.Step.{one, two, eliminated}
 use Rattle.model.specs.Head.{headOne, headTwo, keptOne, keptTwo}
 use Rattle.model.specs.declared.Block.{Block}
-use Rattle.grid.specs.Rules.{columnOf, times, combined, columnsExchanged}
+use Rattle.grid.specs.Rules.{columnOf, times, combined}
 use Rattle.grid.proofs.Laws.{test, cmp, no}
-use Rattle.whole.specs.Whole.{below}
-use Rattle.whole.proofs.Masked.{within-before, within-past, ranged, one-alike, two-alike, headOne-in, headOne-diagonal, headOne-before, headOne-past}
+use Rattle.whole.proofs.Masked.{within-before, within-past, one-alike, two-alike, headOne-in, headOne-diagonal, headOne-before, headOne-past}
 use Rattle.whole.proofs.Masked.{firsts, seconds, headTwo-in, headTwo-before, headTwo-past}
 use Rattle.eliminate.specs.Eliminate.{region, sweptOne, sweptTwo, appliedOne, appliedTwo}
 use Rattle.eliminate.proofs.Region.{region-row, sweep-one-source, sweep-two-source}
@@ -30,23 +29,6 @@ own-column c ke a h b =
     (λ e. rw (e, lt-ltb a ke h, le-leb a a (omega arith), lt-ltb a (a + 1) (omega arith)))
     (λ g. rw (lt-leb b a g, le-ltb b (a + 1) (omega arith), no (ltb b ke)))))
     (λ p. rw p)
-
--- and a row below all
-panel-column : (c ke a : ℕ) → ke ≤ a → (b : ℕ) → within c ke b && leb b a ≡ within c ke b
-panel-column c ke a h b =
-    test (leb c b)
-    (λ p. test (ltb b ke) (λ q. rw (p, q, le-leb b a (omega (arith, ltb-true b ke q)))) (λ q. rw (p, q)))
-    (λ p. rw p)
-
--- ---- exchanges, at a row within and at one without
-
-exchanged-in : (M E : Mat) (p q lo hi a b : ℕ) → E ≡ columnsExchanged M p q lo hi → within lo hi a ≡ true → E a b ≡ M a (exchangedPlace p q b)
-unfolding columnsExchanged
-exchanged-in M E p q lo hi a b e w = ap (λ (X : Mat). X a b) e ∙ rw w
-
-exchanged-out : (M E : Mat) (p q lo hi a b : ℕ) → E ≡ columnsExchanged M p q lo hi → within lo hi a ≡ false → E a b ≡ M a b
-unfolding columnsExchanged
-exchanged-out M E p q lo hi a b e w = ap (λ (X : Mat). X a b) e ∙ rw w
 
 -- ---- a 1x1
 
@@ -101,18 +83,6 @@ module _ (M I I′ : Mat) (k ke : ℕ) (d r : Float) (er : r ≡ reciprocalOf d)
 
       diagonal : (j : ℕ) → putAt P k k d k j ≡ put (M k) k d j
       diagonal j = rw (eq-eqb k k refl) (test (eqb j k) (λ x. rw x) (λ x. rw x (left k j (within-before (k + 1) ke k (omega arith)))))
-
--- the rows below
-pub one-below : (M E Q : Mat) (m : Row) (k kp ke n : ℕ) (d : Float) → E ≡ columnsExchanged M k kp ke n → Q ≡ appliedOne E m k ke ke n d
-    → Q ≡ below ke n (rowAfterStep ke (one k kp d m)) M
-unfolding below rowAfterStep
-one-below M E Q m k kp ke n d ee q =
-    fun-ext λ i. ranged ke n i
-    (λ h g w. rw w (fun-ext λ j. ap (λ (X : Mat). X i j) q
-    ∙ one-row E m k kp ke ke n d i j ke h g (panel-column (k + 1) ke i h j)
-    ∙ one-alike k kp kp ke d m m (E i) (λ b. M i (exchangedPlace k kp b)) j
-    (exchanged-in M E k kp ke n i k ee w) (exchanged-in M E k kp ke n i j ee w) (λ x y. refl)))
-    (λ w. rw w (fun-ext λ j. ap (λ (X : Mat). X i j) q ∙ one-out E m k ke ke n d i j w ∙ exchanged-out M E k kp ke n i j ee w))
 
 -- ---- a block
 
@@ -169,17 +139,3 @@ module _ (M : Mat) (k ke : ℕ) (b : Block) where
 
       second-at : (j : ℕ) → k + 1 < j → j < ke → I′ j (k + 1) ≡ seconds k b M j
       second-at j h g = ap (λ (X : Mat). X j (k + 1)) ei ∙ rw (eq-eqb (k + 1) (k + 1) refl, le-leb (k + 2) j (omega arith), lt-ltb j ke g)
-
--- the rows below
-pub two-below : (M E Q : Mat) (m1 m2 : Row) (k kp ke n : ℕ) (b : Block) → E ≡ columnsExchanged M (k + 1) kp ke n → Q ≡ appliedTwo E m1 m2 k ke ke n b
-    → Q ≡ below ke n (rowAfterStep ke (two k kp b m1 m2)) M
-unfolding below rowAfterStep
-two-below M E Q m1 m2 k kp ke n b ee q =
-    fun-ext λ i. ranged ke n i
-    (λ h g w. rw w (fun-ext λ j. ap (λ (X : Mat). X i j) q
-    ∙ two-row E m1 m2 k kp ke ke n b i j ke h g (panel-column (k + 2) ke i h j)
-    ∙ two-alike k kp kp ke b m1 m2 m1 m2 (E i) (λ c. M i (exchangedPlace (k + 1) kp c)) j
-    (exchanged-in M E (k + 1) kp ke n i k ee w) (exchanged-in M E (k + 1) kp ke n i (k + 1) ee w) (exchanged-in M E (k + 1) kp ke n i j ee w) (λ x y. refl)
-    (λ x y. refl)))
-    (λ w. rw w (fun-ext λ j.
-    ap (λ (X : Mat). X i j) q ∙ two-out E m1 m2 k ke ke n b i j w ∙ exchanged-out M E (k + 1) kp ke n i j ee w))

@@ -1,20 +1,17 @@
-// A pivot's elimination by columns: in the panel's own rows (head_one, head_two), and in the rows below the panel by
-// the multipliers that were kept (below_one, below_two). It works in place: the later columns lose the pivot's part
-// before its own columns become multipliers, so that no copy of them is needed. The contracts cite the model's row by
-// row definitions, over all rows and columns of the panel: a reader may rely on every number that they do not change
-// being left alone.
+// A pivot's elimination by columns in the panel's own rows; the multipliers are kept for the rows below. It works in
+// place: the later columns lose the pivot's part before its own columns become multipliers, so that no copy of them is
+// needed. The contracts cite the model's row by row definitions, over all rows and columns of the panel: a reader may
+// rely on every number that they do not change being left alone.
 use grid::columns;
 use model::Block;
 use model::Elim;
 use scalar::reciprocal;
 ghost use mathlib.Core.Path.{_≡_};
-ghost use Prim.Native.Nat.{_+_, _<_};
+ghost use Prim.Native.Nat.{_+_};
 ghost use lib.ListN.{length};
 ghost use Rattle.model.specs.Matrix.{view};
-ghost use Rattle.model.specs.Step.{one, two, rowAfterStep};
 ghost use Rattle.model.specs.Head.{headOne, headTwo, keptOne, keptTwo};
 ghost use Rattle.grid.specs.Rules.{columnOf};
-ghost use Rattle.whole.specs.Whole.{below};
 ghost use Rattle.eliminate.specs.Eliminate.{inPanel, appliedOne, appliedTwo, SweepPre, OnePre, TwoPre};
 
 mod kept;
@@ -138,58 +135,4 @@ pub fn head_two(
     let at = k.0;
     keep_block(mult, panel, nrow, ncol, nb, kb, ke, at, b);
     apply_two(panel, mult, nrow, ncol, nb, kb, ke, at, at + 2, ke, b);
-}
-
-// The rows from ke down after the 1x1 step at k that exchanged k and kp: the same exchange and elimination, by the
-// multipliers in column k of mult. Column k from row ke down is lent on with each later one, as the part of the panel
-// from ke + k·nrow on.
-// in: mult, d / in and out: panel
-// origin: src/numeric/ldlt/bunch_kaufman.rs, fn apply_bk_panel_trailing
-pub fn below_one(
-    panel: &mut [f64],
-    mult: &[f64],
-    nrow: usize,
-    ncol: usize,
-    nb: usize,
-    kb: usize,
-    ke: usize,
-    k: usize,
-    kp: usize,
-    d: f64,
-)
-    requires { ⌜ OnePre nrow ncol nb kb ke k (length (now panel)) (length (now mult)) ⌝ }
-    requires { ⌜ kp < ke ⌝ }
-    ensures { λ _. ⌜ view nrow (now (panel .exit))
-        ≡ below ke nrow (rowAfterStep ke (one k kp d (columnOf (inPanel kb ke (view nb (now (mult .entry)))) k)))
-        (view nrow (now (panel .entry))) ⌝ }
-{
-    columns::exchange(panel, nrow, k, kp, ke, nrow);
-    apply_one(panel, mult, nrow, ncol, nb, kb, ke, k, ke, nrow, d);
-}
-
-// The rows from ke down after the block step at k that exchanged k + 1 and kp, by the multipliers in columns k and
-// k + 1 of mult. Columns are lent on as in below_one.
-// in: mult, b / in and out: panel
-// origin: src/numeric/ldlt/bunch_kaufman.rs, fn apply_bk_panel_trailing
-pub fn below_two(
-    panel: &mut [f64],
-    mult: &[f64],
-    nrow: usize,
-    ncol: usize,
-    nb: usize,
-    kb: usize,
-    ke: usize,
-    k: usize,
-    kp: usize,
-    b: Block,
-)
-    requires { ⌜ TwoPre nrow ncol nb kb ke k (length (now panel)) (length (now mult)) ⌝ }
-    requires { ⌜ kp < ke ⌝ }
-    ensures { λ _. ⌜ view nrow (now (panel .exit))
-        ≡ below ke nrow (rowAfterStep ke
-        (two k kp b (columnOf (inPanel kb ke (view nb (now (mult .entry)))) k)
-        (columnOf (inPanel kb ke (view nb (now (mult .entry)))) (k + 1)))) (view nrow (now (panel .entry))) ⌝ }
-{
-    columns::exchange(panel, nrow, k + 1, kp, ke, nrow);
-    apply_two(panel, mult, nrow, ncol, nb, kb, ke, k, ke, nrow, b);
 }

@@ -76,7 +76,7 @@ back-at ys f N′ N lo hi a l g e same =
     ∙ ap N (omega arith))
 
 -- rows lo up to hi of column j, lent and written by the rule N′ of the part's own index: those rows by the rule N
-pub column-lent : (n : ℕ) (xs ys : List Float) (j lo hi : ℕ) (f N′ N : Row) → n + j * n ≤ length xs → lo ≤ hi → hi ≤ n
+pub column-lent : (n : ℕ) (xs ys : List Float) (j lo hi : ℕ) (f N′ N : Row) → hi + j * n ≤ length xs → lo ≤ hi → hi ≤ n
     → length ys ≡ length (columnPart n xs j lo hi) → vec ys ≡ withPart f 0 (hi - lo) N′ → ((t : ℕ) → t < hi - lo → N′ t ≡ N (lo + t))
     → view n (columnBack n xs j lo hi ys) ≡ withColumn (view n xs) j lo hi N
 unfolding view vec
@@ -106,7 +106,7 @@ pub plus-lent : (n : ℕ) (xs ys zs : List Float) (j lo hi : ℕ) (m : Float) �
 unfolding plusTimes columnOf
 plus-lent n xs ys zs j lo hi m u h g ly e = part-lent xs ys lo hi _ _ _ u g ly e (λ t l. rw (vec-part lo hi xs t l, column-at n zs j lo hi t h l))
 
-pub scale-lent : (n : ℕ) (xs ys : List Float) (j lo hi : ℕ) (r : Float) → n + j * n ≤ length xs → lo ≤ hi → hi ≤ n
+pub scale-lent : (n : ℕ) (xs ys : List Float) (j lo hi : ℕ) (r : Float) → hi + j * n ≤ length xs → lo ≤ hi → hi ≤ n
     → length ys ≡ length (columnPart n xs j lo hi)
     → vec ys ≡ withPart (vec (columnPart n xs j lo hi)) 0 (hi - lo) (times (vec (columnPart n xs j lo hi)) r)
     → view n (columnBack n xs j lo hi ys) ≡ withColumn (view n xs) j lo hi (times (columnOf (view n xs) j) r)
@@ -119,7 +119,7 @@ pub less-each-lent : (n : ℕ) (xs ys zs : List Float) (j lo hi : ℕ) → n + j
     → view n (columnBack n xs j lo hi ys) ≡ withColumn (view n xs) j lo hi (lessEach (columnOf (view n xs) j) (vec zs))
 unfolding lessEach columnOf
 less-each-lent n xs ys zs j lo hi room u h ly e =
-    column-lent n xs ys j lo hi _ _ _ room u h ly e (λ t l. rw (column-at n xs j lo hi t h l, vec-part lo hi zs t l))
+    column-lent n xs ys j lo hi _ _ _ (omega arith) u h ly e (λ t l. rw (column-at n xs j lo hi t h l, vec-part lo hi zs t l))
 
 -- columns j to j + 3, whose parts begin n apart
 pub plus-four-lent : (n : ℕ) (xs ys zs : List Float) (j lo hi : ℕ) (l0 l1 l2 l3 : Float) → lo ≤ hi → hi ≤ n → hi ≤ length xs
@@ -216,7 +216,7 @@ pub later-at : (n : ℕ) (xs : List Float) (k c lo e a s : ℕ) → a < n → lo
 unfolding vec view
 later-at n xs k c lo e a s h o l = rw (lt-ltb a n h) (vec-part (lo + k * n) e xs s l ∙ ap (λ (x : ℕ). getD xs x nan) o)
 
-later-lent : (n : ℕ) (xs ys : List Float) (k j lo hi : ℕ) (N′ N : Row) → n + j * n ≤ length xs → k * n ≤ j * n → lo ≤ hi → hi ≤ n
+later-lent : (n : ℕ) (xs ys : List Float) (k j lo hi : ℕ) (N′ N : Row) → hi + j * n ≤ length xs → k * n ≤ j * n → lo ≤ hi → hi ≤ n
     → length ys ≡ length (part xs (lo + k * n) (hi + j * n))
     → vec ys ≡ withPart (vec (part xs (lo + k * n) (hi + j * n))) (lo + j * n - (lo + k * n)) (lo + j * n - (lo + k * n) + (hi - lo)) N′
     → ((t : ℕ) → t < hi - lo → N′ (lo + j * n - (lo + k * n) + t) ≡ N (lo + t))
@@ -229,7 +229,7 @@ later-lent n xs ys k j lo hi N′ N room past u h ly e same =
     (λ a l g. ap N′ (omega arith) ∙ same (a - lo) (omega arith) ∙ ap N (omega arith))
 
 -- as the kernels read them, t rows past lo: column j itself, column k, and a later one, r places past column k
-module _ (n : ℕ) (xs : List Float) (k j lo hi : ℕ) (room : n + j * n ≤ length xs) (past : k * n + n ≤ j * n) (h : hi ≤ n) (t : ℕ) (l : t < hi - lo) where
+module _ (n : ℕ) (xs : List Float) (k j lo hi : ℕ) (room : hi + j * n ≤ length xs) (past : k * n + n ≤ j * n) (h : hi ≤ n) (t : ℕ) (l : t < hi - lo) where
   own-read : vec (part xs (lo + k * n) (hi + j * n)) (lo + j * n - (lo + k * n) + t) ≡ view n xs (lo + t) j
   own-read = later-at n xs k j lo (hi + j * n) (lo + t) _ (omega arith) (omega arith) (omega arith)
 
@@ -364,7 +364,7 @@ module _ (n : ℕ) (xs ys : List Float) (k lo hi : ℕ) (d11 d21 d22 r : Float) 
   two-lent : Row
   two-lent = vec (part xs (lo + k * n) (hi + k * n + n))
 
-  two-room : k * n + n + n ≤ length xs
+  two-room : hi + k * n + n ≤ length xs
   two-room = omega (arith, pre .col, add-mul k 1 n)
 
   first-at : (s a : ℕ) → lo ≤ a → a < hi → s ≡ a - lo → two-lent s ≡ view n xs a k
@@ -461,7 +461,7 @@ exchange-more M P p q lo i h e =
     (λ v. let l : a < i = ltb-true a i v in rw (v, lt-ltb a (i + 1) (omega arith)))
     (λ v. let l : i ≤ a = ltb-false a i v in rw (v, le-ltb a (i + 1) (omega (arith, eqb-false a i u))))))
 
-pub exchange-step : (M : Mat) (xs : List Float) (n len p q lo hi i : ℕ) → lo ≤ i → i < hi → hi ≤ n → n + p * n ≤ len → n + q * n ≤ len → length xs ≡ len
+pub exchange-step : (M : Mat) (xs : List Float) (n len p q lo hi i : ℕ) → lo ≤ i → i < hi → hi ≤ n → hi + p * n ≤ len → hi + q * n ≤ len → length xs ≡ len
     → view n xs ≡ columnsExchanged M p q lo i
     → view n (set (set xs (i + p * n) (getD xs (i + q * n) nan)) (i + q * n) (getD xs (i + p * n) nan)) ≡ columnsExchanged M p q lo (i + 1)
 exchange-step M xs n len p q lo hi i h l r fp fq m e =

@@ -119,21 +119,21 @@ pub record ColumnFourPre (n j lo hi len slen : ℕ) : Type 0 where
   pub rows : hi ≤ n
   pub places : hi ≤ slen
 
--- columns k and, past it, j
+-- columns k and, past it, j, each there as far as row hi: of a part of a panel that ends within a column, no more than that is asked
 pub record LaterPre (n k j lo hi len : ℕ) : Type 0 where
-  pub col : n + j * n ≤ len
+  pub col : hi + j * n ≤ len
   pub past : k < j
   pub up : lo ≤ hi
   pub rows : hi ≤ n
 
 -- rows lo up to hi of column j
 pub record RowsPre (n j lo hi len : ℕ) : Type 0 where
-  pub col : n + j * n ≤ len
+  pub col : hi + j * n ≤ len
   pub up : lo ≤ hi
   pub rows : hi ≤ n
 
 pub record ExchangePre (n p q lo hi len : ℕ) : Type 0 where
-  pub one : n + p * n ≤ len
-  pub other : n + q * n ≤ len
+  pub one : hi + p * n ≤ len
+  pub other : hi + q * n ≤ len
   pub up : lo ≤ hi
   pub rows : hi ≤ n

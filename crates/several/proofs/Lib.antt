@@ -1,3 +1,3 @@
--- Laws of several runs of a slice, and of several columns of a panel.
+-- Laws of several runs of a slice, and of several columns of a part.
 pub mod Runs
 pub mod Columns

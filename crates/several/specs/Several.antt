@@ -34,21 +34,20 @@ fourLessTwo f p q a1 a2 b1 b2 c1 c2 d1 d2 u = twoFrom f p (q + u * p) (pick a1 b
 unfoldable pub twoLessThree : Row → ℕ → ℕ → Float → Float → Float → Float → Float → Float → ℕ → Row
 twoLessThree f p q a1 a2 a3 b1 b2 b3 u = threeFrom f p (q + u * p) (pick a1 b1 b1 b1 u) (pick a2 b2 b2 b2 u) (pick a3 b3 b3 b3 u)
 
--- ---- columns of a panel
+-- ---- columns of a part
 
 -- c columns from j on, rows lo up to hi, the u-th of them by the rule R u
 unfoldable pub columnsBy : Mat → ℕ → ℕ → ℕ → (ℕ → Row) → ℕ → Mat
 columnsBy M j lo hi R zero = M
 columnsBy M j lo hi R (suc c) = withColumn (columnsBy M j lo hi R c) (j + c) lo hi (R c)
 
--- four columns less columns k and k + 1, and two columns less columns k to k + 2
-unfoldable pub fourColumns : Mat → ℕ → ℕ → Float → Float → Float → Float → Float → Float → Float → Float → ℕ → Row
-fourColumns M k j a1 a2 b1 b2 c1 c2 d1 d2 u =
-    lessTwo (columnOf M (j + u)) (columnOf M k) (columnOf M (k + 1)) (pick a1 b1 c1 d1 u) (pick a2 b2 c2 d2 u)
+-- four columns less columns 0 and 1, and two columns less columns 0 to 2
+unfoldable pub fourColumns : Mat → ℕ → Float → Float → Float → Float → Float → Float → Float → Float → ℕ → Row
+fourColumns M j a1 a2 b1 b2 c1 c2 d1 d2 u = lessTwo (columnOf M (j + u)) (columnOf M 0) (columnOf M 1) (pick a1 b1 c1 d1 u) (pick a2 b2 c2 d2 u)
 
-unfoldable pub twoColumns : Mat → ℕ → ℕ → Float → Float → Float → Float → Float → Float → ℕ → Row
-twoColumns M k j a1 a2 a3 b1 b2 b3 u =
-    lessThree (columnOf M (j + u)) (columnOf M k) (columnOf M (k + 1)) (columnOf M (k + 2)) (pick a1 b1 b1 b1 u) (pick a2 b2 b2 b2 u) (pick a3 b3 b3 b3 u)
+unfoldable pub twoColumns : Mat → ℕ → Float → Float → Float → Float → Float → Float → ℕ → Row
+twoColumns M j a1 a2 a3 b1 b2 b3 u =
+    lessThree (columnOf M (j + u)) (columnOf M 0) (columnOf M 1) (columnOf M 2) (pick a1 b1 b1 b1 u) (pick a2 b2 b2 b2 u) (pick a3 b3 b3 b3 u)
 
 -- ---- what the functions ask
 
@@ -58,9 +57,8 @@ pub record RunsPre (n p r q z x : ℕ) : Type 0 where
   pub last : r + n ≤ q
   pub out : z + n ≤ x
 
--- columns k and, past it, j up to the last, e
-pub record ColumnsPre (n k j e lo hi len : ℕ) : Type 0 where
-  pub col : n + e * n ≤ len
-  pub past : k < j
-  pub up : lo ≤ hi
-  pub rows : hi ≤ n
+-- rows 0 up to `rows` of columns 0 to c and, past them, of j up to the last, e
+pub record ColumnsPre (n rows c j e len : ℕ) : Type 0 where
+  pub col : rows + e * n ≤ len
+  pub past : c < j
+  pub height : rows ≤ n

@@ -1,6 +1,6 @@
-// Several later columns of a panel, each less its own multiples of the same columns, in one pass: those are read once
-// for all of them. Each number keeps its operations and their order. What is lent to a kernel begins with the columns
-// that are read. A reader may rely on the contracts: no other number changes.
+// Several later columns of a part of a panel, each less its own multiples of the part's first columns, in one pass: those
+// are read once for all of them. Row i of column j stands at i + j·nrow. Each number keeps its operations and their
+// order. A reader may rely on the contracts: no other number changes.
 ghost use mathlib.Core.Path.{_≡_};
 ghost use Prim.Native.Nat.{_+_};
 ghost use lib.ListN.{length};
@@ -71,15 +71,13 @@ fn two_less_three(
     }
 }
 
-// Rows lo up to hi of columns j to j + 3 lose those of column k, then those of column k + 1, times their own
-// multipliers. Both stand before them.
+// The first `rows` rows of columns j to j + 3 lose those of column 0, then those of column 1, times their own
+// multipliers.
 pub fn less_two_of_four(
-    panel: &mut [f64],
+    part: &mut [f64],
     nrow: usize,
-    k: usize,
+    rows: usize,
     j: usize,
-    lo: usize,
-    hi: usize,
     a1: f64,
     a2: f64,
     b1: f64,
@@ -89,39 +87,20 @@ pub fn less_two_of_four(
     d1: f64,
     d2: f64,
 )
-    requires { ⌜ ColumnsPre nrow (k + 1) j (j + 3) lo hi (length (now panel)) ⌝ }
-    ensures { λ _. ⌜ view nrow (now (panel .exit))
-        ≡ columnsBy (view nrow (now (panel .entry))) j lo hi
-        (fourColumns (view nrow (now (panel .entry))) k j a1 a2 b1 b2 c1 c2 d1 d2) 4 ⌝ }
+    requires { ⌜ ColumnsPre nrow rows 1 j (j + 3) (length (now part)) ⌝ }
+    ensures { λ _. ⌜ view nrow (now (part .exit))
+        ≡ columnsBy (view nrow (now (part .entry))) j 0 rows
+        (fourColumns (view nrow (now (part .entry))) j a1 a2 b1 b2 c1 c2 d1 d2) 4 ⌝ }
 {
-    let a = lo + k * nrow;
-    let x = lo + j * nrow;
-    let e = hi + j * nrow + nrow + nrow + nrow;
-    four_less_two(
-        &mut panel[a..e],
-        nrow,
-        x - a,
-        hi - lo,
-        a1,
-        a2,
-        b1,
-        b2,
-        c1,
-        c2,
-        d1,
-        d2,
-    );
+    four_less_two(part, nrow, j * nrow, rows, a1, a2, b1, b2, c1, c2, d1, d2);
 }
 
-// Rows lo up to hi of columns j and j + 1 lose those of columns k, k + 1 and k + 2 in turn, times their own multipliers.
-// All three stand before them.
+// The first `rows` rows of columns j and j + 1 lose those of columns 0, 1 and 2 in turn, times their own multipliers.
 pub fn less_three_of_two(
-    panel: &mut [f64],
+    part: &mut [f64],
     nrow: usize,
-    k: usize,
+    rows: usize,
     j: usize,
-    lo: usize,
-    hi: usize,
     a1: f64,
     a2: f64,
     a3: f64,
@@ -129,24 +108,10 @@ pub fn less_three_of_two(
     b2: f64,
     b3: f64,
 )
-    requires { ⌜ ColumnsPre nrow (k + 2) j (j + 1) lo hi (length (now panel)) ⌝ }
-    ensures { λ _. ⌜ view nrow (now (panel .exit))
-        ≡ columnsBy (view nrow (now (panel .entry))) j lo hi
-        (twoColumns (view nrow (now (panel .entry))) k j a1 a2 a3 b1 b2 b3) 2 ⌝ }
+    requires { ⌜ ColumnsPre nrow rows 2 j (j + 1) (length (now part)) ⌝ }
+    ensures { λ _. ⌜ view nrow (now (part .exit))
+        ≡ columnsBy (view nrow (now (part .entry))) j 0 rows
+        (twoColumns (view nrow (now (part .entry))) j a1 a2 a3 b1 b2 b3) 2 ⌝ }
 {
-    let a = lo + k * nrow;
-    let x = lo + j * nrow;
-    let e = hi + j * nrow + nrow;
-    two_less_three(
-        &mut panel[a..e],
-        nrow,
-        x - a,
-        hi - lo,
-        a1,
-        a2,
-        a3,
-        b1,
-        b2,
-        b3,
-    );
+    two_less_three(part, nrow, j * nrow, rows, a1, a2, a3, b1, b2, b3);
 }
