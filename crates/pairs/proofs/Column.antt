@@ -1,6 +1,6 @@
 -- A column less the parts of one pivot or of two: what the grid's rules make of it is the rule by the pivots' kinds. Assumes nothing.
 use Prim.Native.Nat.{ℕ, _+_, _<_, _≤_}
-use mathlib.Core.Path.{_≡_, refl, sym, _∙_, ap, fun-ext}
+use mathlib.Core.Path.{_≡_, refl, _∙_, ap, fun-ext}
 use mathlib.Core.Bool.{Bool, true, false}
 use native.Mathlib.Omega.{arith}
 use lib.Ieee.{Float, eq}
@@ -12,23 +12,23 @@ use Rattle.pairs.specs.Pairs.{lessAt, stepped, steppedTwice}
 
 -- ---- where a pivot's columns stand
 
-pub last-from : (k : ℕ) (wide : Bool) → k ≤ lastOf k wide
+pub last-from : (k : ℕ) (block : Bool) → k ≤ lastOf k block
 unfolding lastOf
 last-from k true = omega arith
 last-from k false = omega arith
 
-pub last-within : (k : ℕ) (wide : Bool) → lastOf k wide ≤ k + 1
+pub last-within : (k : ℕ) (block : Bool) → lastOf k block ≤ k + 1
 unfolding lastOf
 last-within k true = omega arith
 last-within k false = omega arith
 
-pub wide-last : (k : ℕ) (wide : Bool) → wide ≡ true → lastOf k wide ≡ k + 1
+pub block-last : (k : ℕ) (block : Bool) → block ≡ true → lastOf k block ≡ k + 1
 unfolding lastOf
-wide-last k wide e = rw e
+block-last k block e = rw e
 
-pub single-last : (k : ℕ) (wide : Bool) → wide ≡ false → lastOf k wide ≡ k
+pub single-last : (k : ℕ) (block : Bool) → block ≡ false → lastOf k block ≡ k
 unfolding lastOf
-single-last k wide e = rw e
+single-last k block e = rw e
 
 -- what the grid asks, from what is asked by kind
 later-at : (n k k′ j lo hi len : ℕ) → LaterPre n k j lo hi len → k′ ≤ k → LaterPre n k′ j lo hi len
@@ -54,21 +54,21 @@ three-times f s t u m1 m2 m3 = refl
 
 -- ---- one pivot
 
-pub wide-pre : (n k j lo hi len : ℕ) (wide : Bool) → LaterPre n (lastOf k wide) j lo hi len → wide ≡ true → LaterPre n (k + 1) j lo hi len
-wide-pre n k j lo hi len wide h e = later-at n (lastOf k wide) (k + 1) j lo hi len h (omega (arith, wide-last k wide e))
+pub block-pre : (n j lo hi len : ℕ) (block : Bool) → LaterPre n (lastOf 0 block) j lo hi len → block ≡ true → LaterPre n 1 j lo hi len
+block-pre n j lo hi len block h e = later-at n (lastOf 0 block) 1 j lo hi len h (omega (arith, block-last 0 block e))
 
-pub single-pre : (n k j lo hi len : ℕ) (wide : Bool) → LaterPre n (lastOf k wide) j lo hi len → wide ≡ false → LaterPre n k j lo hi len
-single-pre n k j lo hi len wide h e = later-at n (lastOf k wide) k j lo hi len h (omega (arith, single-last k wide e))
+pub single-pre : (n j lo hi len : ℕ) (block : Bool) → LaterPre n (lastOf 0 block) j lo hi len → block ≡ false → LaterPre n 0 j lo hi len
+single-pre n j lo hi len block h e = later-at n (lastOf 0 block) 0 j lo hi len h (omega arith)
 
-pub step-wide : (M Q : Mat) (k j lo hi : ℕ) (m1 m2 : Float) (wide : Bool) → wide ≡ true
-    → Q ≡ withColumn M j lo hi (lessTwo (columnOf M j) (columnOf M k) (columnOf M (k + 1)) m1 m2) → Q ≡ withColumn M j lo hi (stepped wide M k j m1 m2)
+pub step-block : (M Q : Mat) (j lo hi : ℕ) (m1 m2 : Float) (block : Bool) → block ≡ true
+    → Q ≡ withColumn M j lo hi (lessTwo (columnOf M j) (columnOf M 0) (columnOf M 1) m1 m2) → Q ≡ withColumn M j lo hi (stepped block M 0 j m1 m2)
 unfolding stepped lessAt lessTwo columnOf
-step-wide M Q k j lo hi m1 m2 wide e q = q ∙ rw e
+step-block M Q j lo hi m1 m2 block e q = q ∙ rw e
 
-pub step-single : (M Q : Mat) (k j lo hi : ℕ) (m1 m2 : Float) (wide : Bool) → wide ≡ false
-    → Q ≡ withColumn M j lo hi (lessTimesIf (columnOf M j) (columnOf M k) m1) → Q ≡ withColumn M j lo hi (stepped wide M k j m1 m2)
+pub step-single : (M Q : Mat) (j lo hi : ℕ) (m1 m2 : Float) (block : Bool) → block ≡ false
+    → Q ≡ withColumn M j lo hi (lessTimesIf (columnOf M j) (columnOf M 0) m1) → Q ≡ withColumn M j lo hi (stepped block M 0 j m1 m2)
 unfolding stepped lessAt lessTimesIf columnOf
-step-single M Q k j lo hi m1 m2 wide e q = q ∙ rw e
+step-single M Q j lo hi m1 m2 block e q = q ∙ rw e
 
 -- ---- two pivots, where a multiplier of a 1x1 is zero and where it is none
 
@@ -83,6 +83,10 @@ module _ (M Q : Mat) (f s t : Row) (j lo hi : ℕ) (m1 m2 : Float) where
       → Q ≡ withColumn M j lo hi (lessTimesIf (lessTimesIf f s m1) t m2)
   singles-both e g q = q ∙ rw (apply f s m1 e, apply (lessTimes f s m1) t m2 g, two-times f s t m1 m2)
 
+  pub block-alone : (u : Row) (m3 : Float) → eq m1 zeroF ≡ true → Q ≡ withColumn M j lo hi (lessTwo f t u m2 m3)
+      → Q ≡ withColumn M j lo hi (lessTwo (lessTimesIf f s m1) t u m2 m3)
+  block-alone u m3 e q = q ∙ rw (skip f s m1 e)
+
   pub block-after : (u : Row) (m3 : Float) → eq m1 zeroF ≡ false → Q ≡ withColumn M j lo hi (lessThree f s t u m1 m2 m3)
       → Q ≡ withColumn M j lo hi (lessTwo (lessTimesIf f s m1) t u m2 m3)
   block-after u m3 e q = q ∙ rw (apply f s m1 e, three-times f s t u m1 m2 m3)
@@ -96,68 +100,48 @@ module _ (M Q : Mat) (f s t : Row) (j lo hi : ℕ) (m1 m2 : Float) where
   unfolding lessThree
   single-after u m3 e q = q ∙ rw (apply (lessTwo f s t m1 m2) u m3 e)
 
--- as the code names the block's second column
-pub block-alone : (M Q : Mat) (k j lo hi : ℕ) (m1 m2 m3 : Float) → eq m1 zeroF ≡ true
-    → Q ≡ withColumn M j lo hi (lessTwo (columnOf M j) (columnOf M (k + 1)) (columnOf M (k + 1 + 1)) m2 m3)
-    → Q ≡ withColumn M j lo hi (lessTwo (lessTimesIf (columnOf M j) (columnOf M k) m1) (columnOf M (k + 1)) (columnOf M (k + 2)) m2 m3)
-block-alone M Q k j lo hi m1 m2 m3 e q =
-    q ∙ ap (λ (z : ℕ). withColumn M j lo hi (lessTwo (columnOf M j) (columnOf M (k + 1)) (columnOf M z) m2 m3)) {y = k + 2} (omega arith)
-    ∙ rw (skip (columnOf M j) (columnOf M k) m1 e)
-
 -- ---- two pivots by their kinds
 
-module _ (wide other : Bool) (k l : ℕ) (next : l ≡ lastOf k wide + 1) where
-  blocks-at : wide ≡ true → l ≡ k + 2
-  blocks-at e = omega (arith, wide-last k wide e)
+module _ (block1 block2 : Bool) (l : ℕ) (next : l ≡ lastOf 0 block1 + 1) where
+  blocks-at : block1 ≡ true → l ≡ 2
+  blocks-at e = omega (arith, block-last 0 block1 e)
 
-  singles-at : wide ≡ false → l ≡ k + 1
-  singles-at e = omega (arith, single-last k wide e)
+  singles-at : block1 ≡ false → l ≡ 1
+  singles-at e = omega (arith, single-last 0 block1 e)
 
-  pub blocks-pre : (n j lo hi len : ℕ) → LaterPre n (lastOf l other) j lo hi len → wide ≡ true → other ≡ true → LaterPre n (k + 3) j lo hi len
-  blocks-pre n j lo hi len h e g = later-at n (lastOf l other) (k + 3) j lo hi len h (omega (arith, blocks-at e, wide-last l other g))
+  pub blocks-pre : (n j lo hi len : ℕ) → LaterPre n (lastOf l block2) j lo hi len → block1 ≡ true → block2 ≡ true → LaterPre n 3 j lo hi len
+  blocks-pre n j lo hi len h e g = later-at n (lastOf l block2) 3 j lo hi len h (omega (arith, blocks-at e, block-last l block2 g))
 
-  pub block-single-pre : (n j lo hi len : ℕ) → LaterPre n (lastOf l other) j lo hi len → wide ≡ true → LaterPre n (k + 2) j lo hi len
-  block-single-pre n j lo hi len h e = later-at n (lastOf l other) (k + 2) j lo hi len h (omega (arith, blocks-at e, last-from l other))
+  pub block-single-pre : (n j lo hi len : ℕ) → LaterPre n (lastOf l block2) j lo hi len → block1 ≡ true → LaterPre n 2 j lo hi len
+  block-single-pre n j lo hi len h e = later-at n (lastOf l block2) 2 j lo hi len h (omega (arith, blocks-at e, last-from l block2))
 
-  pub single-block-pre : (n j lo hi len : ℕ) → LaterPre n (lastOf l other) j lo hi len → wide ≡ false → other ≡ true → LaterPre n (k + 2) j lo hi len
-  single-block-pre n j lo hi len h e g = later-at n (lastOf l other) (k + 2) j lo hi len h (omega (arith, singles-at e, wide-last l other g))
+  pub single-block-pre : (n j lo hi len : ℕ) → LaterPre n (lastOf l block2) j lo hi len → block1 ≡ false → block2 ≡ true → LaterPre n 2 j lo hi len
+  single-block-pre n j lo hi len h e g = later-at n (lastOf l block2) 2 j lo hi len h (omega (arith, singles-at e, block-last l block2 g))
 
-  pub singles-pre : (n j lo hi len : ℕ) → LaterPre n (lastOf l other) j lo hi len → wide ≡ false → LaterPre n (k + 1) j lo hi len
-  singles-pre n j lo hi len h e = later-at n (lastOf l other) (k + 1) j lo hi len h (omega (arith, singles-at e, last-from l other))
+  pub singles-pre : (n j lo hi len : ℕ) → LaterPre n (lastOf l block2) j lo hi len → block1 ≡ false → LaterPre n 1 j lo hi len
+  singles-pre n j lo hi len h e = later-at n (lastOf l block2) 1 j lo hi len h (omega (arith, singles-at e, last-from l block2))
 
   module _ (M Q : Mat) (j lo hi : ℕ) (m1 m2 m3 m4 : Float) where
-    pub both-blocks : wide ≡ true → other ≡ true
-        → Q ≡ withColumn M j lo hi (lessFour (columnOf M j) (columnOf M k) (columnOf M (k + 1)) (columnOf M (k + 2)) (columnOf M (k + 3)) m1 m2 m3 m4)
-        → Q ≡ withColumn M j lo hi (steppedTwice wide other M k l j m1 m2 m3 m4)
+    pub both-blocks : block1 ≡ true → block2 ≡ true
+        → Q ≡ withColumn M j lo hi (lessFour (columnOf M j) (columnOf M 0) (columnOf M 1) (columnOf M 2) (columnOf M 3) m1 m2 m3 m4)
+        → Q ≡ withColumn M j lo hi (steppedTwice block1 block2 M 0 l j m1 m2 m3 m4)
     unfolding steppedTwice lessAt lessFour lessTwo columnOf
-    both-blocks e g q =
-        q
-        ∙ ap (λ (z : ℕ). withColumn M j lo hi (lessFour (columnOf M j) (columnOf M k) (columnOf M (k + 1)) (columnOf M z) (columnOf M (k + 3)) m1 m2 m3 m4))
-        {y = l} (omega (arith, blocks-at e))
-        ∙ ap (λ (z : ℕ). withColumn M j lo hi (lessFour (columnOf M j) (columnOf M k) (columnOf M (k + 1)) (columnOf M l) (columnOf M z) m1 m2 m3 m4))
-        {y = l + 1} (omega (arith, blocks-at e))
-        ∙ rw (e, g)
+    both-blocks e g q = q ∙ rw (e, g, blocks-at e)
 
-    pub block-then-single : wide ≡ true → other ≡ false
-        → Q ≡ withColumn M j lo hi (lessTimesIf (lessTwo (columnOf M j) (columnOf M k) (columnOf M (k + 1)) m1 m2) (columnOf M (k + 2)) m3)
-        → Q ≡ withColumn M j lo hi (steppedTwice wide other M k l j m1 m2 m3 m4)
+    pub block-then-single : block1 ≡ true → block2 ≡ false
+        → Q ≡ withColumn M j lo hi (lessTimesIf (lessTwo (columnOf M j) (columnOf M 0) (columnOf M 1) m1 m2) (columnOf M 2) m3)
+        → Q ≡ withColumn M j lo hi (steppedTwice block1 block2 M 0 l j m1 m2 m3 m4)
     unfolding steppedTwice lessAt lessTimesIf lessTwo columnOf
     block-then-single e g q = q ∙ rw (e, g, blocks-at e)
 
-    pub single-then-block : wide ≡ false → other ≡ true
-        → Q ≡ withColumn M j lo hi (lessTwo (lessTimesIf (columnOf M j) (columnOf M k) m1) (columnOf M (k + 1)) (columnOf M (k + 2)) m3 m4)
-        → Q ≡ withColumn M j lo hi (steppedTwice wide other M k l j m1 m2 m3 m4)
+    pub single-then-block : block1 ≡ false → block2 ≡ true
+        → Q ≡ withColumn M j lo hi (lessTwo (lessTimesIf (columnOf M j) (columnOf M 0) m1) (columnOf M 1) (columnOf M 2) m3 m4)
+        → Q ≡ withColumn M j lo hi (steppedTwice block1 block2 M 0 l j m1 m2 m3 m4)
     unfolding steppedTwice lessAt lessTimesIf lessTwo columnOf
-    single-then-block e g q =
-        q
-        ∙ ap (λ (z : ℕ). withColumn M j lo hi (lessTwo (lessTimesIf (columnOf M j) (columnOf M k) m1) (columnOf M z) (columnOf M (k + 2)) m3 m4))
-        {y = l} (omega (arith, singles-at e))
-        ∙ ap (λ (z : ℕ). withColumn M j lo hi (lessTwo (lessTimesIf (columnOf M j) (columnOf M k) m1) (columnOf M l) (columnOf M z) m3 m4))
-        {y = l + 1} (omega (arith, singles-at e))
-        ∙ rw (e, g)
+    single-then-block e g q = q ∙ rw (e, g, singles-at e)
 
-    pub both-singles : wide ≡ false → other ≡ false
-        → Q ≡ withColumn M j lo hi (lessTimesIf (lessTimesIf (columnOf M j) (columnOf M k) m1) (columnOf M (k + 1)) m3)
-        → Q ≡ withColumn M j lo hi (steppedTwice wide other M k l j m1 m2 m3 m4)
+    pub both-singles : block1 ≡ false → block2 ≡ false
+        → Q ≡ withColumn M j lo hi (lessTimesIf (lessTimesIf (columnOf M j) (columnOf M 0) m1) (columnOf M 1) m3)
+        → Q ≡ withColumn M j lo hi (steppedTwice block1 block2 M 0 l j m1 m2 m3 m4)
     unfolding steppedTwice lessAt lessTimesIf columnOf
     both-singles e g q = q ∙ rw (e, g, singles-at e)

@@ -1,5 +1,5 @@
 -- Several columns a turn: what they make is the sweep of both pivots over them, and a sweep goes on where one ended. Assumes nothing.
-use Prim.Native.Nat.{ℕ, zero, suc, _+_, _*_, _<_, _≤_}
+use Prim.Native.Nat.{ℕ, zero, suc, _+_, _<_, _≤_}
 use mathlib.Core.Path.{_≡_, refl, sym, _∙_, ap, fun-ext}
 use mathlib.Core.Bool.{Bool, true, false, not, _&&_, true≢false}
 use native.Mathlib.Omega.{arith}
@@ -11,12 +11,11 @@ use Rattle.model.specs.Head.{lastOf}
 use Rattle.model.proofs.Cases.{cmp, and-left, and-right}
 use Rattle.grid.specs.Rules.{columnOf, lessTimes, lessTwo, lessThree}
 use Rattle.grid.proofs.Laws.{withColumn-other, col-in}
-use Rattle.eliminate.specs.Eliminate.{region}
-use Rattle.eliminate.proofs.Region.{region-before}
 use Rattle.several.specs.Several.{pick, columnsBy, fourColumns, twoColumns, ColumnsPre}
-use Rattle.pairs.specs.Pairs.{lessAt, steppedTwice, sweptBoth, neitherZero, PairPre}
-use Rattle.pairs.proofs.Column.{last-from, wide-last, single-last}
-use Rattle.pairs.proofs.Sweeps.{less-same, both-none, both-step, both-end}
+use Rattle.pairs.specs.Pairs.{lessAt, steppedTwice, strip, sweptBoth, neitherZero, PairPre}
+use Rattle.pairs.specs.declared.Frame.{Frame}
+use Rattle.pairs.proofs.Column.{last-from, block-last, single-last}
+use Rattle.pairs.proofs.Sweeps.{placed, column-in, less-same, strip-before, both-none, both-step, both-end}
 
 -- ---- columns from j on
 
@@ -41,99 +40,96 @@ columns-same P j lo hi R S (suc c) h =
 
 -- ---- both pivots' parts, column by column
 
-module _ (wide other : Bool) (M I : Mat) (f kq k l : ℕ) where
+module _ (block1 block2 : Bool) (M I : Mat) (f kq k l : ℕ) where
   -- column b less both, by its multipliers
   abbrev bothAt : ℕ → Row
-  bothAt b = steppedTwice wide other M k l b (I (exchangedPlace f kq b) k) (I (exchangedPlace f kq b) (k + 1)) (I b l) (I b (l + 1))
+  bothAt b = steppedTwice block1 block2 M k l b (I (exchangedPlace f kq b) k) (I (exchangedPlace f kq b) (k + 1)) (I b l) (I b (l + 1))
 
 -- of a matrix with the same pivots' columns and the same column b
-both-at-same : (wide other : Bool) (M X I : Mat) (f kq k l j b : ℕ) → lastOf k wide < j → lastOf l other < j
+both-at-same : (block1 block2 : Bool) (M X I : Mat) (f kq k l j b : ℕ) → lastOf k block1 < j → lastOf l block2 < j
     → ((a z : ℕ) → z < j → X a z ≡ M a z) → ((a : ℕ) → X a b ≡ M a b)
-    → bothAt wide other M I f kq k l b ≡ bothAt wide other X I f kq k l b
+    → bothAt block1 block2 M I f kq k l b ≡ bothAt block1 block2 X I f kq k l b
 unfolding steppedTwice
-both-at-same wide other M X I f kq k l j b h o same here =
+both-at-same block1 block2 M X I f kq k l j b h o same here =
     fun-ext λ a.
-    less-same other (M a) (X a) l _ _ _ (λ z y w. sym (same a z (omega arith)))
-    ∙ ap (lessAt other (X a) l (I b l) (I b (l + 1)))
-    (less-same wide (M a) (X a) k _ _ _ (λ z y w. sym (same a z (omega arith))) ∙ rw (here a))
+    less-same block2 (M a) (X a) l _ _ _ (λ z y w. sym (same a z (omega arith)))
+    ∙ ap (lessAt block2 (X a) l (I b l) (I b (l + 1)))
+    (less-same block1 (M a) (X a) k _ _ _ (λ z y w. sym (same a z (omega arith))) ∙ rw (here a))
 
-both-columns : (wide other : Bool) (M I : Mat) (f kq k l j lo hi c : ℕ) → lastOf k wide < j → lastOf l other < j → j + c ≤ lo
-    → columnsBy M j lo hi (λ u. bothAt wide other M I f kq k l (j + u)) c ≡ sweptBoth wide other M I f kq k l j (j + c) lo hi
+both-columns : (block1 block2 : Bool) (M I : Mat) (f kq k l j lo hi c : ℕ) → lastOf k block1 < j → lastOf l block2 < j
+    → columnsBy M j lo hi (λ u. bothAt block1 block2 M I f kq k l (j + u)) c ≡ sweptBoth block1 block2 M I f kq k l j (j + c) lo hi
 unfolding columnsBy
-both-columns wide other M I f kq k l j lo hi zero h o g =
-    both-end wide other M M I f kq k l j j (j + 0) lo hi (omega arith) (omega arith) (both-none wide other M I f kq k l j lo hi)
-both-columns wide other M I f kq k l j lo hi (suc c) h o g =
-    let R : ℕ → Row = λ u. bothAt wide other M I f kq k l (j + u) in
+both-columns block1 block2 M I f kq k l j lo hi zero h o =
+    both-end block1 block2 M M I f kq k l j j (j + 0) lo hi (omega arith) (omega arith) (both-none block1 block2 M I f kq k l j lo hi)
+both-columns block1 block2 M I f kq k l j lo hi (suc c) h o =
+    let R : ℕ → Row = λ u. bothAt block1 block2 M I f kq k l (j + u) in
     let X : Mat = columnsBy M j lo hi R c in
-    let more : bothAt wide other M I f kq k l (j + c) ≡ bothAt wide other X I f kq k l (j + c) =
-    both-at-same wide other M X I f kq k l j (j + c) h o (λ a z y. columns-before M j lo hi R c a z y)
+    let more : bothAt block1 block2 M I f kq k l (j + c) ≡ bothAt block1 block2 X I f kq k l (j + c) =
+    both-at-same block1 block2 M X I f kq k l j (j + c) h o (λ a z y. columns-before M j lo hi R c a z y)
     (λ a. columns-past M j lo hi R c a (j + c) (omega arith)) in
-    both-end wide other M (columnsBy M j lo hi R (suc c)) I f kq k l j (j + c + 1) (j + suc c) lo hi (omega arith) (omega arith)
-    (both-step wide other M X (columnsBy M j lo hi R (suc c)) I f kq k l j (j + c) lo hi h o (omega arith) (omega arith)
-    (both-columns wide other M I f kq k l j lo hi c h o (omega arith)) (ap (withColumn X (j + c) lo hi) more))
+    both-end block1 block2 M (columnsBy M j lo hi R (suc c)) I f kq k l j (j + c + 1) (j + suc c) lo hi (omega arith) (omega arith)
+    (both-step block1 block2 M X (columnsBy M j lo hi R (suc c)) I f kq k l j (j + c) lo hi h o (omega arith)
+    (both-columns block1 block2 M I f kq k l j lo hi c h o) (ap (withColumn X (j + c) lo hi) more))
 
 -- ---- a sweep goes on
 
-region-join : (M P Q : Mat) (c j r lo hi : ℕ) (F : ℕ → ℕ → Float → Float) → c ≤ j → j ≤ r → P ≡ region M c j lo hi F → Q ≡ region P j r lo hi F
-    → Q ≡ region M c r lo hi F
-unfolding region
-region-join M P Q c j r lo hi F h g p q =
+strip-join : (M P Q : Mat) (c j r lo hi : ℕ) (F : ℕ → ℕ → Float → Float) → c ≤ j → j ≤ r → P ≡ strip M c j lo hi F → Q ≡ strip P j r lo hi F
+    → Q ≡ strip M c r lo hi F
+unfolding strip
+strip-join M P Q c j r lo hi F h g p q =
     q ∙ rw p (fun-ext λ a. fun-ext λ b.
     cmp b j
     (λ l. rw (lt-leb j b l, lt-ltb b j l, lt-ltb b r (omega arith)))
     (λ e. rw (le-leb j b (omega arith), le-ltb b j (omega arith), le-leb c b (omega arith)))
     (λ l. rw (le-leb j b (omega arith), le-ltb b j (omega arith), le-leb c b (omega arith))))
 
-pub both-join : (wide other : Bool) (M P Q I : Mat) (f kq k l c j r lo hi : ℕ) → lastOf k wide < c → lastOf l other < c → c ≤ j → j ≤ r
-    → P ≡ sweptBoth wide other M I f kq k l c j lo hi → Q ≡ sweptBoth wide other P I f kq k l j r lo hi
-    → Q ≡ sweptBoth wide other M I f kq k l c r lo hi
+pub both-join : (block1 block2 : Bool) (M P Q I : Mat) (f kq k l c j r lo hi : ℕ) → lastOf k block1 < c → lastOf l block2 < c → c ≤ j → j ≤ r
+    → P ≡ sweptBoth block1 block2 M I f kq k l c j lo hi → Q ≡ sweptBoth block1 block2 P I f kq k l j r lo hi
+    → Q ≡ sweptBoth block1 block2 M I f kq k l c r lo hi
 unfolding sweptBoth columnOf
-both-join wide other M P Q I f kq k l c j r lo hi h o g u p q =
-    let same : (a b : ℕ) → b < c → P a b ≡ M a b = λ a b z. ap (λ (r : ℕ → Float). r a) (region-before M P c j lo hi _ b z p) in
-    region-join M P Q c j r lo hi _ g u p
-    (q ∙ ap (region P j r lo hi) (fun-ext λ a. fun-ext λ b. fun-ext λ x. less-same other (P a) (M a) l _ _ _ (λ b y z. same a b (omega arith))
-    ∙ ap (lessAt other (M a) l (I b l) (I b (l + 1))) (less-same wide (P a) (M a) k _ _ _ (λ b y z. same a b (omega arith)))))
+both-join block1 block2 M P Q I f kq k l c j r lo hi h o g u p q =
+    let same : (a b : ℕ) → b < c → P a b ≡ M a b = λ a b z. ap (λ (r : ℕ → Float). r a) (strip-before M P c j lo hi _ b z p) in
+    strip-join M P Q c j r lo hi _ g u p
+    (q ∙ ap (strip P j r lo hi) (fun-ext λ a. fun-ext λ b. fun-ext λ x. less-same block2 (P a) (M a) l _ _ _ (λ b y z. same a b (omega arith))
+    ∙ ap (lessAt block2 (M a) l (I b l) (I b (l + 1))) (less-same block1 (P a) (M a) k _ _ _ (λ b y z. same a b (omega arith)))))
 
 -- one column, where none was passed before it
-pub both-more : (wide other : Bool) (M P Q I : Mat) (f kq k l j next lo hi : ℕ) → l ≡ lastOf k wide + 1 → f ≡ lastOf l other → f < j → j ≤ lo
-    → j ≤ next → next ≤ j → P ≡ sweptBoth wide other M I f kq k l j next lo hi
+pub both-more : (block1 block2 : Bool) (M P Q I : Mat) (f kq k l j next lo hi : ℕ) → l ≡ lastOf k block1 + 1 → f ≡ lastOf l block2 → f < j
+    → j ≤ next → next ≤ j → P ≡ sweptBoth block1 block2 M I f kq k l j next lo hi
     → Q
     ≡ withColumn P j lo hi
-    (steppedTwice wide other P k l j (I (exchangedPlace f kq j) k) (I (exchangedPlace f kq j) (k + 1)) (I j l) (I j (l + 1)))
-    → Q ≡ sweptBoth wide other M I f kq k l j (j + 1) lo hi
-both-more wide other M P Q I f kq k l j next lo hi e g h o u v p q =
-    both-step wide other M P Q I f kq k l j j lo hi (omega (arith, last-from l other)) (omega arith) (omega arith) o
-    (both-end wide other M P I f kq k l j next j lo hi v u p) q
+    (steppedTwice block1 block2 P k l j (I (exchangedPlace f kq j) k) (I (exchangedPlace f kq j) (k + 1)) (I j l) (I j (l + 1)))
+    → Q ≡ sweptBoth block1 block2 M I f kq k l j (j + 1) lo hi
+both-more block1 block2 M P Q I f kq k l j next lo hi e g h u v p q =
+    both-step block1 block2 M P Q I f kq k l j j lo hi (omega (arith, last-from l block2)) (omega arith) (omega arith)
+    (both-end block1 block2 M P I f kq k l j next j lo hi v u p) q
 
 -- ---- by the kinds
 
-pub pair-kinds : (wide other w o : Bool) (nrow ncol nb kb ke k l f kq len lenM : ℕ) → wide ≡ w → other ≡ o
-    → PairPre wide other nrow ncol nb kb ke k l f kq len lenM → PairPre w o nrow ncol nb kb ke k l f kq len lenM
-pair-kinds wide other w o nrow ncol nb kb ke k l f kq len lenM e g h = rw (e, g) at h
+pub pair-kinds : (block1 block2 w o : Bool) (at : Frame) (l f kq len lenM : ℕ) → block1 ≡ w → block2 ≡ o → PairPre block1 block2 at l f kq len lenM
+    → PairPre w o at l f kq len lenM
+pair-kinds block1 block2 w o at l f kq len lenM e g h = rw (e, g) at h
 
-pub both-kinds : (wide other w o : Bool) (M Q I : Mat) (f kq k l j r lo hi : ℕ) → wide ≡ w → other ≡ o
-    → Q ≡ sweptBoth w o M I f kq k l j r lo hi → Q ≡ sweptBoth wide other M I f kq k l j r lo hi
-both-kinds wide other w o M Q I f kq k l j r lo hi e g q = q ∙ rw (e, g)
+pub both-kinds : (block1 block2 w o : Bool) (M Q I : Mat) (f kq k l j r lo hi : ℕ) → block1 ≡ w → block2 ≡ o
+    → Q ≡ sweptBoth w o M I f kq k l j r lo hi → Q ≡ sweptBoth block1 block2 M I f kq k l j r lo hi
+both-kinds block1 block2 w o M Q I f kq k l j r lo hi e g q = q ∙ rw (e, g)
 
 -- ---- no multiplier of a 1x1 is zero
 
-singles-at : (M : Mat) (k l b : ℕ) (m1 m2 m3 m4 : Float) → l ≡ k + 1 → eq m1 zeroF ≡ false → eq m3 zeroF ≡ false
-    → lessTwo (columnOf M b) (columnOf M k) (columnOf M (k + 1)) m1 m3 ≡ steppedTwice false false M k l b m1 m2 m3 m4
+singles-at : (M : Mat) (l b : ℕ) (m1 m2 m3 m4 : Float) → l ≡ 1 → eq m1 zeroF ≡ false → eq m3 zeroF ≡ false
+    → lessTwo (columnOf M b) (columnOf M 0) (columnOf M 1) m1 m3 ≡ steppedTwice false false M 0 l b m1 m2 m3 m4
 unfolding lessTwo columnOf steppedTwice lessAt
-singles-at M k l b m1 m2 m3 m4 e h g = fun-ext λ a. rw (e, h, g)
+singles-at M l b m1 m2 m3 m4 e h g = fun-ext λ a. rw (e, h, g)
 
-single-block-at : (M : Mat) (k l b : ℕ) (m1 m2 m3 m4 : Float) → l ≡ k + 1 → eq m1 zeroF ≡ false
-    → lessThree (columnOf M b) (columnOf M k) (columnOf M (k + 1)) (columnOf M (k + 2)) m1 m3 m4 ≡ steppedTwice false true M k l b m1 m2 m3 m4
+single-block-at : (M : Mat) (l b : ℕ) (m1 m2 m3 m4 : Float) → l ≡ 1 → eq m1 zeroF ≡ false
+    → lessThree (columnOf M b) (columnOf M 0) (columnOf M 1) (columnOf M 2) m1 m3 m4 ≡ steppedTwice false true M 0 l b m1 m2 m3 m4
 unfolding lessThree lessTwo lessTimes columnOf steppedTwice lessAt
-single-block-at M k l b m1 m2 m3 m4 e h =
-    fun-ext λ a.
-    ap (λ (z : ℕ). ((M a b ⊖ M a k ⊗ m1) ⊖ M a (k + 1) ⊗ m3) ⊖ M a z ⊗ m4) {y = k + 1 + 1} (omega arith)
-    ∙ rw (e, h)
+single-block-at M l b m1 m2 m3 m4 e h = fun-ext λ a. rw (e, h)
 
-block-single-at : (M : Mat) (k l b : ℕ) (m1 m2 m3 m4 : Float) → l ≡ k + 2 → eq m3 zeroF ≡ false
-    → lessThree (columnOf M b) (columnOf M k) (columnOf M (k + 1)) (columnOf M (k + 2)) m1 m2 m3 ≡ steppedTwice true false M k l b m1 m2 m3 m4
+block-single-at : (M : Mat) (l b : ℕ) (m1 m2 m3 m4 : Float) → l ≡ 2 → eq m3 zeroF ≡ false
+    → lessThree (columnOf M b) (columnOf M 0) (columnOf M 1) (columnOf M 2) m1 m2 m3 ≡ steppedTwice true false M 0 l b m1 m2 m3 m4
 unfolding lessThree lessTwo lessTimes columnOf steppedTwice lessAt
-block-single-at M k l b m1 m2 m3 m4 e h = fun-ext λ a. rw (e, h)
+block-single-at M l b m1 m2 m3 m4 e h = fun-ext λ a. rw (e, h)
 
 not-true : (s : Bool) → not s ≡ true → s ≡ false
 not-true true h = absurd (true≢false (sym h))
@@ -150,26 +146,26 @@ neither-second a b h = not-true (eq b zeroF) (and-right (not (eq a zeroF)) (not 
 -- ---- by the multipliers that were read
 
 -- from the columns' rules to the sweep
-swept-by : (wide other : Bool) (M Q I : Mat) (f kq k l j lo hi c : ℕ) (R : ℕ → Row) → l ≡ lastOf k wide + 1 → f ≡ lastOf l other → f < j → j + c ≤ lo
-    → ((u : ℕ) → u < c → R u ≡ bothAt wide other M I f kq k l (j + u)) → Q ≡ columnsBy M j lo hi R c
-    → Q ≡ sweptBoth wide other M I f kq k l j (j + c) lo hi
-swept-by wide other M Q I f kq k l j lo hi c R e g h o each q =
-    q ∙ columns-same M j lo hi R (λ u. bothAt wide other M I f kq k l (j + u)) c each
-    ∙ both-columns wide other M I f kq k l j lo hi c (omega (arith, last-from l other)) (omega arith) o
+swept-by : (block1 block2 : Bool) (M Q I : Mat) (f kq k l j lo hi c : ℕ) (R : ℕ → Row) → l ≡ lastOf k block1 + 1 → f ≡ lastOf l block2 → f < j
+    → ((u : ℕ) → u < c → R u ≡ bothAt block1 block2 M I f kq k l (j + u)) → Q ≡ columnsBy M j lo hi R c
+    → Q ≡ sweptBoth block1 block2 M I f kq k l j (j + c) lo hi
+swept-by block1 block2 M Q I f kq k l j lo hi c R e g h each q =
+    q ∙ columns-same M j lo hi R (λ u. bothAt block1 block2 M I f kq k l (j + u)) c each
+    ∙ both-columns block1 block2 M I f kq k l j lo hi c (omega (arith, last-from l block2)) (omega arith)
 
-module _ (M I : Mat) (f kq k l j : ℕ) where
-  singles-rule : (b : ℕ) (m1 m3 : Float) → l ≡ lastOf k false + 1 → m1 ≡ I (exchangedPlace f kq b) k → m3 ≡ I b l → neitherZero m1 m3 ≡ true
-      → lessTwo (columnOf M b) (columnOf M k) (columnOf M (k + 1)) m1 m3 ≡ bothAt false false M I f kq k l b
+module _ (M I : Mat) (f kq l j : ℕ) where
+  singles-rule : (b : ℕ) (m1 m3 : Float) → l ≡ lastOf 0 false + 1 → m1 ≡ I (exchangedPlace f kq b) 0 → m3 ≡ I b l → neitherZero m1 m3 ≡ true
+      → lessTwo (columnOf M b) (columnOf M 0) (columnOf M 1) m1 m3 ≡ bothAt false false M I f kq 0 l b
   singles-rule b m1 m3 e e1 e3 z =
-      singles-at M k l b m1 (I (exchangedPlace f kq b) (k + 1)) m3 (I b (l + 1)) (omega (arith, single-last k false refl)) (neither-first m1 m3 z)
+      singles-at M l b m1 (I (exchangedPlace f kq b) 1) m3 (I b (l + 1)) (omega (arith, single-last 0 false refl)) (neither-first m1 m3 z)
       (neither-second m1 m3 z)
       ∙ rw (e1, e3)
 
-  four-rules : (a1 a2 b1 b2 c1 c2 d1 d2 : Float) → l ≡ lastOf k false + 1 → a1 ≡ I (exchangedPlace f kq j) k → a2 ≡ I j l
-      → b1 ≡ I (exchangedPlace f kq (j + 1)) k → b2 ≡ I (j + 1) l → c1 ≡ I (exchangedPlace f kq (j + 2)) k → c2 ≡ I (j + 2) l
-      → d1 ≡ I (exchangedPlace f kq (j + 3)) k → d2 ≡ I (j + 3) l
+  four-rules : (a1 a2 b1 b2 c1 c2 d1 d2 : Float) → l ≡ lastOf 0 false + 1 → a1 ≡ I (exchangedPlace f kq j) 0 → a2 ≡ I j l
+      → b1 ≡ I (exchangedPlace f kq (j + 1)) 0 → b2 ≡ I (j + 1) l → c1 ≡ I (exchangedPlace f kq (j + 2)) 0 → c2 ≡ I (j + 2) l
+      → d1 ≡ I (exchangedPlace f kq (j + 3)) 0 → d2 ≡ I (j + 3) l
       → neitherZero a1 a2 ≡ true → neitherZero b1 b2 ≡ true → neitherZero c1 c2 ≡ true → neitherZero d1 d2 ≡ true → (u : ℕ) → u < 4
-      → fourColumns M k j a1 a2 b1 b2 c1 c2 d1 d2 u ≡ bothAt false false M I f kq k l (j + u)
+      → fourColumns M j a1 a2 b1 b2 c1 c2 d1 d2 u ≡ bothAt false false M I f kq 0 l (j + u)
   unfolding fourColumns pick
   four-rules a1 a2 b1 b2 c1 c2 d1 d2 e ea1 ea2 eb1 eb2 ec1 ec2 ed1 ed2 za zb zc zd zero h =
       let at : j + 0 ≡ j = omega arith in rw at (singles-rule j a1 a2 e ea1 ea2 za)
@@ -178,79 +174,78 @@ module _ (M I : Mat) (f kq k l j : ℕ) where
   four-rules a1 a2 b1 b2 c1 c2 d1 d2 e ea1 ea2 eb1 eb2 ec1 ec2 ed1 ed2 za zb zc zd (suc (suc (suc zero))) h = singles-rule (j + 3) d1 d2 e ed1 ed2 zd
   four-rules a1 a2 b1 b2 c1 c2 d1 d2 e ea1 ea2 eb1 eb2 ec1 ec2 ed1 ed2 za zb zc zd (suc (suc (suc (suc u)))) h = absurd (omega arith)
 
-  single-block-rules : (a1 a2 a3 b1 b2 b3 : Float) → l ≡ lastOf k false + 1 → a1 ≡ I (exchangedPlace f kq j) k → a2 ≡ I j l → a3 ≡ I j (l + 1)
-      → b1 ≡ I (exchangedPlace f kq (j + 1)) k → b2 ≡ I (j + 1) l → b3 ≡ I (j + 1) (l + 1) → neitherZero a1 b1 ≡ true → (u : ℕ) → u < 2
-      → twoColumns M k j a1 a2 a3 b1 b2 b3 u ≡ bothAt false true M I f kq k l (j + u)
+  single-block-rules : (a1 a2 a3 b1 b2 b3 : Float) → l ≡ lastOf 0 false + 1 → a1 ≡ I (exchangedPlace f kq j) 0 → a2 ≡ I j l → a3 ≡ I j (l + 1)
+      → b1 ≡ I (exchangedPlace f kq (j + 1)) 0 → b2 ≡ I (j + 1) l → b3 ≡ I (j + 1) (l + 1) → neitherZero a1 b1 ≡ true → (u : ℕ) → u < 2
+      → twoColumns M j a1 a2 a3 b1 b2 b3 u ≡ bothAt false true M I f kq 0 l (j + u)
   unfolding twoColumns pick
   single-block-rules a1 a2 a3 b1 b2 b3 e ea1 ea2 ea3 eb1 eb2 eb3 z zero h =
       let at : j + 0 ≡ j = omega arith in
-      rw at (single-block-at M k l j a1 (I (exchangedPlace f kq j) (k + 1)) a2 a3 (omega (arith, single-last k false refl)) (neither-first a1 b1 z)
+      rw at (single-block-at M l j a1 (I (exchangedPlace f kq j) 1) a2 a3 (omega (arith, single-last 0 false refl)) (neither-first a1 b1 z)
       ∙ rw (ea1, ea2, ea3))
   single-block-rules a1 a2 a3 b1 b2 b3 e ea1 ea2 ea3 eb1 eb2 eb3 z (suc zero) h =
-      single-block-at M k l (j + 1) b1 (I (exchangedPlace f kq (j + 1)) (k + 1)) b2 b3 (omega (arith, single-last k false refl)) (neither-second a1 b1 z)
+      single-block-at M l (j + 1) b1 (I (exchangedPlace f kq (j + 1)) 1) b2 b3 (omega (arith, single-last 0 false refl)) (neither-second a1 b1 z)
       ∙ rw (eb1, eb2, eb3)
   single-block-rules a1 a2 a3 b1 b2 b3 e ea1 ea2 ea3 eb1 eb2 eb3 z (suc (suc u)) h = absurd (omega arith)
 
-  block-single-rules : (a1 a2 a3 b1 b2 b3 : Float) → l ≡ lastOf k true + 1 → a1 ≡ I (exchangedPlace f kq j) k → a2 ≡ I (exchangedPlace f kq j) (k + 1)
-      → a3 ≡ I j l → b1 ≡ I (exchangedPlace f kq (j + 1)) k → b2 ≡ I (exchangedPlace f kq (j + 1)) (k + 1) → b3 ≡ I (j + 1) l
+  block-single-rules : (a1 a2 a3 b1 b2 b3 : Float) → l ≡ lastOf 0 true + 1 → a1 ≡ I (exchangedPlace f kq j) 0 → a2 ≡ I (exchangedPlace f kq j) 1
+      → a3 ≡ I j l → b1 ≡ I (exchangedPlace f kq (j + 1)) 0 → b2 ≡ I (exchangedPlace f kq (j + 1)) 1 → b3 ≡ I (j + 1) l
       → neitherZero a3 b3 ≡ true → (u : ℕ) → u < 2
-      → twoColumns M k j a1 a2 a3 b1 b2 b3 u ≡ bothAt true false M I f kq k l (j + u)
+      → twoColumns M j a1 a2 a3 b1 b2 b3 u ≡ bothAt true false M I f kq 0 l (j + u)
   unfolding twoColumns pick
   block-single-rules a1 a2 a3 b1 b2 b3 e ea1 ea2 ea3 eb1 eb2 eb3 z zero h =
       let at : j + 0 ≡ j = omega arith in
-      rw at (block-single-at M k l j a1 a2 a3 (I j (l + 1)) (omega (arith, wide-last k true refl)) (neither-first a3 b3 z) ∙ rw (ea1, ea2, ea3))
+      rw at (block-single-at M l j a1 a2 a3 (I j (l + 1)) (omega (arith, block-last 0 true refl)) (neither-first a3 b3 z) ∙ rw (ea1, ea2, ea3))
   block-single-rules a1 a2 a3 b1 b2 b3 e ea1 ea2 ea3 eb1 eb2 eb3 z (suc zero) h =
-      block-single-at M k l (j + 1) b1 b2 b3 (I (j + 1) (l + 1)) (omega (arith, wide-last k true refl)) (neither-second a3 b3 z) ∙ rw (eb1, eb2, eb3)
+      block-single-at M l (j + 1) b1 b2 b3 (I (j + 1) (l + 1)) (omega (arith, block-last 0 true refl)) (neither-second a3 b3 z) ∙ rw (eb1, eb2, eb3)
   block-single-rules a1 a2 a3 b1 b2 b3 e ea1 ea2 ea3 eb1 eb2 eb3 z (suc (suc u)) h = absurd (omega arith)
 
-module _ (M Q I : Mat) (f kq k l j lo hi : ℕ) where
-  pub four-done : {a1 a2 b1 b2 c1 c2 d1 d2 : Float} {s t v w : Bool} → l ≡ lastOf k false + 1 → f ≡ lastOf l false → f < j → j + 4 ≤ lo
-      → a1 ≡ I (exchangedPlace f kq j) k → a2 ≡ I j l → b1 ≡ I (exchangedPlace f kq (j + 1)) k → b2 ≡ I (j + 1) l
-      → c1 ≡ I (exchangedPlace f kq (j + 2)) k → c2 ≡ I (j + 2) l → d1 ≡ I (exchangedPlace f kq (j + 3)) k → d2 ≡ I (j + 3) l
+module _ (M Q I : Mat) (f kq l j lo hi : ℕ) where
+  pub four-done : {a1 a2 b1 b2 c1 c2 d1 d2 : Float} {s t v w : Bool} → l ≡ lastOf 0 false + 1 → f ≡ lastOf l false → f < j
+      → a1 ≡ I (exchangedPlace f kq j) 0 → a2 ≡ I j l → b1 ≡ I (exchangedPlace f kq (j + 1)) 0 → b2 ≡ I (j + 1) l
+      → c1 ≡ I (exchangedPlace f kq (j + 2)) 0 → c2 ≡ I (j + 2) l → d1 ≡ I (exchangedPlace f kq (j + 3)) 0 → d2 ≡ I (j + 3) l
       → s ≡ neitherZero a1 a2 → t ≡ neitherZero b1 b2 → v ≡ neitherZero c1 c2 → w ≡ neitherZero d1 d2 → s && (t && (v && w)) ≡ true
-      → Q ≡ columnsBy M j lo hi (fourColumns M k j a1 a2 b1 b2 c1 c2 d1 d2) 4 → Q ≡ sweptBoth false false M I f kq k l j (j + 4) lo hi
-  four-done {a1} {a2} {b1} {b2} {c1} {c2} {d1} {d2} {s} {t} {v} {w} e g h o ea1 ea2 eb1 eb2 ec1 ec2 ed1 ed2 es et ev ew all q =
+      → Q ≡ columnsBy M j lo hi (fourColumns M j a1 a2 b1 b2 c1 c2 d1 d2) 4 → Q ≡ sweptBoth false false M I f kq 0 l j (j + 4) lo hi
+  four-done {a1} {a2} {b1} {b2} {c1} {c2} {d1} {d2} {s} {t} {v} {w} e g h ea1 ea2 eb1 eb2 ec1 ec2 ed1 ed2 es et ev ew all q =
       let rest : t && (v && w) ≡ true = and-right s (t && (v && w)) all in
       let last : v && w ≡ true = and-right t (v && w) rest in
-      swept-by false false M Q I f kq k l j lo hi 4 (fourColumns M k j a1 a2 b1 b2 c1 c2 d1 d2) e g h o
-      (four-rules M I f kq k l j a1 a2 b1 b2 c1 c2 d1 d2 e ea1 ea2 eb1 eb2 ec1 ec2 ed1 ed2
+      swept-by false false M Q I f kq 0 l j lo hi 4 (fourColumns M j a1 a2 b1 b2 c1 c2 d1 d2) e g h
+      (four-rules M I f kq l j a1 a2 b1 b2 c1 c2 d1 d2 e ea1 ea2 eb1 eb2 ec1 ec2 ed1 ed2
       (sym es ∙ and-left s (t && (v && w)) all) (sym et ∙ and-left t (v && w) rest)
       (sym ev ∙ and-left v w last) (sym ew ∙ and-right v w last)) q
 
-  pub single-block-done : {a1 a2 a3 b1 b2 b3 : Float} {s : Bool} → l ≡ lastOf k false + 1 → f ≡ lastOf l true → f < j → j + 2 ≤ lo
-      → a1 ≡ I (exchangedPlace f kq j) k → a2 ≡ I j l → a3 ≡ I j (l + 1)
-      → b1 ≡ I (exchangedPlace f kq (j + 1)) k → b2 ≡ I (j + 1) l → b3 ≡ I (j + 1) (l + 1) → s ≡ neitherZero a1 b1 → s ≡ true
-      → Q ≡ columnsBy M j lo hi (twoColumns M k j a1 a2 a3 b1 b2 b3) 2 → Q ≡ sweptBoth false true M I f kq k l j (j + 2) lo hi
-  single-block-done {a1} {a2} {a3} {b1} {b2} {b3} {s} e g h o ea1 ea2 ea3 eb1 eb2 eb3 es z q =
-      swept-by false true M Q I f kq k l j lo hi 2 (twoColumns M k j a1 a2 a3 b1 b2 b3) e g h o
-      (single-block-rules M I f kq k l j a1 a2 a3 b1 b2 b3 e ea1 ea2 ea3 eb1 eb2 eb3 (sym es ∙ z)) q
+  pub single-block-done : {a1 a2 a3 b1 b2 b3 : Float} {s : Bool} → l ≡ lastOf 0 false + 1 → f ≡ lastOf l true → f < j
+      → a1 ≡ I (exchangedPlace f kq j) 0 → a2 ≡ I j l → a3 ≡ I j (l + 1)
+      → b1 ≡ I (exchangedPlace f kq (j + 1)) 0 → b2 ≡ I (j + 1) l → b3 ≡ I (j + 1) (l + 1) → s ≡ neitherZero a1 b1 → s ≡ true
+      → Q ≡ columnsBy M j lo hi (twoColumns M j a1 a2 a3 b1 b2 b3) 2 → Q ≡ sweptBoth false true M I f kq 0 l j (j + 2) lo hi
+  single-block-done {a1} {a2} {a3} {b1} {b2} {b3} {s} e g h ea1 ea2 ea3 eb1 eb2 eb3 es z q =
+      swept-by false true M Q I f kq 0 l j lo hi 2 (twoColumns M j a1 a2 a3 b1 b2 b3) e g h
+      (single-block-rules M I f kq l j a1 a2 a3 b1 b2 b3 e ea1 ea2 ea3 eb1 eb2 eb3 (sym es ∙ z)) q
 
-  pub block-single-done : {a1 a2 a3 b1 b2 b3 : Float} {s : Bool} → l ≡ lastOf k true + 1 → f ≡ lastOf l false → f < j → j + 2 ≤ lo
-      → a1 ≡ I (exchangedPlace f kq j) k → a2 ≡ I (exchangedPlace f kq j) (k + 1) → a3 ≡ I j l → b1 ≡ I (exchangedPlace f kq (j + 1)) k
-      → b2 ≡ I (exchangedPlace f kq (j + 1)) (k + 1) → b3 ≡ I (j + 1) l → s ≡ neitherZero a3 b3 → s ≡ true
-      → Q ≡ columnsBy M j lo hi (twoColumns M k j a1 a2 a3 b1 b2 b3) 2 → Q ≡ sweptBoth true false M I f kq k l j (j + 2) lo hi
-  block-single-done {a1} {a2} {a3} {b1} {b2} {b3} {s} e g h o ea1 ea2 ea3 eb1 eb2 eb3 es z q =
-      swept-by true false M Q I f kq k l j lo hi 2 (twoColumns M k j a1 a2 a3 b1 b2 b3) e g h o
-      (block-single-rules M I f kq k l j a1 a2 a3 b1 b2 b3 e ea1 ea2 ea3 eb1 eb2 eb3 (sym es ∙ z)) q
+  pub block-single-done : {a1 a2 a3 b1 b2 b3 : Float} {s : Bool} → l ≡ lastOf 0 true + 1 → f ≡ lastOf l false → f < j
+      → a1 ≡ I (exchangedPlace f kq j) 0 → a2 ≡ I (exchangedPlace f kq j) 1 → a3 ≡ I j l → b1 ≡ I (exchangedPlace f kq (j + 1)) 0
+      → b2 ≡ I (exchangedPlace f kq (j + 1)) 1 → b3 ≡ I (j + 1) l → s ≡ neitherZero a3 b3 → s ≡ true
+      → Q ≡ columnsBy M j lo hi (twoColumns M j a1 a2 a3 b1 b2 b3) 2 → Q ≡ sweptBoth true false M I f kq 0 l j (j + 2) lo hi
+  block-single-done {a1} {a2} {a3} {b1} {b2} {b3} {s} e g h ea1 ea2 ea3 eb1 eb2 eb3 es z q =
+      swept-by true false M Q I f kq 0 l j lo hi 2 (twoColumns M j a1 a2 a3 b1 b2 b3) e g h
+      (block-single-rules M I f kq l j a1 a2 a3 b1 b2 b3 e ea1 ea2 ea3 eb1 eb2 eb3 (sym es ∙ z)) q
 
 -- ---- what the passes ask
 
-columns-pre : (nrow ncol ke k j c len : ℕ) → len ≡ nrow * ncol → ke ≤ ncol → ncol ≤ nrow → k < j → j + c < ke → ColumnsPre nrow k j (j + c) ke nrow len
-columns-pre nrow ncol ke k j c len size cols head h g =
-    record { col = col-in nrow ncol (j + c) len size (omega arith); past = h; up = omega arith; rows = omega arith }
+module _ {at : Frame} {l f kq j len lenM : ℕ} where
+  columns-pre : (block1 block2 : Bool) (c z : ℕ) → PairPre block1 block2 at l f kq len lenM → c ≤ f → f < j → j + z < at .columns
+      → ColumnsPre (at .nrow) (at .rows) c j (j + z) len
+  columns-pre block1 block2 c z pre u h g =
+      record { col = column-in (pre .frame) (j + z) g; past = omega arith; height = pre .frame .height }
 
-module _ {nrow ncol nb kb ke k l f kq j len lenM : ℕ} where
-  pub four-columns : PairPre false false nrow ncol nb kb ke k l f kq len lenM → f < j → j + 4 ≤ ke → ColumnsPre nrow (k + 1) j (j + 3) ke nrow len
-  four-columns pre h g =
-      columns-pre nrow ncol ke (k + 1) j 3 len (pre .size) (pre .cols) (pre .head)
-      (omega (arith, pre .next, pre .last, last-from k false, last-from l false)) (omega arith)
+  pub four-columns : PairPre false false at l f kq len lenM → f < j → j + 4 ≤ at .columns → ColumnsPre (at .nrow) (at .rows) 1 j (j + 3) len
+  four-columns pre h g = let p = placed pre in columns-pre false false 1 3 pre (omega arith) h (omega arith)
 
-  pub single-block-columns : PairPre false true nrow ncol nb kb ke k l f kq len lenM → f < j → j + 2 ≤ ke → ColumnsPre nrow (k + 2) j (j + 1) ke nrow len
+  pub single-block-columns : PairPre false true at l f kq len lenM → f < j → j + 2 ≤ at .columns → ColumnsPre (at .nrow) (at .rows) 2 j (j + 1) len
   single-block-columns pre h g =
-      columns-pre nrow ncol ke (k + 2) j 1 len (pre .size) (pre .cols) (pre .head)
-      (omega (arith, pre .next, pre .last, last-from k false, wide-last l true refl)) (omega arith)
+      let p = placed pre in
+      columns-pre false true 2 1 pre (omega (arith, pre .last, block-last l true refl)) h (omega arith)
 
-  pub block-single-columns : PairPre true false nrow ncol nb kb ke k l f kq len lenM → f < j → j + 2 ≤ ke → ColumnsPre nrow (k + 2) j (j + 1) ke nrow len
+  pub block-single-columns : PairPre true false at l f kq len lenM → f < j → j + 2 ≤ at .columns → ColumnsPre (at .nrow) (at .rows) 2 j (j + 1) len
   block-single-columns pre h g =
-      columns-pre nrow ncol ke (k + 2) j 1 len (pre .size) (pre .cols) (pre .head)
-      (omega (arith, pre .next, pre .last, wide-last k true refl, last-from l false)) (omega arith)
+      let p = placed pre in
+      columns-pre true false 2 1 pre (omega (arith, pre .next, block-last 0 true refl)) h (omega arith)

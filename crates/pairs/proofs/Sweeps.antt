@@ -1,25 +1,25 @@
 -- The sweeps over columns by the multipliers that are kept: where they are read, one column more, and the pivots' own columns. Assumes nothing.
-use Prim.Native.Nat.{ℕ, _+_, _-_, _*_, _<_, _≤_, max}
-use mathlib.Core.Path.{_≡_, refl, sym, _∙_, ap, fun-ext}
+use Prim.Native.Nat.{ℕ, _+_, _-_, _*_, _<_, _≤_}
+use mathlib.Core.Path.{_≡_, refl, _∙_, ap, fun-ext}
 use mathlib.Core.Bool.{Bool, true, false}
 use native.Mathlib.Omega.{arith}
-use native.Mathlib.Nat.{le-antisymm}
-use borrow.Author.Tests.{eq-eqb, ne-eqb, eqb-true}
-use lib.Dec.{eqb}
+use native.Mathlib.Nat.{mul-le-mul-right, le-antisymm}
+use borrow.Author.Tests.{lt-ltb, le-ltb, le-leb, lt-leb, eq-eqb, ne-eqb, leb-true}
+use lib.Dec.{eqb, leb}
 use lib.Ieee.{Float}
 use Rattle.model.specs.Scalar.{reciprocalOf}
-use Rattle.model.specs.Matrix.{Mat, withColumn, exchangedPlace}
+use Rattle.model.specs.Matrix.{Mat, within, withColumn, exchangedPlace}
+use Rattle.model.specs.Step.{isBlock}
 use Rattle.model.specs.Head.{lastOf}
 use Rattle.model.specs.declared.Block.{Block}
-use Rattle.model.proofs.Cases.{test}
+use Rattle.model.specs.declared.Diagonal.{Diagonal}
+use Rattle.model.specs.declared.Diagonal.the-variants.{One, Two}
+use Rattle.model.proofs.Cases.{test, cmp}
 use Rattle.grid.specs.Grid.{In}
 use Rattle.grid.specs.Rules.{columnOf, times, combined, LaterPre, RowsPre, ExchangePre}
-use Rattle.grid.proofs.Laws.{in-panel, col-in}
-use Rattle.eliminate.specs.Eliminate.{inPanel, region}
-use Rattle.eliminate.proofs.Buffer.{kept-at}
-use Rattle.eliminate.proofs.Region.{region-none, region-step, region-before}
-use Rattle.pairs.specs.Pairs.{lessAt, stepped, steppedTwice, sweptFirst, sweptBoth, ownBy, PairPre, KeptPre}
-use Rattle.pairs.proofs.Column.{last-from, last-within, wide-last, single-last}
+use Rattle.pairs.specs.Pairs.{lessAt, stepped, steppedTwice, strip, sweptFirst, sweptBoth, ownBy, FramePre, SweepPre, StepPre, PairPre}
+use Rattle.pairs.specs.declared.Frame.{Frame}
+use Rattle.pairs.proofs.Column.{last-from, last-within, block-last, single-last}
 
 -- ---- the exchange of places
 
@@ -39,196 +39,241 @@ place-from lo f kq j hf hq hj = test (eqb j f) (λ e. rw e hq) (λ e. rw e (test
 pub place-under : (hi f kq j : ℕ) → f < hi → kq < hi → j < hi → exchangedPlace f kq j < hi
 place-under hi f kq j hf hq hj = test (eqb j f) (λ e. rw e hq) (λ e. rw e (test (eqb j kq) (λ g. rw g hf) (λ g. rw g hj)))
 
--- ---- where the two pivots stand, and the row whose multipliers column j goes by
+-- ---- what is lent
 
-pub record Placed (kb ke k l f kq : ℕ) : Type 0 where
-  pub from : kb ≤ k
-  pub first : k < l
+module _ {at : Frame} {len lenM : ℕ} (frame : FramePre at len lenM) where
+  -- each column is there, and so is each multiplier
+  pub column-in : (j : ℕ) → j < at .columns → at .rows + j * at .nrow ≤ len
+  column-in j h = let few : j ≤ at .columns - 1 = omega arith in omega (arith, frame .room, mul-le-mul-right (at .nrow) few)
+
+  pub multiplier-in : (j c : ℕ) → j < at .columns → c < at .columns → In (at .nb) j c lenM
+  multiplier-in j c h g =
+      let few : c ≤ at .columns - 1 = omega arith in
+      record { row = omega (arith, frame .width); off = omega (arith, frame .kept, mul-le-mul-right (at .nb) few) }
+
+  later-in : (k j len′ : ℕ) → k < j → j < at .columns → len′ ≡ len → LaterPre (at .nrow) k j 0 (at .rows) len′
+  later-in k j len′ h g e = record { col = omega (arith, column-in j g); past = h; up = omega arith; rows = frame .height }
+
+  exchange-in : (p q len′ : ℕ) → p < at .columns → q < at .columns → len′ ≡ len → ExchangePre (at .nrow) p q 0 (at .rows) len′
+  exchange-in p q len′ h g e =
+      record { one = omega (arith, column-in p h); other = omega (arith, column-in q g); up = omega arith; rows = frame .height }
+
+  own-in : (j len′ : ℕ) → j < at .columns → len′ ≡ len → RowsPre (at .nrow) j 0 (at .rows) len′
+  own-in j len′ h e = record { col = omega (arith, column-in j h); up = omega arith; rows = frame .height }
+
+-- ---- what the first pivot's sweep asks
+
+module _ (block : Bool) (at : Frame) (j f kq len lenM : ℕ) (pre : SweepPre block at j (j + 1) f kq len lenM) where
+  moved-in : exchangedPlace f kq j < at .columns
+  moved-in = place-under (at .columns) f kq j (pre .one) (pre .other) (omega (arith, pre .end))
+
+  pub first-kept : In (at .nb) (exchangedPlace f kq j) 0 lenM
+  first-kept = multiplier-in (pre .frame) (exchangedPlace f kq j) 0 moved-in (omega (arith, pre .end))
+
+  pub first-kept-next : In (at .nb) (exchangedPlace f kq j) 1 lenM
+  first-kept-next = multiplier-in (pre .frame) (exchangedPlace f kq j) 1 moved-in (omega (arith, pre .end, pre .past))
+
+  pub later-than-first : LaterPre (at .nrow) (lastOf 0 block) j 0 (at .rows) len
+  later-than-first = later-in (pre .frame) (lastOf 0 block) j len (pre .past) (omega (arith, pre .end)) refl
+
+-- one column of it
+pub sweep-column : (block : Bool) (at : Frame) (c e f kq j len lenM len′ : ℕ) → SweepPre block at c e f kq len lenM → c ≤ j → j < e → len′ ≡ len
+    → SweepPre block at j (j + 1) f kq len′ lenM
+sweep-column block at c e f kq j len lenM len′ pre h g q =
+    record {
+      frame = rw q (pre .frame);
+      past = omega (arith, pre .past);
+      up = omega arith;
+      end = omega (arith, pre .end);
+      one = pre .one;
+      other = pre .other;
+    }
+
+-- ---- a single pivot, of that kind: `block` as the code read it
+
+module _ (kind block : Bool) (at : Frame) (kp last len lenM : ℕ) (pre : StepPre kind at kp len lenM) (b : block ≡ kind)
+    (e : last ≡ lastOf 0 block) where
+  pub last-in : last < at .columns
+  last-in = omega (arith, pre .here, ap (lastOf 0) b)
+
+  pub step-exchange : ExchangePre (at .nrow) last kp 0 (at .rows) len
+  step-exchange = exchange-in (pre .frame) last kp len last-in (pre .row) refl
+
+  module _ (len′ : ℕ) (same : len′ ≡ len) where
+    pub step-sweep : SweepPre block at (last + 1) (at .columns) last last len′ lenM
+    step-sweep =
+        let l = last-in in
+        record { frame = rw same (pre .frame); past = omega arith; up = omega arith; end = omega arith; one = l; other = l }
+
+    pub step-own : RowsPre (at .nrow) (lastOf 0 kind) 0 (at .rows) len′
+    step-own = own-in (pre .frame) (lastOf 0 kind) len′ (pre .here) same
+
+-- ---- where the two pivots stand
+
+pub record Placed (columns l f kq : ℕ) : Type 0 where
+  pub first : 0 < l
   pub second : l ≤ f
-  pub last : f < ke
+  pub last : f < columns
   pub reach : f ≤ kq
 
-pub record RowIn (kb ke row : ℕ) : Type 0 where
-  pub low : kb ≤ row
-  pub high : row < ke
-
-module _ (wide other : Bool) (nrow ncol nb kb ke k l f kq len lenM : ℕ) (pre : PairPre wide other nrow ncol nb kb ke k l f kq len lenM) where
-  pub placed : Placed kb ke k l f kq
+module _ {block1 block2 : Bool} {at : Frame} {l f kq len lenM : ℕ} (pre : PairPre block1 block2 at l f kq len lenM) where
+  pub placed : Placed (at .columns) l f kq
   placed =
       record {
-        from = pre .from;
-        first = omega (arith, pre .next, last-from k wide);
-        second = omega (arith, pre .last, last-from l other);
+        first = omega (arith, pre .next);
+        second = omega (arith, pre .last, last-from l block2);
         last = omega (arith, pre .reach, pre .row);
         reach = pre .reach;
       }
 
-  pub row-in : (j row : ℕ) → l ≤ j → j < ke → row ≡ exchangedPlace f kq j → RowIn kb ke row
-  row-in j row h g e =
+  -- what reading a multiplier asks, past both pivots: of the first, and of the second
+  pub both-kept : (j : ℕ) → f < j → j < at .columns → In (at .nb) (exchangedPlace f kq j) 0 lenM
+  both-kept j h g =
+      multiplier-in (pre .frame) (exchangedPlace f kq j) 0 (place-under (at .columns) f kq j (placed .last) (pre .row) g) (omega arith)
+
+  pub both-kept-next : (j : ℕ) → f < j → j < at .columns → In (at .nb) (exchangedPlace f kq j) 1 lenM
+  both-kept-next j h g =
       let p = placed in
-      record {
-        low = omega (arith, place-from l f kq j (p .second) (omega arith) h);
-        high = omega (arith, place-under ke f kq j (p .last) (pre .row) g);
-      }
+      multiplier-in (pre .frame) (exchangedPlace f kq j) 1 (place-under (at .columns) f kq j (placed .last) (pre .row) g) (omega arith)
 
-  -- what reading a multiplier of the first pivot asks
-  pub first-kept : (j : ℕ) → l ≤ j → j < ke → KeptPre nb kb ke (exchangedPlace f kq j) k lenM
-  first-kept j h g =
-      let p = placed in
-      let row = row-in j (exchangedPlace f kq j) h g refl in
-      record { square = pre .square; width = pre .width; low = row .low; high = row .high; from = p .from; to = omega arith }
+  pub second-kept : (j : ℕ) → f < j → j < at .columns → In (at .nb) j l lenM
+  second-kept j h g = let p = placed in multiplier-in (pre .frame) j l g (omega arith)
 
-  pub first-kept-next : (j : ℕ) → l ≤ j → j < ke → KeptPre nb kb ke (exchangedPlace f kq j) (k + 1) lenM
-  first-kept-next j h g =
-      let p = placed in
-      let row = row-in j (exchangedPlace f kq j) h g refl in
-      record { square = pre .square; width = pre .width; low = row .low; high = row .high; from = omega arith; to = omega arith }
+  pub second-kept-next : (j : ℕ) → f < j → j < at .columns → In (at .nb) j (l + 1) lenM
+  second-kept-next j h g = let p = placed in multiplier-in (pre .frame) j (l + 1) g (omega arith)
 
-  pub later-than-first : (j : ℕ) → l ≤ j → j < ke → LaterPre nrow (lastOf k wide) j ke nrow len
-  later-than-first j h g =
-      record {
-        col = col-in nrow ncol j len (pre .size) (omega (arith, pre .cols));
-        past = omega (arith, pre .next);
-        up = omega (arith, pre .cols, pre .head);
-        rows = omega arith;
-      }
+  pub later-than-both : (j : ℕ) → f < j → j < at .columns → LaterPre (at .nrow) (lastOf l block2) j 0 (at .rows) len
+  later-than-both j h g = later-in (pre .frame) (lastOf l block2) j len (omega (arith, pre .last)) g refl
 
-  pub later-than-both : (j : ℕ) → f < j → j < ke → LaterPre nrow (lastOf l other) j ke nrow len
-  later-than-both j h g =
-      record {
-        col = col-in nrow ncol j len (pre .size) (omega (arith, pre .cols));
-        past = omega (arith, pre .last);
-        up = omega (arith, pre .cols, pre .head);
-        rows = omega arith;
-      }
-
-  -- the exchanges and the own columns, whatever has been written since
+  -- the exchanges, the first pivot's sweep and the own columns, whatever has been written since
   module _ (len′ : ℕ) (same : len′ ≡ len) where
-    column : (j : ℕ) → j < ke → nrow + j * nrow ≤ len′
-    column j h = omega (arith, col-in nrow ncol j len (pre .size) (omega (arith, pre .cols)))
+    pub first-exchange : (kp : ℕ) → kp < at .columns → ExchangePre (at .nrow) (l - 1) kp 0 (at .rows) len′
+    first-exchange kp h = let p = placed in exchange-in (pre .frame) (l - 1) kp len′ (omega arith) h same
 
-    up : ke ≤ nrow
-    up = omega (arith, pre .cols, pre .head)
+    pub second-exchange : ExchangePre (at .nrow) f kq 0 (at .rows) len′
+    second-exchange = exchange-in (pre .frame) f kq len′ (placed .last) (pre .row) same
 
-    pub first-exchange : (kp : ℕ) → kp < ke → ExchangePre nrow (l - 1) kp ke nrow len′
-    first-exchange kp h = record { one = column (l - 1) (let p = placed in omega arith); other = column kp h; up = up; rows = omega arith }
+    pub first-sweep : (block : Bool) → block ≡ block1 → SweepPre block at l (f + 1) f kq len′ lenM
+    first-sweep block b =
+        let p = placed in
+        record {
+          frame = rw same (pre .frame);
+          past = omega (arith, pre .next, ap (lastOf 0) b);
+          up = omega arith;
+          end = omega arith;
+          one = p .last;
+          other = pre .row;
+        }
 
-    pub second-exchange : ExchangePre nrow f kq ke nrow len′
-    second-exchange = record { one = column f (placed .last); other = column kq (pre .row); up = up; rows = omega arith }
+    -- by the kinds that were read
+    pub both-sweep : (first second : Bool) → first ≡ block1 → second ≡ block2 → PairPre first second at l f kq len′ lenM
+    both-sweep first second b1 b2 = rw (same, b1, b2) pre
 
-    pub first-own : RowsPre nrow (lastOf k wide) ke nrow len′
-    first-own = record { col = column (lastOf k wide) (let p = placed in omega (arith, pre .next)); up = up; rows = omega arith }
+    pub first-own : RowsPre (at .nrow) (lastOf 0 block1) 0 (at .rows) len′
+    first-own = let p = placed in own-in (pre .frame) (lastOf 0 block1) len′ (omega (arith, pre .next)) same
 
-    pub second-own : RowsPre nrow (lastOf l other) ke nrow len′
-    second-own = record { col = column (lastOf l other) (let p = placed in omega (arith, pre .last)); up = up; rows = omega arith }
-
--- ---- what reading a multiplier asks, past both pivots: of the first, and of the second
-
-module _ {wide other : Bool} {nrow ncol nb kb ke k l f kq len lenM : ℕ} (pre : PairPre wide other nrow ncol nb kb ke k l f kq len lenM) where
-  at : Placed kb ke k l f kq
-  at = placed wide other nrow ncol nb kb ke k l f kq len lenM pre
-
-  pub both-kept : (j : ℕ) → f < j → j < ke → KeptPre nb kb ke (exchangedPlace f kq j) k lenM
-  both-kept j h g = let p = at in first-kept wide other nrow ncol nb kb ke k l f kq len lenM pre j (omega arith) g
-
-  pub both-kept-next : (j : ℕ) → f < j → j < ke → KeptPre nb kb ke (exchangedPlace f kq j) (k + 1) lenM
-  both-kept-next j h g = let p = at in first-kept-next wide other nrow ncol nb kb ke k l f kq len lenM pre j (omega arith) g
-
-  pub second-kept : (j : ℕ) → f < j → j < ke → KeptPre nb kb ke j l lenM
-  second-kept j h g =
-      let p = at in
-      record { square = pre .square; width = pre .width; low = omega arith; high = g; from = omega arith; to = omega arith }
-
-  pub second-kept-next : (j : ℕ) → f < j → j < ke → KeptPre nb kb ke j (l + 1) lenM
-  second-kept-next j h g =
-      let p = at in
-      record { square = pre .square; width = pre .width; low = omega arith; high = g; from = omega arith; to = omega arith }
-
--- ---- a multiplier that was read
-
-pub kept-in : (nb kb ke row c lenM : ℕ) → KeptPre nb kb ke row c lenM → In nb (row - kb) (c - kb) lenM
-kept-in nb kb ke row c lenM pre =
-    in-panel nb nb (row - kb) (c - kb) lenM (pre .square) (omega (arith, pre .width)) (omega (arith, pre .width))
-
-pub kept-read : (nb kb ke row c lenM : ℕ) (B : Mat) (m : Float) → KeptPre nb kb ke row c lenM → m ≡ B (row - kb) (c - kb) → m ≡ inPanel kb ke B row c
-kept-read nb kb ke row c lenM B m pre e = e ∙ kept-at kb ke B row c (pre .low) (pre .high) (pre .from) (pre .to)
+    pub second-own : RowsPre (at .nrow) (lastOf l block2) 0 (at .rows) len′
+    second-own = let p = placed in own-in (pre .frame) (lastOf l block2) len′ (omega (arith, pre .last)) same
 
 -- ---- a turn, by the multipliers that were read
 
-pub first-turn : (M Q : Mat) (wide : Bool) (k j lo n : ℕ) (m1 m2 w1 w2 : Float) → m1 ≡ w1 → m2 ≡ w2 → Q ≡ withColumn M j lo n (stepped wide M k j m1 m2)
-    → Q ≡ withColumn M j lo n (stepped wide M k j w1 w2)
-first-turn M Q wide k j lo n m1 m2 w1 w2 e1 e2 q = q ∙ rw (e1, e2)
+pub first-turn : (M Q : Mat) (block : Bool) (k j lo n : ℕ) (m1 m2 w1 w2 : Float) → m1 ≡ w1 → m2 ≡ w2 → Q ≡ withColumn M j lo n (stepped block M k j m1 m2)
+    → Q ≡ withColumn M j lo n (stepped block M k j w1 w2)
+first-turn M Q block k j lo n m1 m2 w1 w2 e1 e2 q = q ∙ rw (e1, e2)
 
-pub both-turn : (M Q : Mat) (wide other : Bool) (k l j lo n : ℕ) (m1 m2 m3 m4 w1 w2 w3 w4 : Float) → m1 ≡ w1 → m2 ≡ w2 → m3 ≡ w3 → m4 ≡ w4
-    → Q ≡ withColumn M j lo n (steppedTwice wide other M k l j m1 m2 m3 m4) → Q ≡ withColumn M j lo n (steppedTwice wide other M k l j w1 w2 w3 w4)
-both-turn M Q wide other k l j lo n m1 m2 m3 m4 w1 w2 w3 w4 e1 e2 e3 e4 q = q ∙ rw (e1, e2, e3, e4)
+pub both-turn : (M Q : Mat) (block1 block2 : Bool) (k l j lo n : ℕ) (m1 m2 m3 m4 w1 w2 w3 w4 : Float) → m1 ≡ w1 → m2 ≡ w2 → m3 ≡ w3 → m4 ≡ w4
+    → Q ≡ withColumn M j lo n (steppedTwice block1 block2 M k l j m1 m2 m3 m4) → Q ≡ withColumn M j lo n (steppedTwice block1 block2 M k l j w1 w2 w3 w4)
+both-turn M Q block1 block2 k l j lo n m1 m2 m3 m4 w1 w2 w3 w4 e1 e2 e3 e4 q = q ∙ rw (e1, e2, e3, e4)
+
+-- ---- a strip
+
+pub strip-none : (M : Mat) (c lo hi : ℕ) (F : ℕ → ℕ → Float → Float) → M ≡ strip M c c lo hi F
+unfolding strip
+strip-none M c lo hi F = fun-ext λ a. fun-ext λ b. test (leb c b) (λ p. rw (p, le-ltb b c (leb-true c b p))) (λ p. rw p)
+
+strip-step : (M P Q : Mat) (c j lo hi : ℕ) (F : ℕ → ℕ → Float → Float) → c ≤ j → P ≡ strip M c j lo hi F
+    → Q ≡ withColumn P j lo hi (λ a. F a j (P a j)) → Q ≡ strip M c (j + 1) lo hi F
+unfolding strip withColumn
+strip-step M P Q c j lo hi F h p q =
+    q ∙ rw p (fun-ext λ a. fun-ext λ b.
+    cmp b j
+    (λ l. rw (ne-eqb b j (λ x. omega arith), lt-ltb b j l, lt-ltb b (j + 1) (omega arith)))
+    (λ e. rw (e, eq-eqb j j refl, le-leb c j h, le-ltb j j (omega arith), lt-ltb j (j + 1) (omega arith)))
+    (λ g. rw (ne-eqb b j (λ x. omega arith), le-ltb b j (omega arith), le-ltb b (j + 1) (omega arith))))
+
+-- a column before all that are swept
+pub strip-before : (M P : Mat) (c j lo hi : ℕ) (F : ℕ → ℕ → Float → Float) (b : ℕ) → b < c → P ≡ strip M c j lo hi F → columnOf P b ≡ columnOf M b
+unfolding strip columnOf
+strip-before M P c j lo hi F b h e = fun-ext λ a. ap (λ (X : Mat). X a b) e ∙ rw (lt-leb c b h)
 
 -- ---- the sweeps
 
 -- a pivot's part is that of its own columns
-pub less-same : (wide : Bool) (r s : ℕ → Float) (k : ℕ) (m1 m2 x : Float) → ((b : ℕ) → k ≤ b → b ≤ lastOf k wide → r b ≡ s b)
-    → lessAt wide r k m1 m2 x ≡ lessAt wide s k m1 m2 x
+pub less-same : (block : Bool) (r s : ℕ → Float) (k : ℕ) (m1 m2 x : Float) → ((b : ℕ) → k ≤ b → b ≤ lastOf k block → r b ≡ s b)
+    → lessAt block r k m1 m2 x ≡ lessAt block s k m1 m2 x
 unfolding lessAt lastOf
 less-same true r s k m1 m2 x h = rw (h k (omega arith) (omega arith), h (k + 1) (omega arith) (omega arith))
 less-same false r s k m1 m2 x h = rw (h k (omega arith) (omega arith))
 
-pub first-none : (wide : Bool) (M I : Mat) (f kq k c lo hi : ℕ) → M ≡ sweptFirst wide M I f kq k c c lo hi
+pub first-none : (block : Bool) (M I : Mat) (f kq k c lo hi : ℕ) → M ≡ sweptFirst block M I f kq k c c lo hi
 unfolding sweptFirst
-first-none wide M I f kq k c lo hi = region-none M c lo hi _
+first-none block M I f kq k c lo hi = strip-none M c lo hi _
 
--- a turn of the second pivot's own columns; the pivot at k, before c, is as it was
-pub first-step : (wide : Bool) (M P Q I : Mat) (f kq k c j lo hi : ℕ) → lastOf k wide < c → c ≤ j → j ≤ lo → P ≡ sweptFirst wide M I f kq k c j lo hi
-    → Q ≡ withColumn P j lo hi (stepped wide P k j (I (exchangedPlace f kq j) k) (I (exchangedPlace f kq j) (k + 1)))
-    → Q ≡ sweptFirst wide M I f kq k c (j + 1) lo hi
+-- a turn of the first pivot's sweep; the pivot at k, before c, is as it was
+pub first-step : (block : Bool) (M P Q I : Mat) (f kq k c j lo hi : ℕ) → lastOf k block < c → c ≤ j → P ≡ sweptFirst block M I f kq k c j lo hi
+    → Q ≡ withColumn P j lo hi (stepped block P k j (I (exchangedPlace f kq j) k) (I (exchangedPlace f kq j) (k + 1)))
+    → Q ≡ sweptFirst block M I f kq k c (j + 1) lo hi
 unfolding sweptFirst stepped columnOf
-first-step wide M P Q I f kq k c j lo hi h g u p q =
-    let same : (a b : ℕ) → b < c → P a b ≡ M a b = λ a b z. ap (λ (r : ℕ → Float). r a) (region-before M P c j lo hi _ b z p) in
-    region-step M P Q c j lo hi lo _ g p (omega arith)
-    (q ∙ ap (withColumn P j lo hi) (fun-ext λ a. less-same wide (P a) (M a) k _ _ _ (λ b y z. same a b (omega arith))))
+first-step block M P Q I f kq k c j lo hi h g p q =
+    let same : (a b : ℕ) → b < c → P a b ≡ M a b = λ a b z. ap (λ (r : ℕ → Float). r a) (strip-before M P c j lo hi _ b z p) in
+    strip-step M P Q c j lo hi _ g p
+    (q ∙ ap (withColumn P j lo hi) (fun-ext λ a. less-same block (P a) (M a) k _ _ _ (λ b y z. same a b (omega arith))))
 
-pub first-end : (wide : Bool) (M P I : Mat) (f kq k c j end lo hi : ℕ) → j ≤ end → end ≤ j → P ≡ sweptFirst wide M I f kq k c j lo hi
-    → P ≡ sweptFirst wide M I f kq k c end lo hi
-first-end wide M P I f kq k c j end lo hi h g p = p ∙ ap (λ (z : ℕ). sweptFirst wide M I f kq k c z lo hi) (le-antisymm h g)
+pub first-end : (block : Bool) (M P I : Mat) (f kq k c j end lo hi : ℕ) → j ≤ end → end ≤ j → P ≡ sweptFirst block M I f kq k c j lo hi
+    → P ≡ sweptFirst block M I f kq k c end lo hi
+first-end block M P I f kq k c j end lo hi h g p = p ∙ ap (λ (z : ℕ). sweptFirst block M I f kq k c z lo hi) (le-antisymm h g)
 
-pub both-none : (wide other : Bool) (M I : Mat) (f kq k l c lo hi : ℕ) → M ≡ sweptBoth wide other M I f kq k l c c lo hi
+pub both-none : (block1 block2 : Bool) (M I : Mat) (f kq k l c lo hi : ℕ) → M ≡ sweptBoth block1 block2 M I f kq k l c c lo hi
 unfolding sweptBoth
-both-none wide other M I f kq k l c lo hi = region-none M c lo hi _
+both-none block1 block2 M I f kq k l c lo hi = strip-none M c lo hi _
 
 -- a turn of the columns after both
-pub both-step : (wide other : Bool) (M P Q I : Mat) (f kq k l c j lo hi : ℕ) → lastOf k wide < c → lastOf l other < c → c ≤ j → j ≤ lo
-    → P ≡ sweptBoth wide other M I f kq k l c j lo hi
+pub both-step : (block1 block2 : Bool) (M P Q I : Mat) (f kq k l c j lo hi : ℕ) → lastOf k block1 < c → lastOf l block2 < c → c ≤ j
+    → P ≡ sweptBoth block1 block2 M I f kq k l c j lo hi
     → Q
     ≡ withColumn P j lo hi
-    (steppedTwice wide other P k l j (I (exchangedPlace f kq j) k) (I (exchangedPlace f kq j) (k + 1)) (I j l) (I j (l + 1)))
-    → Q ≡ sweptBoth wide other M I f kq k l c (j + 1) lo hi
+    (steppedTwice block1 block2 P k l j (I (exchangedPlace f kq j) k) (I (exchangedPlace f kq j) (k + 1)) (I j l) (I j (l + 1)))
+    → Q ≡ sweptBoth block1 block2 M I f kq k l c (j + 1) lo hi
 unfolding sweptBoth steppedTwice columnOf
-both-step wide other M P Q I f kq k l c j lo hi h o g u p q =
-    let same : (a b : ℕ) → b < c → P a b ≡ M a b = λ a b z. ap (λ (r : ℕ → Float). r a) (region-before M P c j lo hi _ b z p) in
-    region-step M P Q c j lo hi lo _ g p (omega arith)
-    (q ∙ ap (withColumn P j lo hi) (fun-ext λ a. less-same other (P a) (M a) l _ _ _ (λ b y z. same a b (omega arith))
-    ∙ ap (lessAt other (M a) l (I j l) (I j (l + 1))) (less-same wide (P a) (M a) k _ _ _ (λ b y z. same a b (omega arith)))))
+both-step block1 block2 M P Q I f kq k l c j lo hi h o g p q =
+    let same : (a b : ℕ) → b < c → P a b ≡ M a b = λ a b z. ap (λ (r : ℕ → Float). r a) (strip-before M P c j lo hi _ b z p) in
+    strip-step M P Q c j lo hi _ g p
+    (q ∙ ap (withColumn P j lo hi) (fun-ext λ a. less-same block2 (P a) (M a) l _ _ _ (λ b y z. same a b (omega arith))
+    ∙ ap (lessAt block2 (M a) l (I j l) (I j (l + 1))) (less-same block1 (P a) (M a) k _ _ _ (λ b y z. same a b (omega arith)))))
 
-pub both-end : (wide other : Bool) (M P I : Mat) (f kq k l c j end lo hi : ℕ) → j ≤ end → end ≤ j → P ≡ sweptBoth wide other M I f kq k l c j lo hi
-    → P ≡ sweptBoth wide other M I f kq k l c end lo hi
-both-end wide other M P I f kq k l c j end lo hi h g p = p ∙ ap (λ (z : ℕ). sweptBoth wide other M I f kq k l c z lo hi) (le-antisymm h g)
+pub both-end : (block1 block2 : Bool) (M P I : Mat) (f kq k l c j end lo hi : ℕ) → j ≤ end → end ≤ j → P ≡ sweptBoth block1 block2 M I f kq k l c j lo hi
+    → P ≡ sweptBoth block1 block2 M I f kq k l c end lo hi
+both-end block1 block2 M P I f kq k l c j end lo hi h g p = p ∙ ap (λ (z : ℕ). sweptBoth block1 block2 M I f kq k l c z lo hi) (le-antisymm h g)
 
 -- ---- a pivot's own columns
 
-pub rows-wide : (n k lo hi len : ℕ) (wide : Bool) → RowsPre n (lastOf k wide) lo hi len → wide ≡ true → RowsPre n (k + 1) lo hi len
-rows-wide n k lo hi len wide h e = rw (wide-last k wide e) at h
+pub rows-two : (n k lo hi len : ℕ) (x : Diagonal) (b : Block) → x ≡ Two b → RowsPre n (lastOf k (isBlock x)) lo hi len → RowsPre n (k + 1) lo hi len
+unfolding lastOf
+rows-two n k lo hi len x b e h = rw e at h
 
-pub rows-single : (n k lo hi len : ℕ) (wide : Bool) → RowsPre n (lastOf k wide) lo hi len → wide ≡ false → RowsPre n k lo hi len
-rows-single n k lo hi len wide h e = rw (single-last k wide e) at h
+pub rows-one : (n k lo hi len : ℕ) (x : Diagonal) (d : Float) → x ≡ One d → RowsPre n (lastOf k (isBlock x)) lo hi len → RowsPre n k lo hi len
+unfolding lastOf
+rows-one n k lo hi len x d e h = rw e at h
 
-pub own-wide : (M Q : Mat) (k lo hi : ℕ) (b : Block) (r : Float) (wide : Bool) → wide ≡ true → r ≡ reciprocalOf (b .det)
+pub own-two : (M Q : Mat) (k lo hi : ℕ) (x : Diagonal) (b : Block) (r : Float) → x ≡ Two b → r ≡ reciprocalOf (b .det)
     → Q
     ≡ withColumn (withColumn M k lo hi (combined (columnOf M k) (columnOf M (k + 1)) (b .d22) (b .d21) r)) (k + 1) lo hi
     (combined (columnOf M (k + 1)) (columnOf M k) (b .d11) (b .d21) r)
-    → Q ≡ ownBy wide M k lo hi b
+    → Q ≡ ownBy M k lo hi x
 unfolding ownBy
-own-wide M Q k lo hi b r wide e g q = q ∙ rw (e, g)
+own-two M Q k lo hi x b r e g q = q ∙ rw (e, g)
 
-pub own-single : (M Q : Mat) (k lo hi : ℕ) (b : Block) (r : Float) (wide : Bool) → wide ≡ false → r ≡ reciprocalOf (b .d11)
-    → Q ≡ withColumn M k lo hi (times (columnOf M k) r) → Q ≡ ownBy wide M k lo hi b
+pub own-one : (M Q : Mat) (k lo hi : ℕ) (x : Diagonal) (d r : Float) → x ≡ One d → r ≡ reciprocalOf d
+    → Q ≡ withColumn M k lo hi (times (columnOf M k) r) → Q ≡ ownBy M k lo hi x
 unfolding ownBy
-own-single M Q k lo hi b r wide e g q = q ∙ rw (e, g)
+own-one M Q k lo hi x d r e g q = q ∙ rw (e, g)

@@ -1,23 +1,36 @@
-// Two pivots of a finished panel, one after the other, on the rows below it: each later column is passed once for both,
-// and several columns in one pass where no multiplier of a 1x1 is zero.
-// The second one's exchange is made first, and the first one's multipliers are then those of the rows as they stood.
-// A reader may rely on the contract of below_pair: it cites the model's two steps.
+// The steps of a finished panel on the rows below it: one pivot, or two one after the other, where each later column is
+// passed once for both, and several columns in one pass where no multiplier of a 1x1 is zero. Of two pivots the second
+// one's exchange is made first, and the first one's multipliers are then those of the rows as they stood.
+// What is lent begins with the first pivot's column in the first row below the panel: row i of column j stands at
+// i + j·nrow, and the multiplier of row j in column c at j + c·nb. A reader may rely on the contracts of below_step and
+// below_pair: they cite the model's steps, and leave every other number of the part alone.
+use diagonal::is_block;
 use grid::columns;
-use model::Block;
+use model::Diagonal;
 use scalar::reciprocal;
 ghost use mathlib.Core.Path.{_≡_};
 ghost use mathlib.Core.Bool.{true, false};
 ghost use Prim.Native.Nat.{_+_, _<_, _≤_};
 ghost use lib.ListN.{length};
 ghost use Rattle.model.specs.Matrix.{view, withColumn, exchangedPlace};
+ghost use Rattle.model.specs.Step.{isBlock, rowAfterStep};
 ghost use Rattle.model.specs.Head.{lastOf};
+ghost use Rattle.grid.specs.Grid.{In};
 ghost use Rattle.grid.specs.Rules.{columnOf, RowsPre};
 ghost use Rattle.whole.specs.Whole.{below};
-ghost use Rattle.eliminate.specs.Eliminate.{inPanel};
-ghost use Rattle.pairs.specs.Pairs.{stepBy, rowAfterBoth, stepped, steppedTwice, sweptFirst, sweptBoth, ownBy};
-ghost use Rattle.pairs.specs.Pairs.{neitherZero, PairPre, KeptPre};
+ghost use Rattle.pairs.specs.Pairs.{stepOf, rowAfterBoth, stepped, steppedTwice, sweptFirst, sweptBoth, ownBy};
+ghost use Rattle.pairs.specs.Pairs.{neitherZero, SweepPre, StepPre, PairPre};
 
 mod less;
+
+// What is lent of a panel and of its multipliers: `columns` columns, from the first pivot's to the panel's last, and
+// `rows` rows of each. A column begins nrow numbers after the one before it, a column of multipliers nb after.
+pub struct Frame {
+    pub nrow: usize,
+    pub rows: usize,
+    pub nb: usize,
+    pub columns: usize,
+}
 
 // f for kq and kq for f.
 fn exchanged_place(f: usize, kq: usize, j: usize) -> usize
@@ -32,133 +45,83 @@ fn exchanged_place(f: usize, kq: usize, j: usize) -> usize
     j
 }
 
-// The multiplier of row j in column c.
-fn multiplier(mult: &[f64], nb: usize, kb: usize, ke: usize, j: usize, c: usize) -> f64
-    requires { ⌜ KeptPre nb kb ke j c (length (now mult)) ⌝ }
-    ensures { λ r. ⌜ r ≡ inPanel kb ke (view nb (now (mult .entry))) j c ⌝ }
-{
-    grid::get(mult, nb, j - kb, c - kb)
-}
-
 // The multiplier in column c of the row that j was before f and kq were exchanged.
-fn multiplier_before(
-    mult: &[f64],
-    nb: usize,
-    kb: usize,
-    ke: usize,
-    f: usize,
-    kq: usize,
-    j: usize,
-    c: usize,
-) -> f64
-    requires { ⌜ KeptPre nb kb ke (exchangedPlace f kq j) c (length (now mult)) ⌝ }
-    ensures { λ r. ⌜ r ≡ inPanel kb ke (view nb (now (mult .entry))) (exchangedPlace f kq j) c ⌝ }
+fn multiplier_before(mult: &[f64], nb: usize, f: usize, kq: usize, j: usize, c: usize) -> f64
+    requires { ⌜ In nb (exchangedPlace f kq j) c (length (now mult)) ⌝ }
+    ensures { λ r. ⌜ r ≡ view nb (now (mult .entry)) (exchangedPlace f kq j) c ⌝ }
 {
-    multiplier(mult, nb, kb, ke, exchanged_place(f, kq, j), c)
+    grid::get(mult, nb, exchanged_place(f, kq, j), c)
 }
 
-// Column j from row ke down, less the first pivot's part.
+// Column j less the first pivot's part.
 fn column_first(
-    panel: &mut [f64],
+    part: &mut [f64],
     mult: &[f64],
-    wide: bool,
-    other: bool,
-    nrow: usize,
-    ncol: usize,
-    nb: usize,
-    kb: usize,
-    ke: usize,
-    k: usize,
-    l: usize,
+    block: bool,
+    at: Frame,
     f: usize,
     kq: usize,
     j: usize,
 )
-    requires { ⌜ PairPre wide other nrow ncol nb kb ke k l f kq (length (now panel)) (length (now mult)) ⌝ }
-    requires { ⌜ (l ≤ j) × (j < ke) ⌝ }
-    ensures { λ _. ⌜ view nrow (now (panel .exit))
-        ≡ withColumn (view nrow (now (panel .entry))) j ke nrow
-        (stepped wide (view nrow (now (panel .entry))) k j
-        (inPanel kb ke (view nb (now (mult .entry))) (exchangedPlace f kq j) k)
-        (inPanel kb ke (view nb (now (mult .entry))) (exchangedPlace f kq j) (k + 1))) ⌝ }
+    requires { ⌜ SweepPre block at j (j + 1) f kq (length (now part)) (length (now mult)) ⌝ }
+    ensures { λ _. ⌜ view (at .nrow) (now (part .exit))
+        ≡ withColumn (view (at .nrow) (now (part .entry))) j 0 (at .rows)
+        (stepped block (view (at .nrow) (now (part .entry))) 0 j
+        (view (at .nb) (now (mult .entry)) (exchangedPlace f kq j) 0)
+        (view (at .nb) (now (mult .entry)) (exchangedPlace f kq j) 1)) ⌝ }
 {
-    let m1 = multiplier_before(mult, nb, kb, ke, f, kq, j, k);
-    let m2 = multiplier_before(mult, nb, kb, ke, f, kq, j, k + 1);
-    less::less_step(panel, wide, nrow, k, j, ke, nrow, m1, m2);
+    let m1 = multiplier_before(mult, at.nb, f, kq, j, 0);
+    let m2 = multiplier_before(mult, at.nb, f, kq, j, 1);
+    less::less_step(part, block, at.nrow, at.rows, j, m1, m2);
 }
 
-// Column j from row ke down, less the first pivot's part and then the second's.
-fn column_both(
-    panel: &mut [f64],
-    mult: &[f64],
-    wide: bool,
-    other: bool,
-    nrow: usize,
-    ncol: usize,
-    nb: usize,
-    kb: usize,
-    ke: usize,
-    k: usize,
-    l: usize,
-    f: usize,
-    kq: usize,
-    j: usize,
-)
-    requires { ⌜ PairPre wide other nrow ncol nb kb ke k l f kq (length (now panel)) (length (now mult)) ⌝ }
-    requires { ⌜ (f < j) × (j < ke) ⌝ }
-    ensures { λ _. ⌜ view nrow (now (panel .exit))
-        ≡ withColumn (view nrow (now (panel .entry))) j ke nrow
-        (steppedTwice wide other (view nrow (now (panel .entry))) k l j
-        (inPanel kb ke (view nb (now (mult .entry))) (exchangedPlace f kq j) k)
-        (inPanel kb ke (view nb (now (mult .entry))) (exchangedPlace f kq j) (k + 1))
-        (inPanel kb ke (view nb (now (mult .entry))) j l) (inPanel kb ke (view nb (now (mult .entry))) j (l + 1))) ⌝ }
-{
-    let m1 = multiplier_before(mult, nb, kb, ke, f, kq, j, k);
-    let m2 = multiplier_before(mult, nb, kb, ke, f, kq, j, k + 1);
-    let m3 = multiplier(mult, nb, kb, ke, j, l);
-    let m4 = multiplier(mult, nb, kb, ke, j, l + 1);
-    less::less_both(panel, wide, other, nrow, k, l, j, ke, nrow, m1, m2, m3, m4);
-}
-
-// The second pivot's own columns, less the first one's part.
+// Columns c up to e less the first pivot's part.
 fn sweep_first(
-    panel: &mut [f64],
+    part: &mut [f64],
     mult: &[f64],
-    wide: bool,
-    other: bool,
-    nrow: usize,
-    ncol: usize,
-    nb: usize,
-    kb: usize,
-    ke: usize,
-    k: usize,
-    l: usize,
+    block: bool,
+    at: Frame,
+    c: usize,
+    e: usize,
     f: usize,
     kq: usize,
 )
-    requires { ⌜ PairPre wide other nrow ncol nb kb ke k l f kq (length (now panel)) (length (now mult)) ⌝ }
-    ensures { λ _. ⌜ view nrow (now (panel .exit))
-        ≡ sweptFirst wide (view nrow (now (panel .entry))) (inPanel kb ke (view nb (now (mult .entry)))) f kq k
-        l (f + 1) ke nrow ⌝ }
+    requires { ⌜ SweepPre block at c e f kq (length (now part)) (length (now mult)) ⌝ }
+    ensures { λ _. ⌜ view (at .nrow) (now (part .exit))
+        ≡ sweptFirst block (view (at .nrow) (now (part .entry))) (view (at .nb) (now (mult .entry))) f kq 0 c e
+        0 (at .rows) ⌝ }
 {
-    for j in l..(f + 1) {
-        column_first(
-            panel,
-            mult,
-            wide,
-            other,
-            nrow,
-            ncol,
-            nb,
-            kb,
-            ke,
-            k,
-            l,
-            f,
-            kq,
-            j,
-        );
+    for j in c..e {
+        column_first(part, mult, block, at, f, kq, j);
     }
+}
+
+// Column j less the first pivot's part and then the second's.
+fn column_both(
+    part: &mut [f64],
+    mult: &[f64],
+    block1: bool,
+    block2: bool,
+    at: Frame,
+    l: usize,
+    f: usize,
+    kq: usize,
+    j: usize,
+)
+    requires { ⌜ PairPre block1 block2 at l f kq (length (now part)) (length (now mult)) ⌝ }
+    requires { ⌜ (f < j) × (j < at .columns) ⌝ }
+    ensures { λ _. ⌜ view (at .nrow) (now (part .exit))
+        ≡ withColumn (view (at .nrow) (now (part .entry))) j 0 (at .rows)
+        (steppedTwice block1 block2 (view (at .nrow) (now (part .entry))) 0 l j
+        (view (at .nb) (now (mult .entry)) (exchangedPlace f kq j) 0)
+        (view (at .nb) (now (mult .entry)) (exchangedPlace f kq j) 1)
+        (view (at .nb) (now (mult .entry)) j l) (view (at .nb) (now (mult .entry)) j (l + 1))) ⌝ }
+{
+    let m1 = multiplier_before(mult, at.nb, f, kq, j, 0);
+    let m2 = multiplier_before(mult, at.nb, f, kq, j, 1);
+    let m3 = grid::get(mult, at.nb, j, l);
+    let m4 = grid::get(mult, at.nb, j, l + 1);
+    less::less_both(part, block1, block2, at.nrow, at.rows, l, j, m1, m2, m3, m4);
 }
 
 // Whether neither of two multipliers is a zero of either sign.
@@ -168,77 +131,67 @@ fn neither_zero(a: f64, b: f64) -> bool
     (a != 0.0) & (b != 0.0)
 }
 
-// Columns j to j + 3 from row ke down, less the parts of two 1x1s, where no multiplier of theirs is zero. The answer is
-// the first column left: j itself where a multiplier is.
+// Columns j to j + 3 less the parts of two 1x1s, where no multiplier of theirs is zero. The answer is the first column
+// left: j itself where a multiplier is.
 fn four_singles(
-    panel: &mut [f64],
+    part: &mut [f64],
     mult: &[f64],
-    nrow: usize,
-    ncol: usize,
-    nb: usize,
-    kb: usize,
-    ke: usize,
-    k: usize,
+    at: Frame,
     l: usize,
     f: usize,
     kq: usize,
     j: usize,
 ) -> usize
-    requires { ⌜ PairPre false false nrow ncol nb kb ke k l f kq (length (now panel)) (length (now mult)) ⌝ }
-    requires { ⌜ (f < j) × (j + 4 ≤ ke) ⌝ }
-    ensures { λ r. ⌜ view nrow (now (panel .exit))
-        ≡ sweptBoth false false (view nrow (now (panel .entry))) (inPanel kb ke (view nb (now (mult .entry)))) f kq k l
-        j r ke nrow ⌝ }
-    ensures { λ r. ⌜ (j ≤ r) × (r ≤ ke) ⌝ }
+    requires { ⌜ PairPre false false at l f kq (length (now part)) (length (now mult)) ⌝ }
+    requires { ⌜ (f < j) × (j + 4 ≤ at .columns) ⌝ }
+    ensures { λ r. ⌜ view (at .nrow) (now (part .exit))
+        ≡ sweptBoth false false (view (at .nrow) (now (part .entry))) (view (at .nb) (now (mult .entry))) f kq 0 l
+        j r 0 (at .rows) ⌝ }
+    ensures { λ r. ⌜ (j ≤ r) × (r ≤ at .columns) ⌝ }
 {
-    let a1 = multiplier_before(mult, nb, kb, ke, f, kq, j, k);
-    let a2 = multiplier(mult, nb, kb, ke, j, l);
-    let b1 = multiplier_before(mult, nb, kb, ke, f, kq, j + 1, k);
-    let b2 = multiplier(mult, nb, kb, ke, j + 1, l);
-    let c1 = multiplier_before(mult, nb, kb, ke, f, kq, j + 2, k);
-    let c2 = multiplier(mult, nb, kb, ke, j + 2, l);
-    let d1 = multiplier_before(mult, nb, kb, ke, f, kq, j + 3, k);
-    let d2 = multiplier(mult, nb, kb, ke, j + 3, l);
+    let a1 = multiplier_before(mult, at.nb, f, kq, j, 0);
+    let a2 = grid::get(mult, at.nb, j, l);
+    let b1 = multiplier_before(mult, at.nb, f, kq, j + 1, 0);
+    let b2 = grid::get(mult, at.nb, j + 1, l);
+    let c1 = multiplier_before(mult, at.nb, f, kq, j + 2, 0);
+    let c2 = grid::get(mult, at.nb, j + 2, l);
+    let d1 = multiplier_before(mult, at.nb, f, kq, j + 3, 0);
+    let d2 = grid::get(mult, at.nb, j + 3, l);
     if neither_zero(a1, a2)
         & (neither_zero(b1, b2) & (neither_zero(c1, c2) & neither_zero(d1, d2)))
     {
-        several::less_two_of_four(panel, nrow, k, j, ke, nrow, a1, a2, b1, b2, c1, c2, d1, d2);
+        several::less_two_of_four(part, at.nrow, at.rows, j, a1, a2, b1, b2, c1, c2, d1, d2);
         return j + 4;
     }
     j
 }
 
-// Columns j and j + 1 from row ke down, less the parts of a 1x1 and of the block after it, where neither multiplier of
-// the 1x1 is zero. The answer is the first column left.
+// Columns j and j + 1 less the parts of a 1x1 and of the block after it, where neither multiplier of the 1x1 is zero.
+// The answer is the first column left.
 fn single_block_two(
-    panel: &mut [f64],
+    part: &mut [f64],
     mult: &[f64],
-    nrow: usize,
-    ncol: usize,
-    nb: usize,
-    kb: usize,
-    ke: usize,
-    k: usize,
+    at: Frame,
     l: usize,
     f: usize,
     kq: usize,
     j: usize,
 ) -> usize
-    requires { ⌜ PairPre false true nrow ncol nb kb ke k l f kq (length (now panel)) (length (now mult)) ⌝ }
-    requires { ⌜ (f < j) × (j + 2 ≤ ke) ⌝ }
-    ensures { λ r. ⌜ view nrow (now (panel .exit))
-        ≡ sweptBoth false true (view nrow (now (panel .entry))) (inPanel kb ke (view nb (now (mult .entry)))) f kq k l
-        j r ke nrow ⌝ }
-    ensures { λ r. ⌜ (j ≤ r) × (r ≤ ke) ⌝ }
+    requires { ⌜ PairPre false true at l f kq (length (now part)) (length (now mult)) ⌝ }
+    requires { ⌜ (f < j) × (j + 2 ≤ at .columns) ⌝ }
+    ensures { λ r. ⌜ view (at .nrow) (now (part .exit))
+        ≡ sweptBoth false true (view (at .nrow) (now (part .entry))) (view (at .nb) (now (mult .entry))) f kq 0 l
+        j r 0 (at .rows) ⌝ }
+    ensures { λ r. ⌜ (j ≤ r) × (r ≤ at .columns) ⌝ }
 {
-    let a1 = multiplier_before(mult, nb, kb, ke, f, kq, j, k);
-    let a2 = multiplier(mult, nb, kb, ke, j, l);
-    let a3 = multiplier(mult, nb, kb, ke, j, l + 1);
-    let b1 = multiplier_before(mult, nb, kb, ke, f, kq, j + 1, k);
-    let b2 = multiplier(mult, nb, kb, ke, j + 1, l);
-    let b3 = multiplier(mult, nb, kb, ke, j + 1, l + 1);
+    let a1 = multiplier_before(mult, at.nb, f, kq, j, 0);
+    let a2 = grid::get(mult, at.nb, j, l);
+    let a3 = grid::get(mult, at.nb, j, l + 1);
+    let b1 = multiplier_before(mult, at.nb, f, kq, j + 1, 0);
+    let b2 = grid::get(mult, at.nb, j + 1, l);
+    let b3 = grid::get(mult, at.nb, j + 1, l + 1);
     if neither_zero(a1, b1) {
-        several::less_three_of_two(panel, nrow, k, j, ke, nrow, a1, a2, a3, b1, b2, b3);
+        several::less_three_of_two(part, at.nrow, at.rows, j, a1, a2, a3, b1, b2, b3);
         return j + 2;
     }
     j
@@ -246,34 +199,29 @@ fn single_block_two(
 
 // The same for a block and the 1x1 after it.
 fn block_single_two(
-    panel: &mut [f64],
+    part: &mut [f64],
     mult: &[f64],
-    nrow: usize,
-    ncol: usize,
-    nb: usize,
-    kb: usize,
-    ke: usize,
-    k: usize,
+    at: Frame,
     l: usize,
     f: usize,
     kq: usize,
     j: usize,
 ) -> usize
-    requires { ⌜ PairPre true false nrow ncol nb kb ke k l f kq (length (now panel)) (length (now mult)) ⌝ }
-    requires { ⌜ (f < j) × (j + 2 ≤ ke) ⌝ }
-    ensures { λ r. ⌜ view nrow (now (panel .exit))
-        ≡ sweptBoth true false (view nrow (now (panel .entry))) (inPanel kb ke (view nb (now (mult .entry)))) f kq k l
-        j r ke nrow ⌝ }
-    ensures { λ r. ⌜ (j ≤ r) × (r ≤ ke) ⌝ }
+    requires { ⌜ PairPre true false at l f kq (length (now part)) (length (now mult)) ⌝ }
+    requires { ⌜ (f < j) × (j + 2 ≤ at .columns) ⌝ }
+    ensures { λ r. ⌜ view (at .nrow) (now (part .exit))
+        ≡ sweptBoth true false (view (at .nrow) (now (part .entry))) (view (at .nb) (now (mult .entry))) f kq 0 l
+        j r 0 (at .rows) ⌝ }
+    ensures { λ r. ⌜ (j ≤ r) × (r ≤ at .columns) ⌝ }
 {
-    let a1 = multiplier_before(mult, nb, kb, ke, f, kq, j, k);
-    let a2 = multiplier_before(mult, nb, kb, ke, f, kq, j, k + 1);
-    let a3 = multiplier(mult, nb, kb, ke, j, l);
-    let b1 = multiplier_before(mult, nb, kb, ke, f, kq, j + 1, k);
-    let b2 = multiplier_before(mult, nb, kb, ke, f, kq, j + 1, k + 1);
-    let b3 = multiplier(mult, nb, kb, ke, j + 1, l);
+    let a1 = multiplier_before(mult, at.nb, f, kq, j, 0);
+    let a2 = multiplier_before(mult, at.nb, f, kq, j, 1);
+    let a3 = grid::get(mult, at.nb, j, l);
+    let b1 = multiplier_before(mult, at.nb, f, kq, j + 1, 0);
+    let b2 = multiplier_before(mult, at.nb, f, kq, j + 1, 1);
+    let b3 = grid::get(mult, at.nb, j + 1, l);
     if neither_zero(a3, b3) {
-        several::less_three_of_two(panel, nrow, k, j, ke, nrow, a1, a2, a3, b1, b2, b3);
+        several::less_three_of_two(part, at.nrow, at.rows, j, a1, a2, a3, b1, b2, b3);
         return j + 2;
     }
     j
@@ -282,226 +230,162 @@ fn block_single_two(
 // Several columns from j on, less both pivots' parts, where the pivots' kinds, the columns left and the multipliers
 // allow it. The answer is the first column left: j itself where they do not.
 fn several_next(
-    panel: &mut [f64],
+    part: &mut [f64],
     mult: &[f64],
-    wide: bool,
-    other: bool,
-    nrow: usize,
-    ncol: usize,
-    nb: usize,
-    kb: usize,
-    ke: usize,
-    k: usize,
+    block1: bool,
+    block2: bool,
+    at: Frame,
     l: usize,
     f: usize,
     kq: usize,
     j: usize,
 ) -> usize
-    requires { ⌜ PairPre wide other nrow ncol nb kb ke k l f kq (length (now panel)) (length (now mult)) ⌝ }
-    requires { ⌜ (f < j) × (j < ke) ⌝ }
-    ensures { λ r. ⌜ view nrow (now (panel .exit))
-        ≡ sweptBoth wide other (view nrow (now (panel .entry))) (inPanel kb ke (view nb (now (mult .entry)))) f kq k l
-        j r ke nrow ⌝ }
-    ensures { λ r. ⌜ (j ≤ r) × (r ≤ ke) ⌝ }
+    requires { ⌜ PairPre block1 block2 at l f kq (length (now part)) (length (now mult)) ⌝ }
+    requires { ⌜ (f < j) × (j < at .columns) ⌝ }
+    ensures { λ r. ⌜ view (at .nrow) (now (part .exit))
+        ≡ sweptBoth block1 block2 (view (at .nrow) (now (part .entry))) (view (at .nb) (now (mult .entry))) f kq 0 l
+        j r 0 (at .rows) ⌝ }
+    ensures { λ r. ⌜ (j ≤ r) × (r ≤ at .columns) ⌝ }
 {
-    if ke - j < 2 {
+    let left = at.columns - j;
+    if left < 2 {
         return j;
     }
-    if wide {
-        if other {
+    if block1 {
+        if block2 {
             return j;
         }
-        return block_single_two(panel, mult, nrow, ncol, nb, kb, ke, k, l, f, kq, j);
+        return block_single_two(part, mult, at, l, f, kq, j);
     }
-    if other {
-        return single_block_two(panel, mult, nrow, ncol, nb, kb, ke, k, l, f, kq, j);
+    if block2 {
+        return single_block_two(part, mult, at, l, f, kq, j);
     }
-    if ke - j < 4 {
+    if left < 4 {
         return j;
     }
-    four_singles(panel, mult, nrow, ncol, nb, kb, ke, k, l, f, kq, j)
+    four_singles(part, mult, at, l, f, kq, j)
 }
 
 // One turn: several columns from j on, or else column j. The answer is the first column left.
 fn sweep_next(
-    panel: &mut [f64],
+    part: &mut [f64],
     mult: &[f64],
-    wide: bool,
-    other: bool,
-    nrow: usize,
-    ncol: usize,
-    nb: usize,
-    kb: usize,
-    ke: usize,
-    k: usize,
+    block1: bool,
+    block2: bool,
+    at: Frame,
     l: usize,
     f: usize,
     kq: usize,
     j: usize,
 ) -> usize
-    requires { ⌜ PairPre wide other nrow ncol nb kb ke k l f kq (length (now panel)) (length (now mult)) ⌝ }
-    requires { ⌜ (f < j) × (j < ke) ⌝ }
-    ensures { λ r. ⌜ view nrow (now (panel .exit))
-        ≡ sweptBoth wide other (view nrow (now (panel .entry))) (inPanel kb ke (view nb (now (mult .entry)))) f kq k l
-        j r ke nrow ⌝ }
-    ensures { λ r. ⌜ (j < r) × (r ≤ ke) ⌝ }
+    requires { ⌜ PairPre block1 block2 at l f kq (length (now part)) (length (now mult)) ⌝ }
+    requires { ⌜ (f < j) × (j < at .columns) ⌝ }
+    ensures { λ r. ⌜ view (at .nrow) (now (part .exit))
+        ≡ sweptBoth block1 block2 (view (at .nrow) (now (part .entry))) (view (at .nb) (now (mult .entry))) f kq 0 l
+        j r 0 (at .rows) ⌝ }
+    ensures { λ r. ⌜ (j < r) × (r ≤ at .columns) ⌝ }
 {
-    let next = several_next(
-        panel,
-        mult,
-        wide,
-        other,
-        nrow,
-        ncol,
-        nb,
-        kb,
-        ke,
-        k,
-        l,
-        f,
-        kq,
-        j,
-    );
+    let next = several_next(part, mult, block1, block2, at, l, f, kq, j);
     if j < next {
         return next;
     }
-    column_both(
-        panel,
-        mult,
-        wide,
-        other,
-        nrow,
-        ncol,
-        nb,
-        kb,
-        ke,
-        k,
-        l,
-        f,
-        kq,
-        j,
-    );
+    column_both(part, mult, block1, block2, at, l, f, kq, j);
     j + 1
 }
 
 // The columns after both pivots, less their parts.
 fn sweep_both(
-    panel: &mut [f64],
+    part: &mut [f64],
     mult: &[f64],
-    wide: bool,
-    other: bool,
-    nrow: usize,
-    ncol: usize,
-    nb: usize,
-    kb: usize,
-    ke: usize,
-    k: usize,
+    block1: bool,
+    block2: bool,
+    at: Frame,
     l: usize,
     f: usize,
     kq: usize,
 )
-    requires { ⌜ PairPre wide other nrow ncol nb kb ke k l f kq (length (now panel)) (length (now mult)) ⌝ }
-    ensures { λ _. ⌜ view nrow (now (panel .exit))
-        ≡ sweptBoth wide other (view nrow (now (panel .entry))) (inPanel kb ke (view nb (now (mult .entry)))) f kq k l
-        (f + 1) ke ke nrow ⌝ }
+    requires { ⌜ PairPre block1 block2 at l f kq (length (now part)) (length (now mult)) ⌝ }
+    ensures { λ _. ⌜ view (at .nrow) (now (part .exit))
+        ≡ sweptBoth block1 block2 (view (at .nrow) (now (part .entry))) (view (at .nb) (now (mult .entry))) f kq 0 l
+        (f + 1) (at .columns) 0 (at .rows) ⌝ }
 {
     let mut j = f + 1;
-    while j < ke {
-        j = sweep_next(
-            panel,
-            mult,
-            wide,
-            other,
-            nrow,
-            ncol,
-            nb,
-            kb,
-            ke,
-            k,
-            l,
-            f,
-            kq,
-            j,
-        );
+    while j < at.columns {
+        j = sweep_next(part, mult, block1, block2, at, l, f, kq, j);
     }
 }
 
-// A pivot's own columns in rows lo up to hi: the multipliers of those rows.
-fn own_columns(panel: &mut [f64], wide: bool, nrow: usize, k: usize, lo: usize, hi: usize, b: Block)
-    requires { ⌜ RowsPre nrow (lastOf k wide) lo hi (length (now panel)) ⌝ }
-    ensures { λ _. ⌜ view nrow (now (panel .exit)) ≡ ownBy wide (view nrow (now (panel .entry))) k lo hi b ⌝ }
+// The own columns of the pivot x at k: the multipliers of the rows.
+fn own_columns(part: &mut [f64], nrow: usize, rows: usize, k: usize, x: Diagonal)
+    requires { ⌜ RowsPre nrow (lastOf k (isBlock x)) 0 rows (length (now part)) ⌝ }
+    ensures { λ _. ⌜ view nrow (now (part .exit)) ≡ ownBy (view nrow (now (part .entry))) k 0 rows x ⌝ }
 {
-    if wide {
-        let r = reciprocal(b.det);
-        columns::combine(panel, nrow, k, lo, hi, b.d11, b.d21, b.d22, r);
-        return;
+    match x {
+        Diagonal::One(d) => columns::scale(part, nrow, k, 0, rows, reciprocal(d)),
+        Diagonal::Two(b) => {
+            let r = reciprocal(b.det);
+            columns::combine(part, nrow, k, 0, rows, b.d11, b.d21, b.d22, r);
+        }
     }
-    columns::scale(panel, nrow, k, lo, hi, reciprocal(b.d11));
 }
 
-// The rows from ke down after the steps at k and, right after it, at l, which exchanged their last columns with kp and
-// kq, by the multipliers in mult. Columns from row ke down are lent on as parts of the panel from ke + k·nrow on.
-// in: mult; b and c the pivots' numbers, of a 1x1 its number as d11 / in and out: panel
+// The last column of a pivot at column 0.
+fn last_column(block: bool) -> usize
+    ensures { λ r. ⌜ r ≡ lastOf 0 block ⌝ }
+{
+    if block {
+        return 1;
+    }
+    0
+}
+
+// The rows below after the step of the pivot x in the part's first columns, which exchanged its last column with kp.
+// in: mult, x / in and out: part
+// origin: src/numeric/ldlt/bunch_kaufman.rs, fn apply_bk_panel_trailing
+pub fn below_step(part: &mut [f64], mult: &[f64], at: Frame, kp: usize, x: Diagonal)
+    requires { ⌜ StepPre (isBlock x) at kp (length (now part)) (length (now mult)) ⌝ }
+    ensures { λ _. ⌜ view (at .nrow) (now (part .exit))
+        ≡ below 0 (at .rows) (rowAfterStep (at .columns)
+        (stepOf 0 kp x (columnOf (view (at .nb) (now (mult .entry))) 0)
+        (columnOf (view (at .nb) (now (mult .entry))) 1))) (view (at .nrow) (now (part .entry))) ⌝ }
+{
+    let block = is_block(x);
+    let last = last_column(block);
+    columns::exchange(part, at.nrow, last, kp, 0, at.rows);
+    sweep_first(part, mult, block, at, last + 1, at.columns, last, last);
+    own_columns(part, at.nrow, at.rows, 0, x);
+}
+
+// The rows below after the steps of the pivot x in the part's first columns and, right after it, of the pivot y in
+// columns l to f, which exchanged their last columns with kp and kq.
+// in: mult, x, y / in and out: part
 // origin: src/numeric/ldlt/bunch_kaufman.rs, fn apply_bk_panel_trailing
 pub fn below_pair(
-    panel: &mut [f64],
+    part: &mut [f64],
     mult: &[f64],
-    wide: bool,
-    other: bool,
-    nrow: usize,
-    ncol: usize,
-    nb: usize,
-    kb: usize,
-    ke: usize,
-    k: usize,
-    kp: usize,
+    at: Frame,
     l: usize,
     f: usize,
+    kp: usize,
     kq: usize,
-    b: Block,
-    c: Block,
+    x: Diagonal,
+    y: Diagonal,
 )
-    requires { ⌜ PairPre wide other nrow ncol nb kb ke k l f kq (length (now panel)) (length (now mult)) ⌝ }
-    requires { ⌜ kp < ke ⌝ }
-    ensures { λ _. ⌜ view nrow (now (panel .exit))
-        ≡ below ke nrow (rowAfterBoth ke
-        (stepBy wide k kp b (columnOf (inPanel kb ke (view nb (now (mult .entry)))) k)
-        (columnOf (inPanel kb ke (view nb (now (mult .entry)))) (k + 1)))
-        (stepBy other l kq c (columnOf (inPanel kb ke (view nb (now (mult .entry)))) l)
-        (columnOf (inPanel kb ke (view nb (now (mult .entry)))) (l + 1)))) (view nrow (now (panel .entry))) ⌝ }
+    requires { ⌜ PairPre (isBlock x) (isBlock y) at l f kq (length (now part)) (length (now mult)) ⌝ }
+    requires { ⌜ kp < at .columns ⌝ }
+    ensures { λ _. ⌜ view (at .nrow) (now (part .exit))
+        ≡ below 0 (at .rows) (rowAfterBoth (at .columns)
+        (stepOf 0 kp x (columnOf (view (at .nb) (now (mult .entry))) 0)
+        (columnOf (view (at .nb) (now (mult .entry))) 1))
+        (stepOf l kq y (columnOf (view (at .nb) (now (mult .entry))) l)
+        (columnOf (view (at .nb) (now (mult .entry))) (l + 1)))) (view (at .nrow) (now (part .entry))) ⌝ }
 {
-    columns::exchange(panel, nrow, l - 1, kp, ke, nrow);
-    columns::exchange(panel, nrow, f, kq, ke, nrow);
-    sweep_first(
-        panel,
-        mult,
-        wide,
-        other,
-        nrow,
-        ncol,
-        nb,
-        kb,
-        ke,
-        k,
-        l,
-        f,
-        kq,
-    );
-    sweep_both(
-        panel,
-        mult,
-        wide,
-        other,
-        nrow,
-        ncol,
-        nb,
-        kb,
-        ke,
-        k,
-        l,
-        f,
-        kq,
-    );
-    own_columns(panel, wide, nrow, k, ke, nrow, b);
-    own_columns(panel, other, nrow, l, ke, nrow, c);
+    let block1 = is_block(x);
+    let block2 = is_block(y);
+    columns::exchange(part, at.nrow, l - 1, kp, 0, at.rows);
+    columns::exchange(part, at.nrow, f, kq, 0, at.rows);
+    sweep_first(part, mult, block1, at, l, f + 1, f, kq);
+    sweep_both(part, mult, block1, block2, at, l, f, kq);
+    own_columns(part, at.nrow, at.rows, 0, x);
+    own_columns(part, at.nrow, at.rows, l, y);
 }

@@ -12,26 +12,20 @@ multiplier-before-requires c κs =
     let at = start .pre .1 in
     both-kept (start .pre .0) _ (omega arith) (omega arith)
 
-add-multiplier-before : tie.Need-add-multiplier-before
-add-multiplier-before c =
-    let start = c .before .before .before in
-    let at = placed _ _ _ _ _ _ _ _ _ _ _ _ _ (start .pre .0) in
-    search needs
-
 multiplier-before-requires-2 : tie.Need-multiplier-before-requires-2
 multiplier-before-requires-2 c κs =
     let start = c .before .before .before in
     let at = start .pre .1 in
     both-kept-next (start .pre .0) _ (omega arith) (omega arith)
 
-multiplier-requires : tie.Need-multiplier-requires
-multiplier-requires c κs =
+get-requires : tie.Need-get-requires
+get-requires c κs =
     let start = c .before .before .before .before in
     let at = start .pre .1 in
     second-kept (start .pre .0) _ (omega arith) (omega arith)
 
-add-multiplier-before-2 : tie.Need-add-multiplier-before-2
-add-multiplier-before-2 c = search needs
+add-multiplier-before : tie.Need-add-multiplier-before
+add-multiplier-before c = search needs
 
 multiplier-before-requires-3 : tie.Need-multiplier-before-requires-3
 multiplier-before-requires-3 c κs =
@@ -39,14 +33,8 @@ multiplier-before-requires-3 c κs =
     let at = start .pre .1 in
     both-kept (start .pre .0) _ (omega arith) (omega arith)
 
-add-multiplier-before-3 : tie.Need-add-multiplier-before-3
-add-multiplier-before-3 c = search needs
-
-add-multiplier-before-4 : tie.Need-add-multiplier-before-4
-add-multiplier-before-4 c =
-    let start = c .before .before .before .before .before .before in
-    let at = placed _ _ _ _ _ _ _ _ _ _ _ _ _ (start .pre .0) in
-    search needs
+add-multiplier-before-2 : tie.Need-add-multiplier-before-2
+add-multiplier-before-2 c = search needs
 
 multiplier-before-requires-4 : tie.Need-multiplier-before-requires-4
 multiplier-before-requires-4 c κs =
@@ -54,11 +42,11 @@ multiplier-before-requires-4 c κs =
     let at = start .pre .1 in
     both-kept-next (start .pre .0) _ (omega arith) (omega arith)
 
-add-multiplier : tie.Need-add-multiplier
-add-multiplier c = search needs
+add-get : tie.Need-add-get
+add-get c = search needs
 
-multiplier-requires-2 : tie.Need-multiplier-requires-2
-multiplier-requires-2 c κs =
+get-requires-2 : tie.Need-get-requires-2
+get-requires-2 c κs =
     let start = c .before .before .before .before .before .before .before in
     let at = start .pre .1 in
     second-kept (start .pre .0) _ (omega arith) (omega arith)
@@ -85,10 +73,10 @@ returns c =
     let tested = c .before .before .before .before in
     let read = tested .before .before in
     let start = read .before .before .before .before .before .before .before .before in (
-      block-single-done _ _ _ _ _ _ _ _ _ _ (start .pre .0 .next) (start .pre .0 .last) (start .pre .1 .0) (start .pre .1 .1)
+      block-single-done _ _ _ _ _ _ _ _ _ (start .pre .0 .next) (start .pre .0 .last) (start .pre .1 .0)
           (read .before .before .before .before .before .multiplier-before .ensures) (read .before .before .before .before .multiplier-before2 .ensures)
-          (read .before .before .before .multiplier .ensures) (read .before .before .multiplier-before3 .ensures)
-          (read .before .multiplier-before4 .ensures) (read .multiplier2 .ensures) (tested .before .neither-zero .ensures) (tested .if1 .taken)
+          (read .before .before .before .get .ensures) (read .before .before .multiplier-before3 .ensures)
+          (read .before .multiplier-before4 .ensures) (read .get2 .ensures) (tested .before .neither-zero .ensures) (tested .if1 .taken)
           (c .before .before .less-three-of-two .ensures),
       (omega arith, start .pre .1 .1),
     )
@@ -104,16 +92,14 @@ block-single-two-spec =
     tie.close
     (tie.spec
     multiplier-before-requires
-    add-multiplier-before
     multiplier-before-requires-2
-    multiplier-requires
-    add-multiplier-before-2
+    get-requires
+    add-multiplier-before
     multiplier-before-requires-3
-    add-multiplier-before-3
-    add-multiplier-before-4
+    add-multiplier-before-2
     multiplier-before-requires-4
-    add-multiplier
-    multiplier-requires-2
+    add-get
+    get-requires-2
     neither-zero-requires
     less-three-of-two-requires
     add-result

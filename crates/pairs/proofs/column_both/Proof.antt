@@ -1,26 +1,23 @@
 -- `pairs::column_both` meets its contract: the first pivot's multipliers are those of the row that the column stood in. Assumes nothing.
-use Rattle.pairs.proofs.Sweeps.{placed, both-kept, both-kept-next, second-kept, second-kept-next, later-than-both, both-turn}
 use borrow.Author.Needs.{needs}
+use Rattle.pairs.proofs.Sweeps.{placed, both-kept, both-kept-next, second-kept, second-kept-next, later-than-both, both-turn}
 use Rattle.pairs.proofs.column_both.Statement.{statement}
 use Rattle.pairs.proofs.column_both.Tie as tie
 
 multiplier-before-requires : tie.Need-multiplier-before-requires
 multiplier-before-requires c κs = search (needs, both-kept)
 
-add-multiplier-before : tie.Need-add-multiplier-before
-add-multiplier-before c = let at = placed _ _ _ _ _ _ _ _ _ _ _ _ _ (c .before .before .before .pre .0) in search needs
-
 multiplier-before-requires-2 : tie.Need-multiplier-before-requires-2
 multiplier-before-requires-2 c κs = search (needs, both-kept-next)
 
-multiplier-requires : tie.Need-multiplier-requires
-multiplier-requires c κs = search (needs, second-kept)
+get-requires : tie.Need-get-requires
+get-requires c κs = search (needs, second-kept)
 
-add-multiplier : tie.Need-add-multiplier
-add-multiplier c = let at = placed _ _ _ _ _ _ _ _ _ _ _ _ _ (c .before .before .before .before .before .pre .0) in search needs
+add-get : tie.Need-add-get
+add-get c = let at = placed (c .before .before .before .before .before .pre .0) in search needs
 
-multiplier-requires-2 : tie.Need-multiplier-requires-2
-multiplier-requires-2 c κs = search (needs, second-kept-next)
+get-requires-2 : tie.Need-get-requires-2
+get-requires-2 c κs = search (needs, second-kept-next)
 
 less-both-requires : tie.Need-less-both-requires
 less-both-requires c κs = (search needs, search (needs, later-than-both))
@@ -36,11 +33,10 @@ column-both-spec =
     tie.close
     (tie.spec
     multiplier-before-requires
-    add-multiplier-before
     multiplier-before-requires-2
-    multiplier-requires
-    add-multiplier
-    multiplier-requires-2
+    get-requires
+    add-get
+    get-requires-2
     less-both-requires
     same-length
     returns)

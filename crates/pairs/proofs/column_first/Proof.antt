@@ -1,14 +1,11 @@
 -- `pairs::column_first` meets its contract: the multipliers are those of the row that the column stood in. Assumes nothing.
-use Rattle.pairs.proofs.Sweeps.{placed, first-kept, first-kept-next, later-than-first, first-turn}
 use borrow.Author.Needs.{needs}
+use Rattle.pairs.proofs.Sweeps.{first-kept, first-kept-next, later-than-first, first-turn}
 use Rattle.pairs.proofs.column_first.Statement.{statement}
 use Rattle.pairs.proofs.column_first.Tie as tie
 
 multiplier-before-requires : tie.Need-multiplier-before-requires
 multiplier-before-requires c κs = search (needs, first-kept)
-
-add-multiplier-before : tie.Need-add-multiplier-before
-add-multiplier-before c = let at = placed _ _ _ _ _ _ _ _ _ _ _ _ _ (c .before .before .before .pre .0) in search needs
 
 multiplier-before-requires-2 : tie.Need-multiplier-before-requires-2
 multiplier-before-requires-2 c κs = search (needs, first-kept-next)
@@ -25,10 +22,4 @@ returns c = search (needs, first-turn)
 pub column-first-spec : {M : Type 1} → statement M
 column-first-spec =
     tie.close
-    (tie.spec
-    multiplier-before-requires
-    add-multiplier-before
-    multiplier-before-requires-2
-    less-step-requires
-    same-length
-    returns)
+    (tie.spec multiplier-before-requires multiplier-before-requires-2 less-step-requires same-length returns)

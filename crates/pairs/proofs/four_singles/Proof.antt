@@ -12,8 +12,8 @@ multiplier-before-requires c κs =
     let at = start .pre .1 in
     both-kept (start .pre .0) _ (omega arith) (omega arith)
 
-multiplier-requires : tie.Need-multiplier-requires
-multiplier-requires c κs =
+get-requires : tie.Need-get-requires
+get-requires c κs =
     let start = c .before .before .before in
     let at = start .pre .1 in
     second-kept (start .pre .0) _ (omega arith) (omega arith)
@@ -27,11 +27,11 @@ multiplier-before-requires-2 c κs =
     let at = start .pre .1 in
     both-kept (start .pre .0) _ (omega arith) (omega arith)
 
-add-multiplier : tie.Need-add-multiplier
-add-multiplier c = search needs
+add-get : tie.Need-add-get
+add-get c = search needs
 
-multiplier-requires-2 : tie.Need-multiplier-requires-2
-multiplier-requires-2 c κs =
+get-requires-2 : tie.Need-get-requires-2
+get-requires-2 c κs =
     let start = c .before .before .before .before .before in
     let at = start .pre .1 in
     second-kept (start .pre .0) _ (omega arith) (omega arith)
@@ -45,11 +45,11 @@ multiplier-before-requires-3 c κs =
     let at = start .pre .1 in
     both-kept (start .pre .0) _ (omega arith) (omega arith)
 
-add-multiplier-2 : tie.Need-add-multiplier-2
-add-multiplier-2 c = search needs
+add-get-2 : tie.Need-add-get-2
+add-get-2 c = search needs
 
-multiplier-requires-3 : tie.Need-multiplier-requires-3
-multiplier-requires-3 c κs =
+get-requires-3 : tie.Need-get-requires-3
+get-requires-3 c κs =
     let start = c .before .before .before .before .before .before .before in
     let at = start .pre .1 in
     second-kept (start .pre .0) _ (omega arith) (omega arith)
@@ -63,11 +63,11 @@ multiplier-before-requires-4 c κs =
     let at = start .pre .1 in
     both-kept (start .pre .0) _ (omega arith) (omega arith)
 
-add-multiplier-3 : tie.Need-add-multiplier-3
-add-multiplier-3 c = search needs
+add-get-3 : tie.Need-add-get-3
+add-get-3 c = search needs
 
-multiplier-requires-4 : tie.Need-multiplier-requires-4
-multiplier-requires-4 c κs =
+get-requires-4 : tie.Need-get-requires-4
+get-requires-4 c κs =
     let start = c .before .before .before .before .before .before .before .before .before in
     let at = start .pre .1 in
     second-kept (start .pre .0) _ (omega arith) (omega arith)
@@ -106,12 +106,12 @@ returns c =
     let d = tested .before in
     let read = tested .before .before .before .before .before in
     let start = read .before .before .before .before .before .before .before .before .before .before in (
-      four-done _ _ _ _ _ _ _ _ _ _ (start .pre .0 .next) (start .pre .0 .last) (start .pre .1 .0) (start .pre .1 .1)
+      four-done _ _ _ _ _ _ _ _ _ (start .pre .0 .next) (start .pre .0 .last) (start .pre .1 .0)
           (read .before .before .before .before .before .before .before .multiplier-before .ensures)
-          (read .before .before .before .before .before .before .multiplier .ensures)
-          (read .before .before .before .before .before .multiplier-before2 .ensures) (read .before .before .before .before .multiplier2 .ensures)
-          (read .before .before .before .multiplier-before3 .ensures) (read .before .before .multiplier3 .ensures)
-          (read .before .multiplier-before4 .ensures) (read .multiplier4 .ensures)
+          (read .before .before .before .before .before .before .get .ensures)
+          (read .before .before .before .before .before .multiplier-before2 .ensures) (read .before .before .before .before .get2 .ensures)
+          (read .before .before .before .multiplier-before3 .ensures) (read .before .before .get3 .ensures)
+          (read .before .multiplier-before4 .ensures) (read .get4 .ensures)
           (d .before .before .before .neither-zero .ensures) (d .before .before .neither-zero2 .ensures) (d .before .neither-zero3 .ensures)
           (d .neither-zero4 .ensures) (tested .if1 .taken) (c .before .before .less-two-of-four .ensures),
       (omega arith, start .pre .1 .1),
@@ -128,19 +128,19 @@ four-singles-spec =
     tie.close
     (tie.spec
     multiplier-before-requires
-    multiplier-requires
+    get-requires
     add-multiplier-before
     multiplier-before-requires-2
-    add-multiplier
-    multiplier-requires-2
+    add-get
+    get-requires-2
     add-multiplier-before-2
     multiplier-before-requires-3
-    add-multiplier-2
-    multiplier-requires-3
+    add-get-2
+    get-requires-3
     add-multiplier-before-3
     multiplier-before-requires-4
-    add-multiplier-3
-    multiplier-requires-4
+    add-get-3
+    get-requires-4
     neither-zero-requires
     neither-zero-requires-2
     neither-zero-requires-3

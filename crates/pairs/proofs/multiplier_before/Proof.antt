@@ -6,11 +6,11 @@ use Rattle.pairs.proofs.multiplier_before.Tie as tie
 exchanged-place-requires : tie.Need-exchanged-place-requires
 exchanged-place-requires c κs = search needs
 
-multiplier-requires : tie.Need-multiplier-requires
-multiplier-requires c κs = search needs
+get-requires : tie.Need-get-requires
+get-requires c κs = search needs
 
 returns : tie.Need-returns
 returns c = cc
 
 pub multiplier-before-spec : {M : Type 1} → statement M
-multiplier-before-spec = tie.close (tie.spec exchanged-place-requires multiplier-requires returns)
+multiplier-before-spec = tie.close (tie.spec exchanged-place-requires get-requires returns)

@@ -5,8 +5,8 @@ use Rattle.pairs.proofs.Several.{pair-kinds, both-kinds}
 use Rattle.pairs.proofs.several_next.Statement.{statement}
 use Rattle.pairs.proofs.several_next.Tie as tie
 
-sub-if1 : tie.Need-sub-if1
-sub-if1 c = search needs
+sub-left : tie.Need-sub-left
+sub-left c = search needs
 
 returns : tie.Need-returns
 returns c = (search (needs, both-none), search needs)
@@ -32,9 +32,6 @@ same-length-2 c = search needs
 returns-4 : tie.Need-returns-4
 returns-4 c = (search (needs, both-kinds), search needs)
 
-sub-if5 : tie.Need-sub-if5
-sub-if5 c = search needs
-
 returns-5 : tie.Need-returns-5
 returns-5 c = (search (needs, both-none), search needs)
 
@@ -51,7 +48,7 @@ pub several-next-spec : {M : Type 1} → statement M
 several-next-spec =
     tie.close
     (tie.spec
-    sub-if1
+    sub-left
     returns
     returns-2
     block-single-two-requires
@@ -60,7 +57,6 @@ several-next-spec =
     single-block-two-requires
     same-length-2
     returns-4
-    sub-if5
     returns-5
     four-singles-requires
     same-length-3

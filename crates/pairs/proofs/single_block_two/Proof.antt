@@ -12,20 +12,20 @@ multiplier-before-requires c κs =
     let at = start .pre .1 in
     both-kept (start .pre .0) _ (omega arith) (omega arith)
 
-multiplier-requires : tie.Need-multiplier-requires
-multiplier-requires c κs =
+get-requires : tie.Need-get-requires
+get-requires c κs =
     let start = c .before .before .before in
     let at = start .pre .1 in
     second-kept (start .pre .0) _ (omega arith) (omega arith)
 
-add-multiplier : tie.Need-add-multiplier
-add-multiplier c =
+add-get : tie.Need-add-get
+add-get c =
     let start = c .before .before .before .before in
-    let at = placed _ _ _ _ _ _ _ _ _ _ _ _ _ (start .pre .0) in
+    let at = placed (start .pre .0) in
     search needs
 
-multiplier-requires-2 : tie.Need-multiplier-requires-2
-multiplier-requires-2 c κs =
+get-requires-2 : tie.Need-get-requires-2
+get-requires-2 c κs =
     let start = c .before .before .before .before in
     let at = start .pre .1 in
     second-kept-next (start .pre .0) _ (omega arith) (omega arith)
@@ -39,26 +39,26 @@ multiplier-before-requires-2 c κs =
     let at = start .pre .1 in
     both-kept (start .pre .0) _ (omega arith) (omega arith)
 
-add-multiplier-2 : tie.Need-add-multiplier-2
-add-multiplier-2 c = search needs
+add-get-2 : tie.Need-add-get-2
+add-get-2 c = search needs
 
-multiplier-requires-3 : tie.Need-multiplier-requires-3
-multiplier-requires-3 c κs =
+get-requires-3 : tie.Need-get-requires-3
+get-requires-3 c κs =
     let start = c .before .before .before .before .before .before in
     let at = start .pre .1 in
     second-kept (start .pre .0) _ (omega arith) (omega arith)
 
-add-multiplier-3 : tie.Need-add-multiplier-3
-add-multiplier-3 c = search needs
+add-get-3 : tie.Need-add-get-3
+add-get-3 c = search needs
 
-add-multiplier-4 : tie.Need-add-multiplier-4
-add-multiplier-4 c =
+add-get-4 : tie.Need-add-get-4
+add-get-4 c =
     let start = c .before .before .before .before .before .before .before in
-    let at = placed _ _ _ _ _ _ _ _ _ _ _ _ _ (start .pre .0) in
+    let at = placed (start .pre .0) in
     search needs
 
-multiplier-requires-4 : tie.Need-multiplier-requires-4
-multiplier-requires-4 c κs =
+get-requires-4 : tie.Need-get-requires-4
+get-requires-4 c κs =
     let start = c .before .before .before .before .before .before .before in
     let at = start .pre .1 in
     second-kept-next (start .pre .0) _ (omega arith) (omega arith)
@@ -85,10 +85,10 @@ returns c =
     let tested = c .before .before .before .before in
     let read = tested .before .before in
     let start = read .before .before .before .before .before .before .before .before in (
-      single-block-done _ _ _ _ _ _ _ _ _ _ (start .pre .0 .next) (start .pre .0 .last) (start .pre .1 .0) (start .pre .1 .1)
-          (read .before .before .before .before .before .multiplier-before .ensures) (read .before .before .before .before .multiplier .ensures)
-          (read .before .before .before .multiplier2 .ensures) (read .before .before .multiplier-before2 .ensures)
-          (read .before .multiplier3 .ensures) (read .multiplier4 .ensures) (tested .before .neither-zero .ensures) (tested .if1 .taken)
+      single-block-done _ _ _ _ _ _ _ _ _ (start .pre .0 .next) (start .pre .0 .last) (start .pre .1 .0)
+          (read .before .before .before .before .before .multiplier-before .ensures) (read .before .before .before .before .get .ensures)
+          (read .before .before .before .get2 .ensures) (read .before .before .multiplier-before2 .ensures)
+          (read .before .get3 .ensures) (read .get4 .ensures) (tested .before .neither-zero .ensures) (tested .if1 .taken)
           (c .before .before .less-three-of-two .ensures),
       (omega arith, start .pre .1 .1),
     )
@@ -104,16 +104,16 @@ single-block-two-spec =
     tie.close
     (tie.spec
     multiplier-before-requires
-    multiplier-requires
-    add-multiplier
-    multiplier-requires-2
+    get-requires
+    add-get
+    get-requires-2
     add-multiplier-before
     multiplier-before-requires-2
-    add-multiplier-2
-    multiplier-requires-3
-    add-multiplier-3
-    add-multiplier-4
-    multiplier-requires-4
+    add-get-2
+    get-requires-3
+    add-get-3
+    add-get-4
+    get-requires-4
     neither-zero-requires
     less-three-of-two-requires
     add-result

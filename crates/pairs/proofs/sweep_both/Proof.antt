@@ -5,7 +5,6 @@ use native.Mathlib.Omega.{arith}
 use lib.ListN.{length}
 use borrow.Author.Needs.{needs}
 use Rattle.model.specs.Matrix.{view}
-use Rattle.eliminate.specs.Eliminate.{inPanel}
 use Rattle.pairs.specs.Pairs.{sweptBoth}
 use Rattle.pairs.proofs.Sweeps.{placed, both-none, both-end}
 use Rattle.pairs.proofs.Several.{both-join}
@@ -13,18 +12,18 @@ use Rattle.pairs.proofs.sweep_both.Statement.{statement}
 use Rattle.pairs.proofs.sweep_both.Tie as tie
 
 abbrev Inv-loop : tie.InvT-loop
-Inv-loop panel₀ mult wide other nrow ncol nb kb ke k l f kq j₀ panel j =
-    (f + 1 ≤ j) × (j ≤ ke) × (length panel ≡ length panel₀)
-    × (view nrow panel ≡ sweptBoth wide other (view nrow panel₀) (inPanel kb ke (view nb mult)) f kq k l (f + 1) j ke nrow)
+Inv-loop part₀ mult block1 block2 at l f kq j₀ part j =
+    (f + 1 ≤ j) × (j ≤ at .columns) × (length part ≡ length part₀)
+    × (view (at .nrow) part ≡ sweptBoth block1 block2 (view (at .nrow) part₀) (view (at .nb) mult) f kq 0 l (f + 1) j 0 (at .rows))
 
 abbrev μ-loop : tie.MeasureT-loop
-μ-loop panel₀ mult wide other nrow ncol nb kb ke k l f kq j₀ panel j = ke - j
+μ-loop part₀ mult block1 block2 at l f kq j₀ part j = at .columns - j
 
 add-j : tie.Need-add-j Inv-loop μ-loop
 add-j c = search needs
 
 loop-holds : tie.Need-loop-holds Inv-loop μ-loop
-loop-holds c = let at = placed _ _ _ _ _ _ _ _ _ _ _ _ _ (c .before .before .pre) in (omega arith, omega arith, refl, both-none _ _ _ _ _ _ _ _ _ _ _)
+loop-holds c = let at = placed (c .before .before .pre) in (omega arith, omega arith, refl, both-none _ _ _ _ _ _ _ _ _ _ _)
 
 sweep-next-requires : tie.Need-sweep-next-requires Inv-loop μ-loop
 sweep-next-requires c κs = search needs
@@ -35,9 +34,9 @@ loop-less c = search needs
 loop-again : tie.Need-loop-again Inv-loop μ-loop
 loop-again c =
     let turn = c .before .before in
-    let inv = turn .before .before .before .loop .inv in
-    let pre = turn .before .before .before .before .before .before .pre in
-    let at = placed _ _ _ _ _ _ _ _ _ _ _ _ _ pre in (
+    let inv = turn .before .before .before .before .loop .inv in
+    let pre = turn .before .before .before .before .before .before .before .pre in
+    let at = placed pre in (
       search needs,
       search needs,
       search needs,

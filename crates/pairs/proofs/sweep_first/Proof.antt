@@ -1,32 +1,28 @@
 -- `pairs::sweep_first` meets its contract. The invariant: the columns before j are swept; the measure is what is left. Assumes nothing.
-use Prim.Native.Nat.{_+_, _≤_, _-_}
+use Prim.Native.Nat.{_≤_, _-_}
 use mathlib.Core.Path.{_≡_, refl}
 use native.Mathlib.Omega.{arith}
 use lib.ListN.{length}
 use borrow.Author.Needs.{needs}
 use Rattle.model.specs.Matrix.{view}
-use Rattle.eliminate.specs.Eliminate.{inPanel}
 use Rattle.pairs.specs.Pairs.{sweptFirst}
-use Rattle.pairs.proofs.Sweeps.{placed, first-none, first-step, first-end}
+use Rattle.pairs.proofs.Sweeps.{sweep-column, first-none, first-step, first-end}
 use Rattle.pairs.proofs.sweep_first.Statement.{statement}
 use Rattle.pairs.proofs.sweep_first.Tie as tie
 
 abbrev Inv-loop : tie.InvT-loop
-Inv-loop panel₀ mult wide other nrow ncol nb kb ke k l f kq j₀ j-end panel j =
-    (l ≤ j) × (j ≤ f + 1) × (length panel ≡ length panel₀)
-    × (view nrow panel ≡ sweptFirst wide (view nrow panel₀) (inPanel kb ke (view nb mult)) f kq k l j ke nrow)
+Inv-loop part₀ mult block at c e f kq j₀ part j =
+    (c ≤ j) × (j ≤ e) × (length part ≡ length part₀)
+    × (view (at .nrow) part ≡ sweptFirst block (view (at .nrow) part₀) (view (at .nb) mult) f kq 0 c j 0 (at .rows))
 
 abbrev μ-loop : tie.MeasureT-loop
-μ-loop panel₀ mult wide other nrow ncol nb kb ke k l f kq j₀ j-end panel j = f + 1 - j
-
-add-j-end : tie.Need-add-j-end Inv-loop μ-loop
-add-j-end c = search needs
+μ-loop part₀ mult block at c e f kq j₀ part j = e - j
 
 loop-holds : tie.Need-loop-holds Inv-loop μ-loop
-loop-holds c = let at = placed _ _ _ _ _ _ _ _ _ _ _ _ _ (c .before .before .pre) in (omega arith, omega arith, refl, first-none _ _ _ _ _ _ _ _ _)
+loop-holds c = (omega arith, c .before .before .pre .up, refl, first-none _ _ _ _ _ _ _ _ _)
 
 column-first-requires : tie.Need-column-first-requires Inv-loop μ-loop
-column-first-requires c κs = search needs
+column-first-requires c κs = search (needs, sweep-column)
 
 add-j : tie.Need-add-j Inv-loop μ-loop
 add-j c = search needs
@@ -38,12 +34,11 @@ loop-again : tie.Need-loop-again Inv-loop μ-loop
 loop-again c =
     let turn = c .before .before .before .before in
     let inv = turn .before .loop .inv in
-    let pre = turn .before .before .before .before .pre in
-    let at = placed _ _ _ _ _ _ _ _ _ _ _ _ _ pre in (
+    let pre = turn .before .before .before .before .pre in (
       search needs,
       search needs,
       search needs,
-      first-step _ _ _ _ _ _ _ _ _ _ _ _ (omega (arith, pre .next)) (inv .0) (omega arith) (inv .3) (c .before .before .column-first .ensures),
+      first-step _ _ _ _ _ _ _ _ _ _ _ _ (pre .past) (inv .0) (inv .3) (c .before .before .column-first .ensures),
     )
 
 same-length : tie.Need-same-length Inv-loop μ-loop
@@ -55,14 +50,4 @@ returns c = let inv = c .before .loop .inv in first-end _ _ _ _ _ _ _ _ _ _ _ _ 
 pub sweep-first-spec : {M : Type 1} → statement M
 sweep-first-spec =
     tie.close
-    (tie.spec
-    Inv-loop
-    μ-loop
-    add-j-end
-    loop-holds
-    column-first-requires
-    add-j
-    loop-less
-    loop-again
-    same-length
-    returns)
+    (tie.spec Inv-loop μ-loop loop-holds column-first-requires add-j loop-less loop-again same-length returns)

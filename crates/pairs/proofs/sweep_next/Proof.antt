@@ -29,7 +29,7 @@ returns-2 c =
     let passed = left .before .before .before in
     let start = passed .before .before .before .before in
     let at = start .pre .1 in (
-      both-more _ _ _ _ _ _ _ _ _ _ _ _ _ _ (start .pre .0 .next) (start .pre .0 .last) (start .pre .1 .0) (omega arith)
+      both-more _ _ _ _ _ _ _ _ _ _ _ _ _ _ (start .pre .0 .next) (start .pre .0 .last) (start .pre .1 .0)
           (passed .several-next .ensures .1 .0) (search needs) (passed .several-next .ensures .0) (c .before .before .column-both .ensures),
       (search needs, search needs),
     )

@@ -4,9 +4,6 @@ use Rattle.pairs.proofs.Column.{block-alone, block-after}
 use Rattle.pairs.proofs.less.less_single_block.Statement.{statement}
 use Rattle.pairs.proofs.less.less_single_block.Tie as tie
 
-add-less-two : tie.Need-add-less-two
-add-less-two c = search needs
-
 less-two-requires : tie.Need-less-two-requires
 less-two-requires c κs = search needs
 
@@ -14,7 +11,7 @@ same-length : tie.Need-same-length
 same-length c = search needs
 
 returns : tie.Need-returns
-returns c = block-alone _ _ _ _ _ _ _ _ _ (c .before .before .before .before .if1 .taken) (c .before .before .less-two .ensures)
+returns c = search (needs, block-alone)
 
 less-three-requires : tie.Need-less-three-requires
 less-three-requires c κs = search needs
@@ -29,7 +26,6 @@ pub less-single-block-spec : {M : Type 1} → statement M
 less-single-block-spec =
     tie.close
     (tie.spec
-    add-less-two
     less-two-requires
     same-length
     returns

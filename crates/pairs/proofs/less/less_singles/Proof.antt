@@ -4,9 +4,6 @@ use Rattle.pairs.proofs.Column.{singles-first, singles-second, singles-
 use Rattle.pairs.proofs.less.less_singles.Statement.{statement}
 use Rattle.pairs.proofs.less.less_singles.Tie as tie
 
-add-less-if : tie.Need-add-less-if
-add-less-if c = search needs
-
 less-if-requires : tie.Need-less-if-requires
 less-if-requires c κs = search needs
 
@@ -38,7 +35,6 @@ pub less-singles-spec : {M : Type 1} → statement M
 less-singles-spec =
     tie.close
     (tie.spec
-    add-less-if
     less-if-requires
     same-length
     returns

@@ -1,17 +1,17 @@
 -- `pairs::less::less_step` meets its contract, for a block and for a 1x1. Assumes nothing.
 use borrow.Author.Needs.{needs}
-use Rattle.pairs.proofs.Column.{wide-pre, single-pre, step-wide, step-single}
+use Rattle.pairs.proofs.Column.{block-pre, single-pre, step-block, step-single}
 use Rattle.pairs.proofs.less.less_step.Statement.{statement}
 use Rattle.pairs.proofs.less.less_step.Tie as tie
 
 less-two-requires : tie.Need-less-two-requires
-less-two-requires c κs = search (needs, wide-pre)
+less-two-requires c κs = search (needs, block-pre)
 
 same-length : tie.Need-same-length
 same-length c = search needs
 
 returns : tie.Need-returns
-returns c = search (needs, step-wide)
+returns c = search (needs, step-block)
 
 less-if-requires : tie.Need-less-if-requires
 less-if-requires c κs = search (needs, single-pre)
