@@ -42,7 +42,7 @@ pub lose-lent : (n : ℕ) (xs ys zs : List Float) (j lo hi from : ℕ) → from 
     ≡ withColumn (view n xs) j (max lo j) hi (lessEach (columnOf (view n xs) j) (behind lo (vec zs)))
 unfolding lessEach columnOf behind
 lose-lent n xs ys zs j lo hi from start room u d h ly e =
-    column-lent n xs ys j from hi _ _ _ room (omega arith) h ly e
+    column-lent n xs ys j from hi _ _ _ (omega arith) (omega arith) h ly e
     (λ t g. rw (
       column-at n xs j from hi t h g,
       vec-part (from - lo) (hi - lo) zs t (omega arith),
