@@ -1,31 +1,28 @@
--- The record of pivots as the tail reads it off the arrays, and what the tail asks. From document 01, 'apply_bk_panel_trailing'.
--- Definitions only. Assumes nothing.
-use Prim.Native.Nat.{ℕ, _+_, _*_, _<_, _≤_}
+-- The record of pivots as the tail reads it off the arrays, rows by their columns from k on, and what the tail asks. From document 01,
+-- 'apply_bk_panel_trailing'. Definitions only. Assumes nothing.
+use Prim.Native.Nat.{ℕ, _+_, _-_, _*_, _<_, _≤_}
 use mathlib.Core.Path.{_≡_}
-use mathlib.Core.Bool.{Bool, cond}
-use mathlib.Core.List.{List, []}
+use mathlib.Core.List.{List}
 use lib.Ieee.{Float}
 use Rattle.model.specs.Scalar.{zeroF}
-use Rattle.model.specs.Matrix.{Row, vec, bytes}
-use Rattle.model.specs.Step.{Pivots, begins, blockAt, firstOf, arrived}
-use Rattle.model.specs.Head.{lastOf}
-use Rattle.model.specs.declared.Block.{Block}
+use Rattle.model.specs.Matrix.{Row, Mat, vec, bytes}
+use Rattle.model.specs.Step.{Pivots, firstOf, rowStepped}
+use Rattle.model.specs.Kept.{Starts, Ahead, Recorded}
 
 -- d, subdiagonal, block bytes and partners by column; a row's steps read nothing else of the record (`steps-alike` of proofs/Laws.antt)
 unfoldable pub pivotsOf : List Float → List Float → List ℕ → List ℕ → Pivots
 pivotsOf d sub blocks partners =
     record { d = vec d; sub = vec sub; amounts = λ i. zeroF; blocks = bytes blocks; lifts = λ i. 0; order = λ i. i; partners = bytes partners }
 
--- the row exchanged with k before the step at k, and a row with that exchange made
-unfoldable pub firstIn : List ℕ → List ℕ → ℕ → ℕ
-firstIn blocks partners k = firstOf (pivotsOf [] [] blocks partners) k
+-- what f makes of a row, its columns counted from k on
+unfoldable pub fromColumn : ℕ → (Row → Row) → Row → Row
+fromColumn k f r = λ j. f (λ c. r (c - k)) (k + j)
 
-unfoldable pub arrivedIn : List ℕ → List ℕ → ℕ → Row → Row
-arrivedIn blocks partners k r = arrived (pivotsOf [] [] blocks partners) k r
+-- a row after the step at k and after the one at l
+unfoldable pub rowSteppedTwice : Pivots → Mat → ℕ → ℕ → ℕ → Row → Row
+rowSteppedTwice p mult ke k l r = rowStepped p mult ke l (rowStepped p mult ke k r)
 
--- the pivot at k; of a 1x1 its number is d11, and the others are 0
-unfoldable pub pivotAt : Bool → Row → Row → ℕ → Block
-pivotAt wide d sub k = cond wide (blockAt d sub k) (record { d11 = d k; d21 = zeroF; d22 = zeroF; det = zeroF })
+-- ---- what the functions ask
 
 -- the sizes: the panel, the multipliers' buffer, the four arrays by column
 pub record TailPre (nrow ncol nb kb ke len lenM ld ls lb lp : ℕ) : Type 0 where
@@ -39,25 +36,32 @@ pub record TailPre (nrow ncol nb kb ke len lenM ld ls lb lp : ℕ) : Type 0 wher
   pub inBlocks : ke ≤ lb
   pub inPartners : ke ≤ lp
 
--- what the exchange before a step asks
-pub record ArrivePre (nrow ncol ke k len lb lp : ℕ) : Type 0 where
-  pub size : len ≡ nrow * ncol
-  pub head : ncol ≤ nrow
-  pub cols : ke ≤ ncol
-  pub here : k < ke
-  pub inBlocks : ke ≤ lb
-  pub inPartners : ke ≤ lp
-
--- every block that begins before ke ends before ke, and every partner stands before ke
-pub record StepsPre (ke : ℕ) (blocks partners : ℕ → ℕ) : Type 0 where
+-- every block that begins before ke ends before ke, and every partner stands before ke; a pivot begins at kb, and no exchange goes back
+pub record StepsPre (kb ke : ℕ) (blocks partners : ℕ → ℕ) : Type 0 where
   pub pair : (k : ℕ) → k < ke → blocks k ≡ 1 → k + 1 < ke
   pub partner : (k : ℕ) → k < ke → partners k < ke
+  pub recorded : Recorded ke blocks partners
+  pub start : Starts blocks kb
 
--- the pivot after the one at k begins at l and ends at f, before ke; its exchange does not go back
-pub record NextPre (kb ke : ℕ) (blocks partners : ℕ → ℕ) (k l f : ℕ) : Type 0 where
-  pub from : kb ≤ k
+-- the same for the step at k alone
+pub record HerePre (ke : ℕ) (blocks partners : ℕ → ℕ) (k : ℕ) : Type 0 where
+  pub pair : blocks k ≡ 1 → k + 1 < ke
+  pub partner : partners k < ke
+  pub first : firstOf blocks partners k < ke
+  pub ahead : Ahead blocks partners k
+
+-- what is lent to the steps from k on: the rows from ke down of the panel's columns
+pub record LentPre (nrow ke k len : ℕ) : Type 0 where
+  pub height : ke ≤ nrow
   pub here : k < ke
-  pub next : l ≡ lastOf k (begins blocks k) + 1
-  pub inside : l < ke
-  pub last : f ≡ lastOf l (begins blocks l)
-  pub reach : f ≤ partners l
+  pub room : nrow - ke + (ke - k - 1) * nrow ≤ len
+
+-- and read by them
+pub record ReadPre (nb kb ke k lenM ld ls lb lp : ℕ) : Type 0 where
+  pub square : lenM ≡ nb * nb
+  pub width : ke ≤ kb + nb
+  pub from : kb ≤ k
+  pub inD : ke ≤ ld
+  pub inSub : ke ≤ ls
+  pub inBlocks : ke ≤ lb
+  pub inPartners : ke ≤ lp

@@ -1,195 +1,175 @@
-// The rows below a finished panel: its steps in turn, two at a time, read off the arrays that the panel step wrote. A
+// The rows below a finished panel: its steps in turn, two at a time, read off the arrays that the panel step wrote. What
+// is lent to a step is the panel from row ke of its first column on: nothing above row ke of that column can be named. A
 // reader may rely on the contract of apply_bk_panel_trailing: each row from ke down goes through the model's steps, and
 // nothing else changes.
-use eliminate::below_one;
-use eliminate::below_two;
+use diagonal::block_begins;
+use diagonal::diagonal_at;
+use diagonal::past;
 use grid::columns;
-use model::Block;
+use model::Elim;
+use model::LocalRow;
 use pairs::below_pair;
+use pairs::below_step;
+use pairs::Frame;
 ghost use mathlib.Core.Path.{_≡_};
-ghost use mathlib.Core.Bool.{true};
 ghost use Prim.Native.Nat.{_+_, _-_, _<_, _≤_};
+ghost use lib.Dec.{eqb};
 ghost use lib.ListN.{length};
-ghost use Rattle.model.specs.Matrix.{view, vec, bytes};
-ghost use Rattle.model.specs.Step.{blockAt, begins, stepAt, rowAfterStep, rowAfterSteps};
-ghost use Rattle.model.specs.Head.{lastOf};
+ghost use Rattle.model.specs.Matrix.{view, bytes};
+ghost use Rattle.model.specs.Step.{pastOf, firstOf, arrived, rowStepped, rowAfterSteps};
+ghost use Rattle.model.specs.Kept.{Starts};
 ghost use Rattle.whole.specs.Whole.{below};
 ghost use Rattle.eliminate.specs.Eliminate.{inPanel};
-ghost use Rattle.pairs.specs.Pairs.{rowAfterBoth};
-ghost use Rattle.tail.specs.Tail.{pivotsOf, pivotAt, firstIn, arrivedIn, TailPre, ArrivePre, StepsPre, NextPre};
+ghost use Rattle.tail.specs.Tail.{pivotsOf, fromColumn, rowSteppedTwice};
+ghost use Rattle.tail.specs.Tail.{TailPre, StepsPre, HerePre, LentPre, ReadPre};
 
-// The block that begins at column k.
-fn block_at(d: &[f64], sub: &[f64], k: usize) -> Block
-    requires { ⌜ (k + 1 < length (now d)) × (k < length (now sub)) ⌝ }
-    ensures { λ r. ⌜ r ≡ blockAt (vec (now (d .entry))) (vec (now (sub .entry))) k ⌝ }
+// What stands at k in the list of partners: at a pivot's first column the row exchanged with its last column, at a
+// block's second column the one exchanged with its first column before.
+fn partner(partners: &[usize], k: Elim) -> LocalRow
+    requires { ⌜ k .0 < length (now partners) ⌝ }
+    ensures { λ r. ⌜ r .0 ≡ bytes (now (partners .entry)) (k .0) ⌝ }
 {
-    let d11 = d[k];
-    let d21 = sub[k];
-    let d22 = d[k + 1];
-    Block {
-        d11,
-        d21,
-        d22,
-        det: d11 * d22 - d21 * d21,
-    }
+    let at = k.0;
+    LocalRow(partners[at])
 }
 
-// The pivot that begins at column k; of a 1x1 its number is d11, and the others are 0.
-fn pivot_at(d: &[f64], sub: &[f64], wide: bool, k: usize) -> Block
-    requires { ⌜ (lastOf k wide < length (now d)) × (k < length (now sub)) ⌝ }
-    ensures { λ r. ⌜ r ≡ pivotAt wide (vec (now (d .entry))) (vec (now (sub .entry))) k ⌝ }
+// The column in which the exchange with a row stands, in a part that begins at k.
+fn column_from(k: Elim, row: LocalRow) -> usize
+    requires { ⌜ k .0 ≤ row .0 ⌝ }
+    ensures { λ r. ⌜ r ≡ row .0 - k .0 ⌝ }
 {
-    if wide {
-        return block_at(d, sub, k);
-    }
-    Block {
-        d11: d[k],
-        d21: 0.0,
-        d22: 0.0,
-        det: 0.0,
-    }
+    row.0 - k.0
 }
 
-// Whether a block begins at column k.
-fn block_begins(blocks: &[u8], k: usize) -> bool
-    requires { ⌜ k < length (now blocks) ⌝ }
-    ensures { λ r. ⌜ r ≡ begins (bytes (now (blocks .entry))) k ⌝ }
-{
-    blocks[k] == 1
-}
-
-// The column after a pivot at k, which is one of `columns` columns.
-fn past(wide: bool, k: usize, columns: usize) -> usize
-    requires { ⌜ lastOf k wide < columns ⌝ }
-    ensures { λ r. ⌜ r ≡ lastOf k wide + 1 ⌝ }
-{
-    if wide {
-        return k + 2;
-    }
-    k + 1
-}
-
-// The exchange before the step at column k, on the rows from ke down: of a block's first column, where its row is another.
+// The exchange before the step at k: of a block's first column, where its row is another.
 fn arrive(
-    panel: &mut [f64],
+    part: &mut [f64],
     blocks: &[u8],
     partners: &[usize],
     nrow: usize,
-    ncol: usize,
     ke: usize,
-    k: usize,
+    k: Elim,
 )
-    requires { ⌜ ArrivePre nrow ncol ke k (length (now panel)) (length (now blocks)) (length (now partners)) ⌝ }
-    requires { ⌜ StepsPre ke (bytes (now blocks)) (bytes (now partners)) ⌝ }
-    ensures { λ _. ⌜ view nrow (now (panel .exit))
-        ≡ below ke nrow (arrivedIn (now (blocks .entry)) (now (partners .entry)) k) (view nrow (now (panel .entry))) ⌝ }
+    requires { ⌜ LentPre nrow ke (k .0) (length (now part)) ⌝ }
+    requires { ⌜ (ke ≤ length (now blocks)) × (ke ≤ length (now partners)) ⌝ }
+    requires { ⌜ HerePre ke (bytes (now blocks)) (bytes (now partners)) (k .0) ⌝ }
+    ensures { λ _. ⌜ view nrow (now (part .exit))
+        ≡ below 0 (nrow - ke)
+        (fromColumn (k .0) (arrived (bytes (now (blocks .entry))) (bytes (now (partners .entry))) (k .0)))
+        (view nrow (now (part .entry))) ⌝ }
 {
-    if blocks[k] == 1 {
-        columns::exchange(panel, nrow, k, partners[k + 1], ke, nrow);
+    if block_begins(blocks, k) {
+        let p = partner(partners, Elim(k.0 + 1));
+        columns::exchange(part, nrow, 0, column_from(k, p), 0, nrow - ke);
     }
 }
 
-// Whether the step at column l makes no exchange before its own.
-fn stays(blocks: &[u8], partners: &[usize], l: usize, ke: usize) -> bool
-    requires { ⌜ (l < ke) × (ke ≤ length (now blocks)) × (ke ≤ length (now partners)) ⌝ }
-    requires { ⌜ StepsPre ke (bytes (now blocks)) (bytes (now partners)) ⌝ }
-    ensures { λ r. ⌜ (r ≡ true → firstIn (now (blocks .entry)) (now (partners .entry)) l ≡ l) ⌝ }
+// Whether the step at l makes no exchange before its own.
+fn stays(blocks: &[u8], partners: &[usize], ke: usize, l: Elim) -> bool
+    requires { ⌜ (l .0 < ke) × ((ke ≤ length (now blocks)) × (ke ≤ length (now partners))) ⌝ }
+    requires { ⌜ HerePre ke (bytes (now blocks)) (bytes (now partners)) (l .0) ⌝ }
+    ensures { λ r. ⌜ r
+        ≡ eqb (firstOf (bytes (now (blocks .entry))) (bytes (now (partners .entry))) (l .0)) (l .0) ⌝ }
 {
-    if blocks[l] == 1 {
-        return partners[l + 1] == l;
+    if block_begins(blocks, l) {
+        let p = partner(partners, Elim(l.0 + 1));
+        return p.0 == l.0;
     }
     true
 }
 
-// The step at column k on the rows from ke down, lent from `ke + k·nrow` on.
+// The step at k on the rows from ke down. The part begins with them, in column k.
 fn tail_step(
-    panel: &mut [f64],
+    part: &mut [f64],
     mult: &[f64],
     d: &[f64],
     sub: &[f64],
     blocks: &[u8],
     partners: &[usize],
     nrow: usize,
-    ncol: usize,
     nb: usize,
     kb: usize,
     ke: usize,
-    k: usize,
+    k: Elim,
 )
-    requires { ⌜ TailPre nrow ncol nb kb ke (length (now panel)) (length (now mult)) (length (now d))
-        (length (now sub)) (length (now blocks)) (length (now partners)) ⌝ }
-    requires { ⌜ StepsPre ke (bytes (now blocks)) (bytes (now partners)) ⌝ }
-    requires { ⌜ (kb ≤ k) × (k < ke) ⌝ }
-    ensures { λ _. ⌜ view nrow (now (panel .exit))
-        ≡ below ke nrow (rowAfterStep ke
-        (stepAt (pivotsOf (now (d .entry)) (now (sub .entry)) (now (blocks .entry)) (now (partners .entry)))
-        (inPanel kb ke (view nb (now (mult .entry)))) k)) (view nrow (now (panel .entry))) ⌝ }
+    requires { ⌜ LentPre nrow ke (k .0) (length (now part)) ⌝ }
+    requires { ⌜ ReadPre nb kb ke (k .0) (length (now mult)) (length (now d)) (length (now sub)) (length (now blocks))
+        (length (now partners)) ⌝ }
+    requires { ⌜ HerePre ke (bytes (now blocks)) (bytes (now partners)) (k .0) ⌝ }
+    ensures { λ _. ⌜ view nrow (now (part .exit))
+        ≡ below 0 (nrow - ke) (fromColumn (k .0) (rowStepped
+        (pivotsOf (now (d .entry)) (now (sub .entry)) (now (blocks .entry)) (now (partners .entry)))
+        (inPanel kb ke (view nb (now (mult .entry)))) ke (k .0))) (view nrow (now (part .entry))) ⌝ }
 {
-    let kp = partners[k];
-    if blocks[k] == 1 {
-        let b = block_at(d, sub, k);
-        below_two(panel, mult, nrow, ncol, nb, kb, ke, k, kp, b);
-        return;
-    }
-    below_one(panel, mult, nrow, ncol, nb, kb, ke, k, kp, d[k]);
+    arrive(part, blocks, partners, nrow, ke, k);
+    let x = diagonal_at(d, sub, blocks, k);
+    let kp = partner(partners, k);
+    let at = Frame {
+        nrow,
+        rows: nrow - ke,
+        nb,
+        columns: ke - k.0,
+    };
+    let start = (k.0 - kb) + (k.0 - kb) * nb;
+    below_step(part, &mult[start..], at, column_from(k, kp), x);
 }
 
-// The steps at column k and, after it, at column l, whose last column is f, on the rows from ke down.
+// The steps at k and, right after it, at l, which makes no exchange before its own, on the rows from ke down. The part
+// begins with them, in column k.
 fn tail_pair(
-    panel: &mut [f64],
+    part: &mut [f64],
     mult: &[f64],
     d: &[f64],
     sub: &[f64],
     blocks: &[u8],
     partners: &[usize],
     nrow: usize,
-    ncol: usize,
     nb: usize,
     kb: usize,
     ke: usize,
-    k: usize,
-    l: usize,
-    f: usize,
+    k: Elim,
+    l: Elim,
 )
-    requires { ⌜ TailPre nrow ncol nb kb ke (length (now panel)) (length (now mult)) (length (now d))
-        (length (now sub)) (length (now blocks)) (length (now partners)) ⌝ }
-    requires { ⌜ StepsPre ke (bytes (now blocks)) (bytes (now partners)) ⌝ }
-    requires { ⌜ NextPre kb ke (bytes (now blocks)) (bytes (now partners)) k l f ⌝ }
-    ensures { λ _. ⌜ view nrow (now (panel .exit))
-        ≡ below ke nrow (rowAfterBoth ke
-        (stepAt (pivotsOf (now (d .entry)) (now (sub .entry)) (now (blocks .entry)) (now (partners .entry)))
-        (inPanel kb ke (view nb (now (mult .entry)))) k)
-        (stepAt (pivotsOf (now (d .entry)) (now (sub .entry)) (now (blocks .entry)) (now (partners .entry)))
-        (inPanel kb ke (view nb (now (mult .entry)))) l)) (view nrow (now (panel .entry))) ⌝ }
+    requires { ⌜ LentPre nrow ke (k .0) (length (now part)) ⌝ }
+    requires { ⌜ ReadPre nb kb ke (k .0) (length (now mult)) (length (now d)) (length (now sub)) (length (now blocks))
+        (length (now partners)) ⌝ }
+    requires { ⌜ HerePre ke (bytes (now blocks)) (bytes (now partners)) (k .0) ⌝ }
+    requires { ⌜ HerePre ke (bytes (now blocks)) (bytes (now partners)) (l .0) ⌝ }
+    requires { ⌜ (l .0 ≡ pastOf (bytes (now blocks)) (k .0)) × (l .0 < ke) ⌝ }
+    requires { ⌜ firstOf (bytes (now blocks)) (bytes (now partners)) (l .0) ≡ l .0 ⌝ }
+    ensures { λ _. ⌜ view nrow (now (part .exit))
+        ≡ below 0 (nrow - ke) (fromColumn (k .0) (rowSteppedTwice
+        (pivotsOf (now (d .entry)) (now (sub .entry)) (now (blocks .entry)) (now (partners .entry)))
+        (inPanel kb ke (view nb (now (mult .entry)))) ke (k .0) (l .0))) (view nrow (now (part .entry))) ⌝ }
 {
-    let wide = block_begins(blocks, k);
-    let other = block_begins(blocks, l);
-    let b = pivot_at(d, sub, wide, k);
-    let c = pivot_at(d, sub, other, l);
-    let kp = partners[k];
-    let kq = partners[l];
-    below_pair(
-        panel,
-        mult,
-        wide,
-        other,
+    arrive(part, blocks, partners, nrow, ke, k);
+    let x = diagonal_at(d, sub, blocks, k);
+    let y = diagonal_at(d, sub, blocks, l);
+    let kp = partner(partners, k);
+    let kq = partner(partners, l);
+    let last = past(blocks, l) - 1;
+    let at = Frame {
         nrow,
-        ncol,
+        rows: nrow - ke,
         nb,
-        kb,
-        ke,
-        k,
-        kp,
-        l,
-        f,
-        kq,
-        b,
-        c,
+        columns: ke - k.0,
+    };
+    let start = (k.0 - kb) + (k.0 - kb) * nb;
+    below_pair(
+        part,
+        &mult[start..],
+        at,
+        l.0 - k.0,
+        last - k.0,
+        column_from(k, kp),
+        column_from(k, kq),
+        x,
+        y,
     );
 }
 
-// The step at column k on the rows from ke down, together with the one after it unless there is none, its exchange goes
-// back, or it makes one before its own. The answer is the column after them.
+// The step at k on the rows from ke down, together with the one after it unless there is none or it makes an exchange
+// before its own: the panel from row ke of column k on is lent to them. The answer is the column after them.
 fn turn(
     panel: &mut [f64],
     mult: &[f64],
@@ -202,53 +182,49 @@ fn turn(
     nb: usize,
     kb: usize,
     ke: usize,
-    k: usize,
+    k: Elim,
 ) -> usize
     requires { ⌜ TailPre nrow ncol nb kb ke (length (now panel)) (length (now mult)) (length (now d))
         (length (now sub)) (length (now blocks)) (length (now partners)) ⌝ }
-    requires { ⌜ StepsPre ke (bytes (now blocks)) (bytes (now partners)) ⌝ }
-    requires { ⌜ (kb ≤ k) × (k < ke) ⌝ }
+    requires { ⌜ StepsPre kb ke (bytes (now blocks)) (bytes (now partners)) ⌝ }
+    requires { ⌜ (kb ≤ k .0) × ((k .0 < ke) × Starts (bytes (now blocks)) (k .0)) ⌝ }
     ensures { λ r. ⌜ below ke nrow (rowAfterSteps
         (pivotsOf (now (d .entry)) (now (sub .entry)) (now (blocks .entry)) (now (partners .entry)))
         (inPanel kb ke (view nb (now (mult .entry)))) ke (ke - r) r) (view nrow (now (panel .exit)))
         ≡ below ke nrow (rowAfterSteps
         (pivotsOf (now (d .entry)) (now (sub .entry)) (now (blocks .entry)) (now (partners .entry)))
-        (inPanel kb ke (view nb (now (mult .entry)))) ke (ke - k) k) (view nrow (now (panel .entry))) ⌝ }
-    ensures { λ r. ⌜ k < r ⌝ }
+        (inPanel kb ke (view nb (now (mult .entry)))) ke (ke - k .0) (k .0)) (view nrow (now (panel .entry))) ⌝ }
+    ensures { λ r. ⌜ (k .0 < r) × Starts (bytes (now (blocks .entry))) r ⌝ }
 {
-    arrive(panel, blocks, partners, nrow, ncol, ke, k);
-    let l = past(block_begins(blocks, k), k, ke);
+    let start = ke + k.0 * nrow;
+    let l = past(blocks, k);
     if l < ke {
-        let r = past(block_begins(blocks, l), l, ke);
-        if (r - 1 <= partners[l]) & stays(blocks, partners, l, ke) {
+        if stays(blocks, partners, ke, Elim(l)) {
             tail_pair(
-                panel,
+                &mut panel[start..],
                 mult,
                 d,
                 sub,
                 blocks,
                 partners,
                 nrow,
-                ncol,
                 nb,
                 kb,
                 ke,
                 k,
-                l,
-                r - 1,
+                Elim(l),
             );
-            return r;
+            return past(blocks, Elim(l));
         }
     }
     tail_step(
-        panel,
+        &mut panel[start..],
         mult,
         d,
         sub,
         blocks,
         partners,
         nrow,
-        ncol,
         nb,
         kb,
         ke,
@@ -275,7 +251,7 @@ pub fn apply_bk_panel_trailing(
 )
     requires { ⌜ TailPre nrow ncol nb kb ke (length (now panel)) (length (now mult)) (length (now d))
         (length (now sub)) (length (now blocks)) (length (now partners)) ⌝ }
-    requires { ⌜ StepsPre ke (bytes (now blocks)) (bytes (now partners)) ⌝ }
+    requires { ⌜ StepsPre kb ke (bytes (now blocks)) (bytes (now partners)) ⌝ }
     ensures { λ _. ⌜ view nrow (now (panel .exit))
         ≡ below ke nrow (rowAfterSteps
         (pivotsOf (now (d .entry)) (now (sub .entry)) (now (blocks .entry)) (now (partners .entry)))
@@ -295,7 +271,7 @@ pub fn apply_bk_panel_trailing(
             nb,
             kb,
             ke,
-            k,
+            Elim(k),
         );
     }
 }

@@ -1,60 +1,127 @@
--- `tail::tail_step` meets its contract: the block byte says which step the record holds. Assumes nothing.
+-- `tail::tail_step` meets its contract: the exchange before the step, then the record's step, on the columns from k on. Assumes nothing.
+use mathlib.Core.Path.{refl}
+use lib.ListN.{length}
 use borrow.Author.Needs.{needs}
-use Rattle.tail.proofs.Laws.{step-one, step-two, partner-in, block-in, two-in}
+use Rattle.tail.proofs.Asked.{start-fits, pivot-pre, step-pre, lent-kept, column-is, row-ahead}
+use Rattle.tail.proofs.Lent.{part-length, kept-from}
+use Rattle.tail.proofs.Laws.{step-done}
 use Rattle.tail.proofs.tail_step.Statement.{statement}
 use Rattle.tail.proofs.tail_step.Tie as tie
 
-mul-kp : tie.Need-mul-kp
-mul-kp c = search needs
+-- ---- the calls that a need looks back to
 
-shared-slice-read-kp : tie.Need-shared-slice-read-kp
-shared-slice-read-kp c = search needs
+abbrev entry : tie.After-arrive → tie.Start
+entry c = c .before .before .before .before .before .before .before .before
 
-shared-slice-read-if1 : tie.Need-shared-slice-read-if1
-shared-slice-read-if1 c = search needs
+abbrev begun : tie.After-partner → tie.After-arrive
+begun c = c .before .before .before .before
 
-block-at-requires : tie.Need-block-at-requires
-block-at-requires c κs =
-    let start = c .before .before .before .before .before .before .before .before .before in
-    block-in _ _ _ _ _ _ _ _ _ _ _ _ _ _ (start .pre .0) (start .pre .1 .0) (start .pre .1 .1 .1) (c .if1 .taken)
+abbrev read : tie.After-below-step-arg → tie.After-partner
+read c = c .before .before .before .before
 
-below-two-requires : tie.Need-below-two-requires
-below-two-requires c κs = (search (needs, two-in), search partner-in)
+-- ---- the needs
+
+arrive-requires : tie.Need-arrive-requires
+arrive-requires c κs = search needs
+
+diagonal-at-requires : tie.Need-diagonal-at-requires
+diagonal-at-requires c κs =
+    let s = entry (c .before .before) in
+    pivot-pre _ _ _ _ _ _ _ _ _ _ _ _ (s .pre .1 .0) refl (s .pre .0 .here) (s .pre .1 .1)
+
+partner-requires : tie.Need-partner-requires
+partner-requires c κs = search needs
+
+sub-start : tie.Need-sub-start
+sub-start c = search needs
+
+sub-start-2 : tie.Need-sub-start-2
+sub-start-2 c = search needs
+
+sub-start-3 : tie.Need-sub-start-3
+sub-start-3 c = search needs
+
+sub-start-4 : tie.Need-sub-start-4
+sub-start-4 c = search needs
+
+mul-start : tie.Need-mul-start
+mul-start c =
+    let s = entry (begun (c .before .before .before)) in
+    let room = start-fits _ _ _ _ _ _ _ _ _ (s .pre .1 .0) (s .pre .0 .here) in
+    search needs
+
+add-start : tie.Need-add-start
+add-start c =
+    let s = entry (begun (c .before .before .before)) in
+    let room = start-fits _ _ _ _ _ _ _ _ _ (s .pre .1 .0) (s .pre .0 .here) in
+    search needs
+
+mul-below-step : tie.Need-mul-below-step
+mul-below-step c =
+    let s = entry (begun (read c)) in
+    let room = start-fits _ _ _ _ _ _ _ _ _ (s .pre .1 .0) (s .pre .0 .here) in
+    search needs
+
+sub-below-step : tie.Need-sub-below-step
+sub-below-step c =
+    let s = entry (begun (read c)) in
+    let room = start-fits _ _ _ _ _ _ _ _ _ (s .pre .1 .0) (s .pre .0 .here) in
+    search needs
+
+part-below-step-start : tie.Need-part-below-step-start
+part-below-step-start c =
+    let s = entry (begun (read c)) in
+    let room = start-fits _ _ _ _ _ _ _ _ _ (s .pre .1 .0) (s .pre .0 .here) in
+    search needs
+
+part-below-step-end : tie.Need-part-below-step-end
+part-below-step-end c = search needs
+
+column-from-requires : tie.Need-column-from-requires
+column-from-requires c κs =
+    let p = read (c .before) in
+    row-ahead _ _ _ _ _ _ (entry (begun p) .pre .1 .1) (search needs) (p .partner .ensures)
+
+below-step-requires : tie.Need-below-step-requires
+below-step-requires c κs =
+    let p = read (c .before .before) in
+    let b = begun p in
+    let s = entry b in
+    step-pre _ _ _ _ _ _ _ _ _ _ _ _ _ _ (lent-kept _ _ _ _ _ (s .pre .0) (b .arrive .kept .0)) (s .pre .1 .0) (s .pre .1 .1)
+    (part-length _ _ (s .args .mult .now) refl) _ _ _ _ (p .before .diagonal-at .ensures)
+    (column-is _ _ _ _ (c .column-from .ensures) (p .partner .ensures))
 
 same-length : tie.Need-same-length
 same-length c = search needs
 
 returns : tie.Need-returns
-returns c = search (needs, step-two)
-
-mul-below-one : tie.Need-mul-below-one
-mul-below-one c = search needs
-
-shared-slice-read-below-one : tie.Need-shared-slice-read-below-one
-shared-slice-read-below-one c = search needs
-
-below-one-requires : tie.Need-below-one-requires
-below-one-requires c κs = (search needs, search partner-in)
-
-same-length-2 : tie.Need-same-length-2
-same-length-2 c = search needs
-
-returns-2 : tie.Need-returns-2
-returns-2 c = search (needs, step-one)
+returns c =
+    let f = c .before .before .before in
+    let p = read (f .before .before) in
+    let b = begun p in
+    let s = entry b in
+    let r = s .pre .1 .0 in
+    step-done _ _ _ _ (kept-from _ _ _ _ _ _ (s .args .mult .now) (r .from) (r .width) refl refl) _ _ _ _ _ _ _ _ (s .pre .1 .1) (b .arrive .ensures) _ _
+    (p .before .diagonal-at .ensures) (column-is _ _ _ _ (f .column-from .ensures) (p .partner .ensures)) (c .before .before .below-step .ensures)
 
 pub tail-step-spec : {M : Type 1} → statement M
 tail-step-spec =
     tie.close
     (tie.spec
-    mul-kp
-    shared-slice-read-kp
-    shared-slice-read-if1
-    block-at-requires
-    below-two-requires
+    arrive-requires
+    diagonal-at-requires
+    partner-requires
+    sub-start
+    sub-start-2
+    sub-start-3
+    sub-start-4
+    mul-start
+    add-start
+    mul-below-step
+    sub-below-step
+    part-below-step-start
+    part-below-step-end
+    column-from-requires
+    below-step-requires
     same-length
-    returns
-    mul-below-one
-    shared-slice-read-below-one
-    below-one-requires
-    same-length-2
-    returns-2)
+    returns)
