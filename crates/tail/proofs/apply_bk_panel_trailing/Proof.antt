@@ -1,0 +1,66 @@
+-- `tail::apply_bk_panel_trailing` meets its contract. The invariant: a pivot begins at k, and the steps from k on make of the panel what all steps make of
+-- it as it was; the measure is the columns that are left. Assumes nothing.
+use Prim.Native.Nat.{_≤_, _-_}
+use mathlib.Core.Path.{_≡_, refl, _∙_}
+use lib.ListN.{length}
+use borrow.Author.Needs.{needs}
+use Rattle.model.specs.Matrix.{view, bytes}
+use Rattle.model.specs.Step.{rowAfterSteps}
+use Rattle.model.specs.Kept.{Starts}
+use Rattle.whole.specs.Whole.{below}
+use Rattle.eliminate.specs.Eliminate.{inPanel}
+use Rattle.tail.specs.Tail.{pivotsOf}
+use Rattle.tail.proofs.Laws.{tail-end, turn-less, turn-from, sizes-kept}
+use Rattle.tail.proofs.apply_bk_panel_trailing.Statement.{statement}
+use Rattle.tail.proofs.apply_bk_panel_trailing.Tie as tie
+
+abbrev Inv-loop : tie.InvT-loop
+Inv-loop panel₀ mult d sub blocks partners nrow ncol nb kb ke k₀ panel k =
+    (kb ≤ k) × Starts (bytes blocks) k × (length panel ≡ length panel₀)
+    × (below ke nrow (rowAfterSteps (pivotsOf d sub blocks partners) (inPanel kb ke (view nb mult)) ke (ke - k) k) (view nrow panel)
+    ≡ below ke nrow (rowAfterSteps (pivotsOf d sub blocks partners) (inPanel kb ke (view nb mult)) ke (ke - kb) kb) (view nrow panel₀))
+
+abbrev μ-loop : tie.MeasureT-loop
+μ-loop panel₀ mult d sub blocks partners nrow ncol nb kb ke k₀ panel k = ke - k
+
+loop-holds : tie.Need-loop-holds Inv-loop μ-loop
+loop-holds c = (search needs, c .before .before .before .before .before .before .pre .1 .start, refl, refl)
+
+turn-requires : tie.Need-turn-requires Inv-loop μ-loop
+turn-requires c κs =
+    let turn = c .before in
+    let start = turn .before .before .before .before .before .before .before .before in
+    let inv = turn .before .loop .inv in
+    (sizes-kept _ _ _ _ _ _ _ _ _ _ _ _ (start .pre .0) (inv .2), (start .pre .1, (inv .0, (turn .loop-test .taken, inv .1))))
+
+loop-less : tie.Need-loop-less Inv-loop μ-loop
+loop-less c =
+    let called = c .before .before in
+    let turn = called .before .before in
+    turn-less _ _ _ (turn .loop-test .taken) (called .turn .ensures .1 .0)
+
+loop-again : tie.Need-loop-again Inv-loop μ-loop
+loop-again c =
+    let called = c .before .before in
+    let turn = called .before .before in
+    let inv = turn .before .loop .inv in
+    (turn-from _ _ _ (inv .0) (called .turn .ensures .1 .0), called .turn .ensures .1 .1, search needs, called .turn .ensures .0 ∙ inv .3)
+
+same-length : tie.Need-same-length Inv-loop μ-loop
+same-length c = search needs
+
+returns : tie.Need-returns Inv-loop μ-loop
+returns c = search tail-end
+
+pub apply-bk-panel-trailing-spec : {M : Type 1} → statement M
+apply-bk-panel-trailing-spec =
+    tie.close
+    (tie.spec
+    Inv-loop
+    μ-loop
+    loop-holds
+    turn-requires
+    loop-less
+    loop-again
+    same-length
+    returns)

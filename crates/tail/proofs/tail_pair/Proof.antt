@@ -1,0 +1,192 @@
+-- `tail::tail_pair` meets its contract: the exchange before the first step, then the record's two steps, on the columns from k on. Assumes nothing.
+use mathlib.Core.Path.{refl}
+use native.Mathlib.Omega.{arith}
+use lib.ListN.{length}
+use borrow.Author.Needs.{needs}
+use Rattle.tail.proofs.Asked.{start-fits, pivot-pre, pair-pre, lent-kept, column-is, row-ahead, past-later}
+use Rattle.tail.proofs.Lent.{part-length, kept-from}
+use Rattle.tail.proofs.Laws.{pair-done}
+use Rattle.tail.proofs.tail_pair.Statement.{statement}
+use Rattle.tail.proofs.tail_pair.Tie as tie
+
+-- ---- the calls that a need looks back to
+
+abbrev entry : tie.After-arrive → tie.Start
+entry c = c .before .before .before .before .before .before .before .before
+
+abbrev begun : tie.After-partner → tie.After-arrive
+begun c = c .before .before .before .before .before
+
+abbrev first : tie.After-past → tie.After-partner
+first c = c .before .before
+
+abbrev read : tie.After-below-pair-arg → tie.After-past
+read c = c .before .before .before .before
+
+abbrev counted : tie.After-column-from → tie.After-past
+counted c = c .before .before .before .before .before .before .before .before .before
+
+-- from what was read last to the function's entry
+abbrev start : tie.After-past → tie.Start
+start c = entry (begun (first c))
+
+-- ---- the needs
+
+arrive-requires : tie.Need-arrive-requires
+arrive-requires c κs = search needs
+
+diagonal-at-requires : tie.Need-diagonal-at-requires
+diagonal-at-requires c κs =
+    let s = entry (c .before .before) in
+    pivot-pre _ _ _ _ _ _ _ _ _ _ _ _ (s .pre .1 .0) refl (s .pre .0 .here) (s .pre .1 .1 .0)
+
+diagonal-at-requires-2 : tie.Need-diagonal-at-requires-2
+diagonal-at-requires-2 c κs =
+    let s = entry (c .before .before .before) in
+    let after = s .pre .1 .1 .1 in
+    pivot-pre _ _ _ _ _ _ _ _ _ _ _ _ (s .pre .1 .0) refl (after .1 .0 .1) (after .0)
+
+partner-requires : tie.Need-partner-requires
+partner-requires c κs = search needs
+
+partner-requires-2 : tie.Need-partner-requires-2
+partner-requires-2 c κs = search needs
+
+past-requires : tie.Need-past-requires
+past-requires c κs =
+    let s = entry (begun (c .before)) in
+    omega (arith, s .pre .1 .1 .1 .1 .0 .1, s .pre .1 .0 .inBlocks)
+
+sub-last : tie.Need-sub-last
+sub-last c = let more = past-later _ _ _ (c .past .ensures) in search needs
+
+sub-start : tie.Need-sub-start
+sub-start c = search needs
+
+sub-start-2 : tie.Need-sub-start-2
+sub-start-2 c = search needs
+
+sub-start-3 : tie.Need-sub-start-3
+sub-start-3 c =
+    let from = start (c .before .before) .pre .1 .0 .from in
+    search needs
+
+sub-start-4 : tie.Need-sub-start-4
+sub-start-4 c =
+    let from = start (c .before .before .before) .pre .1 .0 .from in
+    search needs
+
+mul-start : tie.Need-mul-start
+mul-start c =
+    let s = start (c .before .before .before) in
+    let room = start-fits _ _ _ _ _ _ _ _ _ (s .pre .1 .0) (s .pre .0 .here) in
+    search needs
+
+add-start : tie.Need-add-start
+add-start c =
+    let s = start (c .before .before .before) in
+    let room = start-fits _ _ _ _ _ _ _ _ _ (s .pre .1 .0) (s .pre .0 .here) in
+    search needs
+
+mul-below-pair : tie.Need-mul-below-pair
+mul-below-pair c =
+    let s = start (read c) in
+    let room = start-fits _ _ _ _ _ _ _ _ _ (s .pre .1 .0) (s .pre .0 .here) in
+    search needs
+
+sub-below-pair : tie.Need-sub-below-pair
+sub-below-pair c =
+    let s = start (read c) in
+    let room = start-fits _ _ _ _ _ _ _ _ _ (s .pre .1 .0) (s .pre .0 .here) in
+    search needs
+
+part-below-pair-start : tie.Need-part-below-pair-start
+part-below-pair-start c =
+    let s = start (read c) in
+    let room = start-fits _ _ _ _ _ _ _ _ _ (s .pre .1 .0) (s .pre .0 .here) in
+    search needs
+
+part-below-pair-end : tie.Need-part-below-pair-end
+part-below-pair-end c = search needs
+
+sub-below-pair-2 : tie.Need-sub-below-pair-2
+sub-below-pair-2 c =
+    let p = read (c .before .before .before) in
+    let more = past-later _ _ _ (start p .pre .1 .1 .1 .1 .0 .0) in
+    search needs
+
+sub-below-pair-3 : tie.Need-sub-below-pair-3
+sub-below-pair-3 c =
+    let p = read (c .before .before .before .before) in
+    let more = past-later _ _ _ (start p .pre .1 .1 .1 .1 .0 .0) in
+    let last = past-later _ _ _ (p .past .ensures) in
+    search needs
+
+column-from-requires : tie.Need-column-from-requires
+column-from-requires c κs =
+    let p = first (read (c .before .before .before .before)) in
+    row-ahead _ _ _ _ _ _ (entry (begun p) .pre .1 .1 .0) (omega arith) (p .partner .ensures)
+
+column-from-requires-2 : tie.Need-column-from-requires-2
+column-from-requires-2 c κs =
+    let p = counted c in
+    let after = start p .pre .1 .1 .1 in
+    let more = past-later _ _ _ (after .1 .0 .0) in
+    row-ahead _ _ _ _ _ _ (after .0) (omega arith) (p .before .partner2 .ensures)
+
+below-pair-requires : tie.Need-below-pair-requires
+below-pair-requires c κs =
+    let p = counted (c .before) in
+    let b = begun (first p) in
+    let s = entry b in
+    let after = s .pre .1 .1 .1 in
+    pair-pre _ _ _ _ _ _ _ _ _ _ _ _ _ _ (lent-kept _ _ _ _ _ (s .pre .0) (b .arrive .kept .0)) (s .pre .1 .0) (s .pre .1 .1 .0)
+    (part-length _ _ (s .args .mult .now) refl) _ _ _ _ _ _ _ _ _ _ (after .1 .0 .0) (after .1 .0 .1) (after .0)
+    (first p .before .before .diagonal-at .ensures) (first p .before .diagonal-at2 .ensures) (p .past .ensures) refl refl
+    (column-is _ _ _ _ (c .before .column-from .ensures) (first p .partner .ensures)) (column-is _ _ _ _ (c .column-from2 .ensures) (p .before .partner2 .ensures))
+
+same-length : tie.Need-same-length
+same-length c = search needs
+
+returns : tie.Need-returns
+returns c =
+    let f = c .before .before .before in
+    let p = counted (f .before) in
+    let b = begun (first p) in
+    let s = entry b in
+    let r = s .pre .1 .0 in
+    let after = s .pre .1 .1 .1 in
+    let more = past-later _ _ _ (after .1 .0 .0) in
+    pair-done _ _ _ _ (kept-from _ _ _ _ _ _ (s .args .mult .now) (r .from) (r .width) refl refl) _ _ _ _ _ _ _ _ (s .pre .1 .1 .0) (b .arrive .ensures) _ _ _ _ _ _
+    (omega arith) (after .0) (after .1 .1) (first p .before .before .diagonal-at .ensures) (first p .before .diagonal-at2 .ensures)
+    (column-is _ _ _ _ (f .before .column-from .ensures) (first p .partner .ensures)) (column-is _ _ _ _ (f .column-from2 .ensures) (p .before .partner2 .ensures)) refl
+    (c .before .before .below-pair .ensures)
+
+pub tail-pair-spec : {M : Type 1} → statement M
+tail-pair-spec =
+    tie.close
+    (tie.spec
+    arrive-requires
+    diagonal-at-requires
+    diagonal-at-requires-2
+    partner-requires
+    partner-requires-2
+    past-requires
+    sub-last
+    sub-start
+    sub-start-2
+    sub-start-3
+    sub-start-4
+    mul-start
+    add-start
+    mul-below-pair
+    sub-below-pair
+    part-below-pair-start
+    part-below-pair-end
+    sub-below-pair-2
+    sub-below-pair-3
+    column-from-requires
+    column-from-requires-2
+    below-pair-requires
+    same-length
+    returns)

@@ -1,0 +1,180 @@
+-- `tail::turn` meets its contract: what a step or two make of the part that is lent is made of the panel, and they are taken off the steps that are left. Assumes nothing.
+use mathlib.Core.Path.{refl}
+use native.Mathlib.Omega.{arith}
+use lib.ListN.{length}
+use borrow.Author.Needs.{needs}
+use Rattle.model.specs.Matrix.{bytes}
+use Rattle.model.specs.Kept.{Starts}
+use Rattle.tail.specs.Tail.{HerePre}
+use Rattle.tail.proofs.Asked.{here-pre, starts-past, lent-start, lent-pre, read-pre, past-later, still-first}
+use Rattle.tail.proofs.Lent.{part-length, lent-rows}
+use Rattle.tail.proofs.Laws.{stepped-since, both-since, turned-step, turned-both}
+use Rattle.tail.proofs.turn.Statement.{statement}
+use Rattle.tail.proofs.turn.Tie as tie
+
+-- ---- the calls that a need looks back to
+
+abbrev entry : tie.After-past → tie.Start
+entry c = c .before .before .before .before .before .before .before .before
+
+abbrev paired : tie.Then2 → tie.Then1
+paired c = c .before .before
+
+-- ---- where the steps begin
+
+-- the step at k
+here : (c : tie.Start) → HerePre (c .args .ke) (bytes (c .args .blocks .now)) (bytes (c .args .partners .now)) (c .args .k .0)
+here c = here-pre _ _ _ _ _ (c .pre .1 .0) (c .pre .1 .1 .1 .0) (c .pre .1 .1 .1 .1)
+
+-- after it another begins, before ke
+starts : (c : tie.After-past) → Starts (bytes (entry c .args .blocks .now)) (c .past .result)
+starts c = let s = entry c in starts-past _ _ _ _ (s .pre .1 .0 .recorded .paired) (s .pre .1 .1 .1 .0) (c .past .ensures)
+
+there : (c : tie.Then1) → HerePre (entry (c .before) .args .ke) (bytes (entry (c .before) .args .blocks .now)) (bytes (entry (c .before) .args .partners .now))
+    (c .before .past .result)
+there c = here-pre _ _ _ _ _ (entry (c .before) .pre .1 .0) (c .if1 .taken) (starts (c .before))
+
+-- ---- the needs
+
+mul-start : tie.Need-mul-start
+mul-start c =
+    let s = c .before .before .before .before .before .before .before in
+    let room = lent-start _ _ _ _ _ _ _ _ _ _ _ _ (s .pre .0) (s .pre .1 .1 .1 .0) in
+    search needs
+
+add-start : tie.Need-add-start
+add-start c =
+    let s = c .before .before .before .before .before .before .before in
+    let room = lent-start _ _ _ _ _ _ _ _ _ _ _ _ (s .pre .0) (s .pre .1 .1 .1 .0) in
+    search needs
+
+past-requires : tie.Need-past-requires
+past-requires c κs = search needs
+
+stays-requires : tie.Need-stays-requires
+stays-requires c κs =
+    let s = entry (c .before) in
+    ((c .if1 .taken, (s .pre .0 .inBlocks, s .pre .0 .inPartners)), there c)
+
+mul-tail-pair : tie.Need-mul-tail-pair
+mul-tail-pair c =
+    let s = entry (paired c .before) in
+    let room = lent-start _ _ _ _ _ _ _ _ _ _ _ _ (s .pre .0) (s .pre .1 .1 .1 .0) in
+    search needs
+
+sub-tail-pair : tie.Need-sub-tail-pair
+sub-tail-pair c =
+    let s = entry (paired c .before) in
+    let room = lent-start _ _ _ _ _ _ _ _ _ _ _ _ (s .pre .0) (s .pre .1 .1 .1 .0) in
+    search needs
+
+part-tail-pair-start : tie.Need-part-tail-pair-start
+part-tail-pair-start c =
+    let s = entry (paired c .before) in
+    let room = lent-start _ _ _ _ _ _ _ _ _ _ _ _ (s .pre .0) (s .pre .1 .1 .1 .0) in
+    search needs
+
+part-tail-pair-end : tie.Need-part-tail-pair-end
+part-tail-pair-end c = search needs
+
+tail-pair-requires : tie.Need-tail-pair-requires
+tail-pair-requires c κs =
+    let t = paired (c .before) in
+    let s = entry (t .before) in
+    let k-in = s .pre .1 .1 .1 .0 in (
+      lent-pre _ _ _ _ _ _ _ _ _ _ _ _ (s .pre .0) k-in _ (part-length _ _ (s .args .panel .now) refl),
+      (read-pre _ _ _ _ _ _ _ _ _ _ _ _ (s .pre .0) k-in (s .pre .1 .1 .0), (here s, (there t, ((t .before .past .ensures, t .if1 .taken),
+      still-first _ _ _ (c .before .before .stays .ensures) (c .before .if2 .taken))))),
+    )
+
+past-requires-2 : tie.Need-past-requires-2
+past-requires-2 c κs = search needs
+
+same-length : tie.Need-same-length
+same-length c = search needs
+
+returns : tie.Need-returns
+returns c =
+    let p = c .before .before .before in
+    let t = paired (p .before .before) in
+    let s = entry (t .before) in
+    let k-in = s .pre .1 .1 .1 .0 in
+    let room = lent-start _ _ _ _ _ _ _ _ _ _ _ _ (s .pre .0) k-in in
+    let more = past-later _ _ _ (t .before .past .ensures) in
+    let after = past-later _ _ _ (c .past2 .ensures) in
+    let pair = both-since _ _ _ _ _ _ _ _ (here s) (there t) (omega arith) in
+    let rows = lent-pre _ _ _ _ _ _ _ _ _ _ _ _ (s .pre .0) k-in _ (part-length _ _ (s .args .panel .now) refl) in (
+      turned-both _ _ _ _ _ _ _ _ _ _ _ k-in (t .before .past .ensures) _ (t .if1 .taken) (c .past2 .ensures)
+          (lent-rows _ _ _ _ _ _ (rows .height) refl refl _ _ room (p .tail-pair .kept .0) pair (p .tail-pair .ensures)),
+      (omega arith, starts-past _ _ _ _ (s .pre .1 .0 .recorded .paired) (t .if1 .taken) (c .past2 .ensures)),
+    )
+
+mul-tail-step : tie.Need-mul-tail-step
+mul-tail-step c =
+    let s = entry (c .before) in
+    let room = lent-start _ _ _ _ _ _ _ _ _ _ _ _ (s .pre .0) (s .pre .1 .1 .1 .0) in
+    search needs
+
+sub-tail-step : tie.Need-sub-tail-step
+sub-tail-step c =
+    let s = entry (c .before) in
+    let room = lent-start _ _ _ _ _ _ _ _ _ _ _ _ (s .pre .0) (s .pre .1 .1 .1 .0) in
+    search needs
+
+part-tail-step-start : tie.Need-part-tail-step-start
+part-tail-step-start c =
+    let s = entry (c .before) in
+    let room = lent-start _ _ _ _ _ _ _ _ _ _ _ _ (s .pre .0) (s .pre .1 .1 .1 .0) in
+    search needs
+
+part-tail-step-end : tie.Need-part-tail-step-end
+part-tail-step-end c = search needs
+
+tail-step-requires : tie.Need-tail-step-requires
+tail-step-requires c κs =
+    let s = entry (c .before .before) in
+    let k-in = s .pre .1 .1 .1 .0 in (
+      lent-pre _ _ _ _ _ _ _ _ _ _ _ _ (s .pre .0) k-in _ (part-length _ _ (s .args .panel .now) refl),
+      (read-pre _ _ _ _ _ _ _ _ _ _ _ _ (s .pre .0) k-in (s .pre .1 .1 .0), here s),
+    )
+
+same-length-2 : tie.Need-same-length-2
+same-length-2 c = search needs
+
+returns-2 : tie.Need-returns-2
+returns-2 c =
+    let t = c .before .before in
+    let p = t .before .before .before in
+    let s = entry p in
+    let k-in = s .pre .1 .1 .1 .0 in
+    let room = lent-start _ _ _ _ _ _ _ _ _ _ _ _ (s .pre .0) k-in in
+    let more = past-later _ _ _ (p .past .ensures) in
+    let rows = lent-pre _ _ _ _ _ _ _ _ _ _ _ _ (s .pre .0) k-in _ (part-length _ _ (s .args .panel .now) refl) in (
+      turned-step _ _ _ _ _ _ _ _ _ _ _ k-in (p .past .ensures)
+          (lent-rows _ _ _ _ _ _ (rows .height) refl refl _ _ room (t .tail-step .kept .0) (stepped-since _ _ _ _ _ _ _ (here s)) (t .tail-step .ensures)),
+      (omega arith, starts p),
+    )
+
+pub turn-spec : {M : Type 1} → statement M
+turn-spec =
+    tie.close
+    (tie.spec
+    mul-start
+    add-start
+    past-requires
+    stays-requires
+    mul-tail-pair
+    sub-tail-pair
+    part-tail-pair-start
+    part-tail-pair-end
+    tail-pair-requires
+    past-requires-2
+    same-length
+    returns
+    mul-tail-step
+    sub-tail-step
+    part-tail-step-start
+    part-tail-step-end
+    tail-step-requires
+    same-length-2
+    returns-2)
