@@ -1,7 +1,7 @@
 -- Columns make rows: what the sweeps and the pivot's own columns leave is the model's elimination of each row. Assumes nothing.
 use Prim.Native.Nat.{ℕ, _+_, _<_, _≤_}
 use mathlib.Core.Path.{_≡_, refl, sym, _∙_, ap, fun-ext}
-use mathlib.Core.Bool.{true, false, _&&_}
+use mathlib.Core.Bool.{false, _&&_}
 use native.Mathlib.Omega.{arith}
 use borrow.Author.Tests.{lt-ltb, le-ltb, le-leb, lt-leb, eq-eqb, ne-eqb, eqb-true, ltb-true, ltb-false}
 use lib.Dec.{ltb, leb, eqb}

@@ -1,6 +1,6 @@
 -- A column less the parts of one pivot or of two: what the grid's rules make of it is the rule by the pivots' kinds. Assumes nothing.
-use Prim.Native.Nat.{ℕ, _+_, _<_, _≤_}
-use mathlib.Core.Path.{_≡_, refl, _∙_, ap, fun-ext}
+use Prim.Native.Nat.{ℕ, _+_, _≤_}
+use mathlib.Core.Path.{_≡_, refl, _∙_, fun-ext}
 use mathlib.Core.Bool.{Bool, true, false}
 use native.Mathlib.Omega.{arith}
 use lib.Ieee.{Float, eq}
@@ -16,11 +16,6 @@ pub last-from : (k : ℕ) (block : Bool) → k ≤ lastOf k block
 unfolding lastOf
 last-from k true = omega arith
 last-from k false = omega arith
-
-pub last-within : (k : ℕ) (block : Bool) → lastOf k block ≤ k + 1
-unfolding lastOf
-last-within k true = omega arith
-last-within k false = omega arith
 
 pub block-last : (k : ℕ) (block : Bool) → block ≡ true → lastOf k block ≡ k + 1
 unfolding lastOf

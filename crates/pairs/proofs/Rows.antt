@@ -11,7 +11,6 @@ use Rattle.model.specs.Scalar.{_⊗_, reciprocalOf}
 use Rattle.model.specs.Matrix.{Row, Mat, within, withColumn, exchangedPlace}
 use Rattle.model.specs.Step.{Step, isBlock, firstMultiplier, secondMultiplier, eliminated, rowAfterStep}
 use Rattle.model.specs.Head.{lastOf}
-use Rattle.model.specs.declared.Block.{Block}
 use Rattle.model.specs.declared.Diagonal.{Diagonal}
 use Rattle.model.specs.declared.Diagonal.the-variants.{One, Two}
 use Rattle.model.proofs.Cases.{test, no}
@@ -19,8 +18,8 @@ use Rattle.grid.specs.Rules.{columnOf, times, combined, columnsExchanged}
 use Rattle.whole.specs.Whole.{below}
 use Rattle.whole.proofs.Masked.{ranged}
 use Rattle.pairs.specs.Pairs.{stepOf, rowAfterBoth, lessAt, strip, sweptFirst, sweptBoth, ownBy}
-use Rattle.pairs.proofs.Column.{last-from, last-within}
-use Rattle.pairs.proofs.Sweeps.{place-other, place-from, place-under, less-same}
+use Rattle.pairs.proofs.Column.{last-from}
+use Rattle.pairs.proofs.Sweeps.{place-other, place-same, place-from, place-under, less-same}
 
 -- ---- a step by its kind, column by column
 
@@ -112,9 +111,6 @@ exchanged-row M E p q lo hi i e w = ap (λ (X : Mat). X i) e ∙ fun-ext λ j. r
 exchanged-out : (M E : Mat) (p q lo hi i j : ℕ) → E ≡ columnsExchanged M p q lo hi → within lo hi i ≡ false → E i j ≡ M i j
 unfolding columnsExchanged
 exchanged-out M E p q lo hi i j e w = ap (λ (X : Mat). X i j) e ∙ rw w
-
-place-same : (f j : ℕ) → exchangedPlace f f j ≡ j
-place-same f j = test (eqb j f) (λ e. rw e (sym (eqb-true j f e))) (λ e. rw e)
 
 -- the row that the step at k eliminates in is the one with its exchange made
 moved-row : (M E : Mat) (x : Diagonal) (k kp e end lo hi i : ℕ) (m1 m2 : Row) → e ≡ lastOf k (isBlock x) → E ≡ columnsExchanged M e kp lo hi

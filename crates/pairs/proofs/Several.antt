@@ -5,12 +5,12 @@ use mathlib.Core.Bool.{Bool, true, false, not, _&&_, true≢false}
 use native.Mathlib.Omega.{arith}
 use borrow.Author.Tests.{lt-ltb, le-ltb, le-leb, lt-leb}
 use lib.Ieee.{Float, eq}
-use Rattle.model.specs.Scalar.{_⊖_, _⊗_, zeroF}
+use Rattle.model.specs.Scalar.{zeroF}
 use Rattle.model.specs.Matrix.{Row, Mat, withColumn, exchangedPlace}
 use Rattle.model.specs.Head.{lastOf}
 use Rattle.model.proofs.Cases.{cmp, and-left, and-right}
 use Rattle.grid.specs.Rules.{columnOf, lessTimes, lessTwo, lessThree}
-use Rattle.grid.proofs.Laws.{withColumn-other, col-in}
+use Rattle.grid.proofs.Laws.{withColumn-other}
 use Rattle.several.specs.Several.{pick, columnsBy, fourColumns, twoColumns, ColumnsPre}
 use Rattle.pairs.specs.Pairs.{lessAt, steppedTwice, strip, sweptBoth, neitherZero, PairPre}
 use Rattle.pairs.specs.declared.Frame.{Frame}

@@ -1,14 +1,14 @@
 -- The sweeps over columns by the multipliers that are kept: where they are read, one column more, and the pivots' own columns. Assumes nothing.
 use Prim.Native.Nat.{ℕ, _+_, _-_, _*_, _<_, _≤_}
-use mathlib.Core.Path.{_≡_, refl, _∙_, ap, fun-ext}
+use mathlib.Core.Path.{_≡_, refl, sym, _∙_, ap, fun-ext}
 use mathlib.Core.Bool.{Bool, true, false}
 use native.Mathlib.Omega.{arith}
 use native.Mathlib.Nat.{mul-le-mul-right, le-antisymm}
-use borrow.Author.Tests.{lt-ltb, le-ltb, le-leb, lt-leb, eq-eqb, ne-eqb, leb-true}
+use borrow.Author.Tests.{lt-ltb, le-ltb, le-leb, lt-leb, eq-eqb, ne-eqb, eqb-true, leb-true}
 use lib.Dec.{eqb, leb}
 use lib.Ieee.{Float}
 use Rattle.model.specs.Scalar.{reciprocalOf}
-use Rattle.model.specs.Matrix.{Mat, within, withColumn, exchangedPlace}
+use Rattle.model.specs.Matrix.{Mat, withColumn, exchangedPlace}
 use Rattle.model.specs.Step.{isBlock}
 use Rattle.model.specs.Head.{lastOf}
 use Rattle.model.specs.declared.Block.{Block}
@@ -19,7 +19,7 @@ use Rattle.grid.specs.Grid.{In}
 use Rattle.grid.specs.Rules.{columnOf, times, combined, LaterPre, RowsPre, ExchangePre}
 use Rattle.pairs.specs.Pairs.{lessAt, stepped, steppedTwice, strip, sweptFirst, sweptBoth, ownBy, FramePre, SweepPre, StepPre, PairPre}
 use Rattle.pairs.specs.declared.Frame.{Frame}
-use Rattle.pairs.proofs.Column.{last-from, last-within, block-last, single-last}
+use Rattle.pairs.proofs.Column.{last-from}
 
 -- ---- the exchange of places
 
@@ -31,6 +31,9 @@ place-second f kq j h e = rw (ne-eqb j f h, eq-eqb j kq e)
 
 pub place-other : (f kq j : ℕ) → (j ≡ f → ⊥) → (j ≡ kq → ⊥) → j ≡ exchangedPlace f kq j
 place-other f kq j h g = rw (ne-eqb j f h, ne-eqb j kq g)
+
+pub place-same : (f j : ℕ) → exchangedPlace f f j ≡ j
+place-same f j = test (eqb j f) (λ e. rw e (sym (eqb-true j f e))) (λ e. rw e)
 
 -- of places from lo on and before hi, it is one of them
 pub place-from : (lo f kq j : ℕ) → lo ≤ f → lo ≤ kq → lo ≤ j → lo ≤ exchangedPlace f kq j

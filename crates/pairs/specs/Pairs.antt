@@ -9,7 +9,6 @@ use Rattle.model.specs.Scalar.{_⊖_, _⊗_, zeroF, reciprocalOf}
 use Rattle.model.specs.Matrix.{Row, Mat, within, withColumn, exchangedPlace}
 use Rattle.model.specs.Step.{Step, one, two, lessMultiple, rowAfterStep}
 use Rattle.model.specs.Head.{lastOf}
-use Rattle.model.specs.declared.Block.{Block}
 use Rattle.model.specs.declared.Diagonal.{Diagonal}
 use Rattle.model.specs.declared.Diagonal.the-variants.{One, Two}
 use Rattle.grid.specs.Rules.{columnOf, times, combined}

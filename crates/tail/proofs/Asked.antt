@@ -5,20 +5,19 @@ use mathlib.Core.Bool.{Bool, true, false}
 use mathlib.Core.List.{List}
 use native.Mathlib.Omega.{arith}
 use native.Mathlib.Nat.{mul-le-mul-right, add-mul, mul-comm, le-trans}
-use borrow.Author.Tests.{eqb-true, eqb-false, eq-eqb, ne-eqb}
+use borrow.Author.Tests.{eqb-true, eqb-false, eq-eqb}
 use lib.Dec.{eqb}
 use lib.ListN.{length}
 use lib.Ieee.{Float}
-use Rattle.model.specs.Matrix.{vec, bytes}
+use Rattle.model.specs.Matrix.{bytes}
 use Rattle.model.specs.Step.{begins, isBlock, diagonalAt, pastOf, firstOf}
 use Rattle.model.specs.Head.{lastOf}
-use Rattle.model.specs.Kept.{Paired, Starts, Ahead, Recorded}
+use Rattle.model.specs.Kept.{Paired, Starts}
 use Rattle.model.specs.declared.Diagonal.{Diagonal}
 use Rattle.diagonal.specs.Diagonal.{PivotPre}
 use Rattle.grid.specs.Rules.{ExchangePre}
 use Rattle.grid.proofs.Laws.{test, off-lt}
 use Rattle.pairs.specs.Pairs.{FramePre, StepPre, PairPre}
-use Rattle.pairs.specs.declared.Frame.{Frame}
 use Rattle.tail.specs.Tail.{TailPre, StepsPre, HerePre, LentPre, ReadPre}
 
 -- ---- the record of pivots

@@ -2,20 +2,18 @@
 -- from there. Assumes nothing.
 use Prim.Native.Nat.{ℕ, _+_, _-_, _<_, _≤_}
 use mathlib.Core.Path.{_≡_, refl, sym, _∙_, ap, fun-ext}
-use mathlib.Core.Bool.{false}
 use native.Mathlib.Omega.{arith}
 use borrow.Author.Tests.{lt-ltb, le-ltb, le-leb, lt-leb, eq-eqb, ne-eqb, eqb-true, eqb-false, ltb-true, ltb-false}
-use lib.Dec.{ltb, leb, eqb}
-use lib.Ieee.{Float}
-use Rattle.model.specs.Scalar.{reciprocalOf, _⊗_}
+use lib.Dec.{ltb, eqb}
 use Rattle.model.specs.Matrix.{Row, within, exchangedPlace}
-use Rattle.model.specs.Step.{isBlock, eliminated, lessMultiple, rowAfterStep}
+use Rattle.model.specs.Step.{isBlock, eliminated, rowAfterStep}
 use Rattle.model.specs.Head.{lastOf}
 use Rattle.model.specs.declared.Diagonal.{Diagonal}
 use Rattle.model.specs.declared.Diagonal.the-variants.{One, Two}
-use Rattle.grid.proofs.Laws.{test, no}
+use Rattle.grid.proofs.Laws.{test}
 use Rattle.whole.proofs.Masked.{one-alike, two-alike}
 use Rattle.pairs.specs.Pairs.{stepOf}
+use Rattle.pairs.proofs.Sweeps.{place-from}
 use Rattle.tail.specs.Tail.{fromColumn}
 
 -- ---- from k on
@@ -42,9 +40,6 @@ since-later k l f h a =
     }
 
 -- ---- the exchange of two places
-
-place-from : (k p q j : ℕ) → k ≤ p → k ≤ q → k ≤ j → k ≤ exchangedPlace p q j
-place-from k p q j hp hq hj = test (eqb j p) (λ e. rw e hq) (λ e. rw e (test (eqb j q) (λ g. rw g hp) (λ g. rw g hj)))
 
 pub since-exchange : (k p q : ℕ) → k ≤ p → k ≤ q → Since k (λ r j. r (exchangedPlace p q j))
 since-exchange k p q hp hq =

@@ -4,18 +4,18 @@ use mathlib.Core.Path.{_≡_, refl, sym, _∙_, ap, fun-ext}
 use mathlib.Core.Bool.{Bool, true, false}
 use mathlib.Core.List.{List}
 use native.Mathlib.Omega.{arith}
-use borrow.Author.Tests.{lt-ltb, le-ltb, ne-eqb, eqb-true}
-use lib.Dec.{ltb, eqb}
+use borrow.Author.Tests.{lt-ltb, le-ltb}
+use lib.Dec.{ltb}
 use lib.Ieee.{Float}
 use Rattle.model.specs.Matrix.{Row, Mat, vec, bytes, within, exchangedPlace}
 use Rattle.model.specs.Step.{Pivots, begins, isBlock, diagonalAt, pastOf, stepAt, firstOf, arrived, rowStepped, rowAfterStep, rowAfterSteps}
-use Rattle.model.specs.Head.{lastOf}
 use Rattle.model.specs.declared.Diagonal.{Diagonal}
 use Rattle.grid.specs.Rules.{columnOf, columnsExchanged}
 use Rattle.grid.proofs.Laws.{test}
 use Rattle.whole.specs.Whole.{below}
 use Rattle.pairs.specs.Pairs.{stepOf, rowAfterBoth}
 use Rattle.pairs.proofs.Column.{last-from}
+use Rattle.pairs.proofs.Sweeps.{place-same}
 use Rattle.tail.specs.Tail.{pivotsOf, fromColumn, rowSteppedTwice, TailPre, HerePre}
 use Rattle.tail.proofs.From.{Since, since-then, since-later, since-exchange, from-exchange, from-then, step-since, from-step, step-same}
 use Rattle.tail.proofs.Asked.{past-more, partner-ahead}
@@ -54,9 +54,6 @@ below-then lo hi f g M = fun-ext λ i. test (within lo hi i) (λ t. rw t) (λ t.
 arrived-since : (blocks partners : ℕ → ℕ) (k : ℕ) → k ≤ firstOf blocks partners k → Since k (arrived blocks partners k)
 unfolding arrived
 arrived-since blocks partners k h = since-exchange k k (firstOf blocks partners k) (omega arith) h
-
-place-same : (k j : ℕ) → exchangedPlace k k j ≡ j
-place-same k j = test (eqb j k) (λ t. rw t (sym (eqb-true j k t))) (λ t. rw t)
 
 arrived-by : (blocks partners : ℕ → ℕ) (k p : ℕ) → firstOf blocks partners k ≡ p → arrived blocks partners k ≡ (λ r j. r (exchangedPlace k p j))
 unfolding arrived

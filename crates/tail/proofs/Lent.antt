@@ -5,14 +5,14 @@ use mathlib.Core.Path.{_≡_, refl, sym, _∙_, ap, fun-ext}
 use mathlib.Core.List.{List, [], _∷_}
 use native.Mathlib.Omega.{arith}
 use native.Mathlib.Nat.{mul-le-mul-right, suc-mul, add-mul}
-use borrow.Author.Tests.{lt-ltb, le-ltb, le-leb, lt-leb, ltb-true, ltb-false}
+use borrow.Author.Tests.{le-leb, lt-leb, ltb-true, ltb-false}
 use borrow.Rule.Slice.PartMut.{midOf, putMid}
-use lib.Dec.{ltb, leb}
-use lib.ListN.{length, getD, take, drop, length-drop}
+use lib.Dec.{ltb}
+use lib.ListN.{length, getD, drop, length-drop}
 use lib.Seq.{getD-drop, take-all}
 use lib.Ieee.{Float, nan}
 use Rattle.model.specs.Matrix.{Row, Mat, view, vec, withPart}
-use Rattle.grid.proofs.Laws.{test, no, view-at, view-out, vec-put}
+use Rattle.grid.proofs.Laws.{test, view-at, view-out, vec-put}
 use Rattle.whole.specs.Whole.{below}
 use Rattle.whole.proofs.Masked.{within-in, within-before, within-past}
 use Rattle.eliminate.specs.Eliminate.{inPanel}

@@ -8,9 +8,9 @@ use diagonal::past;
 use grid::columns;
 use model::Elim;
 use model::LocalRow;
+use pairs::Frame;
 use pairs::below_pair;
 use pairs::below_step;
-use pairs::Frame;
 ghost use mathlib.Core.Path.{_≡_};
 ghost use Prim.Native.Nat.{_+_, _-_, _<_, _≤_};
 ghost use lib.Dec.{eqb};
@@ -42,14 +42,7 @@ fn column_from(k: Elim, row: LocalRow) -> usize
 }
 
 // The exchange before the step at k: of a block's first column, where its row is another.
-fn arrive(
-    part: &mut [f64],
-    blocks: &[u8],
-    partners: &[usize],
-    nrow: usize,
-    ke: usize,
-    k: Elim,
-)
+fn arrive(part: &mut [f64], blocks: &[u8], partners: &[usize], nrow: usize, ke: usize, k: Elim)
     requires { ⌜ LentPre nrow ke (k .0) (length (now part)) ⌝ }
     requires { ⌜ (ke ≤ length (now blocks)) × (ke ≤ length (now partners)) ⌝ }
     requires { ⌜ HerePre ke (bytes (now blocks)) (bytes (now partners)) (k .0) ⌝ }
@@ -102,7 +95,7 @@ fn tail_step(
         (inPanel kb ke (view nb (now (mult .entry)))) ke (k .0))) (view nrow (now (part .entry))) ⌝ }
 {
     arrive(part, blocks, partners, nrow, ke, k);
-    let x = diagonal_at(d, sub, blocks, k);
+    let pivot = diagonal_at(d, sub, blocks, k);
     let kp = partner(partners, k);
     let at = Frame {
         nrow,
@@ -111,7 +104,7 @@ fn tail_step(
         columns: ke - k.0,
     };
     let start = (k.0 - kb) + (k.0 - kb) * nb;
-    below_step(part, &mult[start..], at, column_from(k, kp), x);
+    below_step(part, &mult[start..], at, column_from(k, kp), pivot);
 }
 
 // The steps at k and, right after it, at l, which makes no exchange before its own, on the rows from ke down. The part

@@ -1,7 +1,7 @@
 -- `pairs::block_single_two` meets its contract: two columns, or none. Assumes nothing.
 use borrow.Author.Needs.{needs}
 use native.Mathlib.Omega.{arith}
-use Rattle.pairs.proofs.Sweeps.{placed, both-kept, both-kept-next, second-kept, both-none}
+use Rattle.pairs.proofs.Sweeps.{both-kept, both-kept-next, second-kept, both-none}
 use Rattle.pairs.proofs.Several.{block-single-columns, block-single-done}
 use Rattle.pairs.proofs.block_single_two.Statement.{statement}
 use Rattle.pairs.proofs.block_single_two.Tie as tie

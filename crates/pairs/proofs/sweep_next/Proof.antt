@@ -1,5 +1,4 @@
 -- `pairs::sweep_next` meets its contract: several columns, or one. Assumes nothing.
-use native.Mathlib.Omega.{arith}
 use borrow.Author.Needs.{needs}
 use Rattle.pairs.proofs.Several.{both-more}
 use Rattle.pairs.proofs.sweep_next.Statement.{statement}

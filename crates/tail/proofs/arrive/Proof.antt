@@ -1,5 +1,4 @@
 -- `tail::arrive` meets its contract: by the block byte. Assumes nothing.
-use native.Mathlib.Omega.{arith}
 use borrow.Author.Needs.{needs}
 use Rattle.tail.proofs.Asked.{block-in, first-ahead, arrive-pre}
 use Rattle.tail.proofs.Laws.{arrive-block, arrive-single}

@@ -1,7 +1,6 @@
 -- `tail::tail_pair` meets its contract: the exchange before the first step, then the record's two steps, on the columns from k on. Assumes nothing.
 use mathlib.Core.Path.{refl}
 use native.Mathlib.Omega.{arith}
-use lib.ListN.{length}
 use borrow.Author.Needs.{needs}
 use Rattle.tail.proofs.Asked.{start-fits, pivot-pre, pair-pre, lent-kept, column-is, row-ahead, past-later}
 use Rattle.tail.proofs.Lent.{part-length, kept-from}

@@ -1,6 +1,5 @@
 -- `tail::tail_step` meets its contract: the exchange before the step, then the record's step, on the columns from k on. Assumes nothing.
 use mathlib.Core.Path.{refl}
-use lib.ListN.{length}
 use borrow.Author.Needs.{needs}
 use Rattle.tail.proofs.Asked.{start-fits, pivot-pre, step-pre, lent-kept, column-is, row-ahead}
 use Rattle.tail.proofs.Lent.{part-length, kept-from}

@@ -1,7 +1,6 @@
 -- `tail::turn` meets its contract: what a step or two make of the part that is lent is made of the panel, and they are taken off the steps that are left. Assumes nothing.
 use mathlib.Core.Path.{refl}
 use native.Mathlib.Omega.{arith}
-use lib.ListN.{length}
 use borrow.Author.Needs.{needs}
 use Rattle.model.specs.Matrix.{bytes}
 use Rattle.model.specs.Kept.{Starts}
@@ -83,8 +82,19 @@ tail-pair-requires c κs =
     let s = entry (t .before) in
     let k-in = s .pre .1 .1 .1 .0 in (
       lent-pre _ _ _ _ _ _ _ _ _ _ _ _ (s .pre .0) k-in _ (part-length _ _ (s .args .panel .now) refl),
-      (read-pre _ _ _ _ _ _ _ _ _ _ _ _ (s .pre .0) k-in (s .pre .1 .1 .0), (here s, (there t, ((t .before .past .ensures, t .if1 .taken),
-      still-first _ _ _ (c .before .before .stays .ensures) (c .before .if2 .taken))))),
+      (
+        read-pre _ _ _ _ _ _ _ _ _ _ _ _ (s .pre .0) k-in (s .pre .1 .1 .0),
+        (
+          here s,
+          (
+            there t,
+            (
+              (t .before .past .ensures, t .if1 .taken),
+              still-first _ _ _ (c .before .before .stays .ensures) (c .before .if2 .taken),
+            ),
+          ),
+        ),
+      ),
     )
 
 past-requires-2 : tie.Need-past-requires-2
