@@ -79,6 +79,14 @@ extern "C" {
 #define MISUKTAAN_LIMIT_MAX 64
 
 /*
+ * The most of the stack, in bytes, that an update takes, and any other call: measured, with room to spare
+ * (tests/stack.c). If memcpy and memset are looked up at their first use and not at the program's start, that takes up
+ * to 4 KiB more, once.
+ */
+#define MISUKTAAN_UPDATE_STACK 20480
+#define MISUKTAAN_STACK 8192
+
+/*
  * What a call answers. number 0 is acceptance; any other is the refusal's, and a, b its place.
  * rounds: after an accepted factor call the rounds of all block lifts, else 0.
  * positive, negative, zero: after an accepted factor or inertia call the counts of eigenvalues of D by sign, else 0.
