@@ -138,10 +138,12 @@ fn begin_by_fours(
     requires { ⌜ GatherPre nrow e kb w lo n (length (now y)) (length (now g)) (length (now panel)) ⌝ }
     ensures { λ t. ⌜ vec (now (x .exit))
         ≡ withPart (vec (now (x .entry))) 0 n
-        (gathered zeroed (rowsFrom lo (view nrow (now (g .entry)))) (laterRow (view nrow (now (panel .entry))) c kb) 0 t) ⌝ }
+        (gathered zeroed (rowsFrom lo (view nrow (now (g .entry))))
+        (laterRow (view nrow (now (panel .entry))) c kb) 0 t) ⌝ }
     ensures { λ t. ⌜ vec (now (y .exit))
         ≡ withPart (vec (now (y .entry))) 0 n
-        (gathered zeroed (rowsFrom lo (view nrow (now (g .entry)))) (laterRow (view nrow (now (panel .entry))) e kb) 0 t) ⌝ }
+        (gathered zeroed (rowsFrom lo (view nrow (now (g .entry))))
+        (laterRow (view nrow (now (panel .entry))) e kb) 0 t) ⌝ }
     ensures { λ t. ⌜ t ≤ w ⌝ }
 {
     grid::columns::zero(x, 0, n);
@@ -216,10 +218,12 @@ pub fn both_sums(
     requires { ⌜ GatherPre nrow e kb w lo n (length (now y)) (length (now g)) (length (now panel)) ⌝ }
     ensures { λ _. ⌜ vec (now (x .exit))
         ≡ withPart (vec (now (x .entry))) 0 n
-        (gathered zeroed (rowsFrom lo (view nrow (now (g .entry)))) (laterRow (view nrow (now (panel .entry))) c kb) 0 w) ⌝ }
+        (gathered zeroed (rowsFrom lo (view nrow (now (g .entry))))
+        (laterRow (view nrow (now (panel .entry))) c kb) 0 w) ⌝ }
     ensures { λ _. ⌜ vec (now (y .exit))
         ≡ withPart (vec (now (y .entry))) 0 n
-        (gathered zeroed (rowsFrom lo (view nrow (now (g .entry)))) (laterRow (view nrow (now (panel .entry))) e kb) 0 w) ⌝ }
+        (gathered zeroed (rowsFrom lo (view nrow (now (g .entry))))
+        (laterRow (view nrow (now (panel .entry))) e kb) 0 w) ⌝ }
 {
     let s = begin_by_fours(x, y, g, panel, nrow, c, e, kb, w, lo, n);
     gather_ones(x, g, panel, nrow, c, kb, s, w, lo, n);
