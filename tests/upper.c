@@ -1,6 +1,6 @@
 /*
- * Upper positions (row < column) of a factor call's input are copied and never read as numbers. No contract can say what
- * is not read, so two runs of this program do.
+ * Upper positions (row < column) of a factor call's input are copied and never read as numbers. No contract can say
+ * what is not read, so two runs of this program do.
  *
  *   upper             Each call is made with zeros in the upper positions, and then with signalling not-a-numbers,
  *                     infinities and the greatest numbers: the floating-point flags, the answer and every output come

@@ -109,8 +109,8 @@ fn accept(
     Factored::Accepted(Report { rounds, inertia })
 }
 
-// The result judged: zeros and refusal 9, or accepted. One pass over the panel's lower positions comes first, for the head
-// and the marks.
+// The result judged: zeros and refusal 9, or accepted. One pass over the panel's lower positions comes first, for the
+// head and the marks.
 fn judge(
     c: Settings,
     rounds: usize,

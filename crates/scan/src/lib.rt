@@ -135,7 +135,8 @@ fn all_finite(xs: &[f64], n: usize) -> bool
     found == 0
 }
 
-// The sum of eight numbers, every second one from i on, added among themselves so that no addition waits for all others.
+// The sum of eight numbers, every second one from i on, added among themselves so that no addition waits for all
+// others.
 fn every_second(xs: &[f64], i: usize) -> f64
     requires { ⌜ i + 14 < length (now xs) ⌝ }
     ensures { λ r. ⌜ r ≡ everySecond (vec (now (xs .entry))) i ⌝ }
@@ -144,9 +145,9 @@ fn every_second(xs: &[f64], i: usize) -> f64
         + ((xs[i + 8] + xs[i + 10]) + (xs[i + 12] + xs[i + 14]))
 }
 
-// A sum of sixteen numbers or more: the first sixteen, then the sixteens that end with the last number. Where the two meet
-// numbers count twice, so that none is left over to be added by itself. Numbers at even and at odd places are added apart,
-// so that the machine adds two at a time; columns end, and do not begin, where it reads two at a time best.
+// A sum of sixteen numbers or more: the first sixteen, then the sixteens that end with the last number. Where the two
+// meet, numbers count twice, so that none is left over to be added by itself. Numbers at even and at odd places are
+// added apart, so that the machine adds two at a time; a column ends, and does not begin, where it reads two at once.
 fn long_sum(xs: &[f64]) -> f64
     requires { ⌜ 16 ≤ length (now xs) ⌝ }
     ensures { λ r. ⌜ r ≡ longSum (vec (now (xs .entry))) (length (now (xs .entry))) ⌝ }
@@ -185,7 +186,7 @@ fn sum_of(xs: &[f64]) -> f64
     long_sum(xs)
 }
 
-// .. of column j from its diagonal down.
+// A sum of column j from its diagonal down.
 fn column_sum(panel: &[f64], nrow: usize, j: usize) -> f64
     requires { ⌜ DownPre nrow j j nrow (length (now panel)) ⌝ }
     ensures { λ r. ⌜ r ≡ columnSum (view nrow (now (panel .entry))) nrow j ⌝ }
@@ -195,7 +196,7 @@ fn column_sum(panel: &[f64], nrow: usize, j: usize) -> f64
     sum_of(&panel[start..end])
 }
 
-// .. of all lower positions. A column's own sum waits for no other.
+// A sum of all lower positions. A column's own sum waits for no other.
 fn lower_sum(panel: &[f64], ncol: usize, nrow: usize) -> f64
     requires { ⌜ PanelPre nrow ncol (length (now panel)) ⌝ }
     ensures { λ r. ⌜ r ≡ sumFrom (columnSum (view nrow (now (panel .entry))) nrow) 0 ncol zeroF ⌝ }
@@ -207,9 +208,9 @@ fn lower_sum(panel: &[f64], ncol: usize, nrow: usize) -> f64
     s
 }
 
-// Whether the lower positions are known to be finite, by one pass over them: if their sum is, they are, since no sum loses an
-// infinity or a not-a-number (`sum-known` of proofs/Finite.antt). False says nothing of them: the sum of finite numbers can
-// overflow. Upper positions are not read.
+// Whether the lower positions are known to be finite, by one pass over them: if their sum is, they are, since no sum
+// loses an infinity or a not-a-number (`sum-known` of proofs/Finite.antt). False says nothing of them: the sum of finite
+// numbers can overflow.
 pub fn known_finite(panel: &[f64], ncol: usize, nrow: usize) -> bool
     requires { ⌜ PanelPre nrow ncol (length (now panel)) ⌝ }
     ensures { λ r. ⌜ r ≡ sumFinite (view nrow (now (panel .entry))) nrow ncol ⌝ }
@@ -268,8 +269,8 @@ fn first_by_columns(input: &[f64], ncol: usize, nrow: usize) -> Scan
     Scan::Clean
 }
 
-// The first number of the lower panel that is not finite, by column and then by row: refusal 6. One pass over its numbers
-// comes first: where they are known to be finite, there is none.
+// The first number of the lower panel that is not finite, by column and then by row: refusal 6. One pass over its
+// numbers comes first: where they are known to be finite, there is none.
 pub fn first_not_finite(input: &[f64], ncol: usize, nrow: usize) -> Scan
     requires { ⌜ PanelPre nrow ncol (length (now input)) ⌝ }
     ensures { λ r. ⌜ checkOf r ≡ columnsCheck (view nrow (now (input .entry))) nrow ncol 0 ⌝ }
@@ -304,7 +305,7 @@ fn mark_tail(marks: &mut [u8], panel: &[f64], ncol: usize, nrow: usize, j: usize
 }
 
 // The marks of the tail, by columns: 1 if a row holds a number not finite, else 0.
-// in: panel; finite, whether its lower positions, the tail among them, are known to be: then the zeros stay / out: marks
+// in: panel; finite, whether its lower positions are known to be, the tail among them: then zeros stay / out: marks
 // origin: src/numeric/ldlt/bunch_kaufman.rs, fn ll_cdiv_emit
 pub fn marks_of(panel: &[f64], marks: &mut [u8], ncol: usize, nrow: usize, finite: bool)
     requires { ⌜ MarksPre nrow ncol (length (now panel)) (length (now marks)) ⌝ }
