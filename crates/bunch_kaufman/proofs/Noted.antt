@@ -43,6 +43,15 @@ places-set xs i v h =
     (λ p. rw (p, eqb-true a i p) (getD-set-same xs i v i h))
     (λ p. rw p (getD-set-other xs i a v a (eqb-false a i p)))
 
+-- an exchange of a place with itself
+pub swapped-same : (f : ℕ → ℕ) (p q : ℕ) → p ≡ q → f ≡ swapped f p q
+unfolding swapped
+swapped-same f p q e =
+    fun-ext λ i. ap f
+    (test (eqb i p)
+    (λ y. rw y (eqb-true i p y ∙ e))
+    (λ y. rw y (test (eqb i q) (λ z. rw z (eqb-true i q z ∙ sym e)) (λ z. rw z))))
+
 -- two stores exchange two places, which may be one
 pub stores-swap : (f g h : ℕ → ℕ) (p q a b : ℕ) → a ≡ f p → b ≡ f q → g ≡ put f p b → h ≡ put g q a → h ≡ swapped f p q
 unfolding put swapped

@@ -70,11 +70,15 @@ fn stand_at(order: &mut [usize], e: Elim, row: LocalRow)
     order[at] = row.0;
 }
 
-// The exchange of position e and of the position where row kp of the panel stands. The two may be one.
+// The exchange of position e and of the position where row kp of the panel stands. Where the two are one, as they mostly
+// are, nothing is written: what reads the place next would wait for it.
 fn put_swap(order: &mut [usize], e: Elim, kp: LocalRow)
     requires { ⌜ ColumnsPre (e .0) (kp .0) (length (now order)) ⌝ }
     ensures { λ _. ⌜ places (now (order .exit)) ≡ swapped (places (now (order .entry))) (e .0) (kp .0) ⌝ }
 {
+    if e.0 == kp.0 {
+        return;
+    }
     let other = Elim(kp.0);
     let a = local_of(order, e);
     let b = local_of(order, other);
