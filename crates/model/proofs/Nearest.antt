@@ -97,14 +97,14 @@ abbrev pub Nearer : ℕ → ℕ → ℕ → Type 0
 Nearer n R j = (R < j → 4 * n < square (R + j)) × (j < R → square (R + j) < 4 * n)
 
 -- a number of 53 digits, with zeros after them
-record Digits53 (x : ℕ) : Type 0 where
+pub record Digits53 (x : ℕ) : Type 0 where
   pub digits : ℕ
   pub zeros : ℕ
   pub few : digits < 2 ^ 53
   pub is : x ≡ digits * 2 ^ zeros
 
 -- between c * 2 ^ k and (c + 1) * 2 ^ k there is no number of 53 digits, if c itself has 53 or k is 0
-gap : (c k m e : ℕ) → (0 < k → 2 ^ 52 ≤ c) → m < 2 ^ 53 → c * 2 ^ k < m * 2 ^ e → (c + 1) * 2 ^ k ≤ m * 2 ^ e
+pub gap : (c k m e : ℕ) → (0 < k → 2 ^ 52 ≤ c) → m < 2 ^ 53 → c * 2 ^ k < m * 2 ^ e → (c + 1) * 2 ^ k ≤ m * 2 ^ e
 gap c k m e long small h = ⊎-elim far near (le-or-lt k e)
   where
     far : k ≤ e → (c + 1) * 2 ^ k ≤ m * 2 ^ e
@@ -230,7 +230,7 @@ nearest-law a t d =
 
 -- ---- over the numbers of the format, in its smallest values, 2 ^ -1074
 
-pow-le-back : (a b : ℕ) → 2 ^ a ≤ 2 ^ b → a ≤ b
+pub pow-le-back : (a b : ℕ) → 2 ^ a ≤ 2 ^ b → a ≤ b
 pow-le-back a b h = le-of-suc-le-suc (lt-of-not-le (λ (g : suc b ≤ a). not-le-of-lt (pow-lt g) h))
 
 -- 2 ^ e is 2 ^ j of them
@@ -256,7 +256,7 @@ asked s m e f =
     )
 
 -- what is known of a where a finite number of the format is a of them
-record Held (a : ℕ) : Type 0 where
+pub record Held (a : ℕ) : Type 0 where
   pub digits : Digits53 a
   pub below : a < 2 ^ 2098
 
@@ -270,7 +270,7 @@ in-range a m u l t d hd hl e h =
 nought : (u l a d : ℕ) → 0 < d → 0 * u * l ≡ a * d → a ≡ 0
 nought u l a d h e = eq-of-mul-eq-mul-right d h a 0 (omega arith)
 
-held : (y : Float) (s : Bool) (a : ℕ) → T (fits binary64 y) → HasValue y s a (2 ^ 1074) → Held a
+pub held : (y : Float) (s : Bool) (a : ℕ) → T (fits binary64 y) → HasValue y s a (2 ^ 1074) → Held a
 held nan s a f v = absurd v
 held (inf t) s a f v = absurd v
 held (fin t zero e) s a f v =

@@ -1,5 +1,8 @@
--- Laws of the constants, of a pivot's numbers, of numbers that are not negative, of the first test without a root, of the ways through the choice.
+-- Laws of the constants, of a pivot's numbers, of numbers that are not negative, of the first test without a root, of the roots of squares, of the ways
+-- through the choice.
 pub mod Laws
 pub mod Units
 pub mod Reach
+pub mod Nearby
+pub mod Squares
 pub mod Ways

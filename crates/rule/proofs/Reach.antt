@@ -49,7 +49,7 @@ record Rooted (x : Float) : Type 0 where
 farther : (n j r : ℕ) → j < r → square (r + j) < 4 * n → n < j * j → ⊥
 farther n j r g h k = let a : square (2 * j) ≤ square (r + j) = square-le (omega arith) in omega arith
 
-same-units : (x : Float) (a b l : ℕ) → HasValue x false a l → HasValue x false b l → a ≡ b
+pub same-units : (x : Float) (a b l : ℕ) → HasValue x false a l → HasValue x false b l → a ≡ b
 same-units nan a b l p q = absurd p
 same-units (inf s) a b l p q = absurd p
 same-units (fin s m e) a b l p q = eq-of-mul-eq-mul-right (down e) (down-pos e) a b (sym (p .1) ∙ q .1)
@@ -57,11 +57,11 @@ same-units (fin s m e) a b l p q = eq-of-mul-eq-mul-right (down e) (down-pos e) 
 above-zero : (m u d : ℕ) → 0 < u → 0 * 1 * d < suc m * u * 1
 above-zero m u d U = omega (arith, mul-pos {m = suc m} (omega arith) U)
 
-zero-below : (m : ℕ) (e : ℤ) → lt zeroF (fin false (suc m) e) ≡ true
+pub zero-below : (m : ℕ) (e : ℤ) → lt zeroF (fin false (suc m) e) ≡ true
 unfolding lt ofBits
 zero-below m e = lt-ltb (0 * 1 * down e) (suc m * up e * 1) (above-zero m (up e) (down e) (up-pos e))
 
-finite-is : (m : ℕ) (e : ℤ) → isFinite (fin false m e) ≡ true
+pub finite-is : (m : ℕ) (e : ℤ) → isFinite (fin false m e) ≡ true
 unfolding isFinite
 finite-is m e = refl
 

@@ -8,11 +8,12 @@ use Rattle.model.specs.Scalar.{_⊗_, _⊘_, zeroF, magnitudeOf, squareOf, maxi
 use Rattle.model.specs.Root.{sqrtOf, alpha}
 use Rattle.model.specs.Matrix.{Row, Mat}
 use Rattle.model.specs.Choice as model
-use Rattle.model.specs.Choice.{greatest, noneYet, columnGreatest, rowGreatest, chooseOf}
+use Rattle.model.specs.Choice.{noneYet, columnGreatest, rowGreatest, chooseOf}
 use Rattle.model.proofs.Bounds.{Chosen, choose-in}
 use Rattle.grid.specs.Grid.{In}
-use Rattle.grid.proofs.Laws.{in-panel}
-use Rattle.scan.specs.Greatest.{found, ColumnPre}
+use Rattle.grid.proofs.Laws.{in-panel, col-in}
+use Rattle.scan.specs.Greatest.{found, Within, SquareOf, ColumnPre, AcrossPre}
+use Rattle.scan.proofs.Squares.{greatest-keeps}
 use Rattle.scan.specs.declared.Greatest.{Greatest}
 use Rattle.rule.specs.Answers.{chosenIs, byRow, ChosenWithin}
 use Rattle.rule.specs.Reach.{Reaches, ReachPre}
@@ -23,6 +24,23 @@ use Rattle.rule.proofs.Units.{ahead-unsigned, ahead-round}
 -- a diagonal of the panel is there to read
 pub diagonal-in : (n ncol k ke len i : ℕ) → ColumnPre n ncol k ke len → i < ke → In n i i len
 diagonal-in n ncol k ke len i p h = in-panel n ncol i i len (p .panel) (omega (arith, p .columns, p .rows)) (omega (arith, p .columns))
+
+-- so is a number of column k
+pub below-in : (n ncol k ke len i : ℕ) → ColumnPre n ncol k ke len → Within k ke i → In n i k len
+below-in n ncol k ke len i p h =
+    in-panel n ncol i k len (p .panel) (omega (arith, h .high, p .columns, p .rows)) (omega (arith, p .here, p .columns))
+
+-- and one of row and column r
+pub across-in : (n ncol k ke len r i : ℕ) → ColumnPre n ncol k ke len → Within k ke r → Within k ke i → AcrossPre n r i len
+across-in n ncol k ke len r i p h l = record {
+  row = omega (arith, h .high, p .columns, p .rows);
+  inside = omega (arith, l .high, p .columns, p .rows);
+  column = col-in n ncol r len (p .panel) (omega (arith, h .high, p .columns));
+}
+
+-- the number at the place of a greatest square, as read
+pub square-read : (s x y : Float) → SquareOf s y → x ≡ y → SquareOf s x
+square-read s x y h e = subst (λ (z : Float). SquareOf s z) (sym e) h
 
 -- a choice stands within the panel, a block's row below k
 pub chosen : (a : Mat) (k ke : ℕ) (c : Choice) → k < ke → chosenIs k c ≡ chooseOf a k ke → (chosenIs k c ≡ chooseOf a k ke) × ChosenWithin k ke c
@@ -43,22 +61,6 @@ square-unsigned (inf false) = refl
 square-unsigned (fin true m e) = ahead-unsigned _ (ahead-round (m * up e * (m * up e)) (down e * down e))
 square-unsigned (fin false m e) = ahead-unsigned _ (ahead-round (m * up e * (m * up e)) (down e * down e))
 
-greatest-unsigned : (f : Row) (lo n : ℕ) (best : model.Greatest) → magnitudeOf (best .square) ≡ best .square
-    → magnitudeOf (greatest f lo n best .square) ≡ greatest f lo n best .square
-unfolding greatest
-greatest-unsigned f lo zero best h = h
-greatest-unsigned f lo (suc n) best h = greatest-unsigned f (lo + 1) n (either (lt (best .square) s)) (go (lt (best .square) s))
-  where
-    s : Float
-    s = squareOf (f lo)
-
-    either : Bool → model.Greatest
-    either t = cond t (record { square = s; at = lo }) best
-
-    go : (t : Bool) → magnitudeOf (either t .square) ≡ either t .square
-    go true = square-unsigned (f lo)
-    go false = h
-
 zero-unsigned : magnitudeOf zeroF ≡ zeroF
 unfolding magnitudeOf ofBits
 zero-unsigned = refl
@@ -75,7 +77,8 @@ unsigned-both a k ke x own g eo eg = record {
   diagonal = subst (λ (y : Float). magnitudeOf y ≡ y) (sym eo) (magnitude-unsigned x);
   column =
       subst (λ (c : model.Greatest). magnitudeOf (c .square) ≡ c .square) (sym eg)
-      (greatest-unsigned (λ i. a i k) (k + 1) (ke - (k + 1)) (noneYet k) zero-unsigned);
+      (greatest-keeps (λ c. magnitudeOf (c .square) ≡ c .square) (λ i. a i k) (ke - (k + 1)) (k + 1) (noneYet k) zero-unsigned
+      (λ i l u. square-unsigned (a i k)));
 }
 
 pub way-reached : (a : Mat) (k ke : ℕ) (x own : Float) (g : Greatest) → x ≡ a k k → own ≡ magnitudeOf x → found g ≡ columnGreatest a k ke

@@ -4,11 +4,11 @@ ghost use mathlib.Core.Path.{_≡_};
 ghost use mathlib.Core.Bool.{true};
 ghost use lib.ListN.{length};
 ghost use Rattle.model.specs.Scalar.{_⊗_};
-ghost use Rattle.model.specs.Root.{alpha};
+ghost use Rattle.model.specs.Root.{sqrtOf, alpha};
 ghost use Rattle.model.specs.Matrix.{view};
 ghost use Rattle.model.specs.Choice.{chooseOf};
 ghost use Rattle.model.specs.Head.{settledOne, settledTwo, raisedFrom, scaleOf, growthFloorOf, barOf, liftStepOf};
-ghost use Rattle.scan.specs.Greatest.{ColumnPre, Within};
+ghost use Rattle.scan.specs.Greatest.{ColumnPre, Within, SquareOf};
 ghost use Rattle.rule.specs.Answers.{chosenIs, byRow, ChosenWithin, settledOneIs, settledTwoIs};
 ghost use Rattle.rule.specs.Reach.{Reaches, ReachPre};
 use model::Block;
@@ -61,6 +61,10 @@ impl PivotRule {
     // A little less than 1 / ALPHA. How much less only decides how often a root is spared.
     const LOW_INVERSE: f64 = 1.56155281280883;
 
+    // 2^-1000. From here on a square has all its digits, and so its root tells them back. How little it is only decides
+    // how often a root is spared.
+    const LEAST_SQUARE: f64 = 9.332636185032189e-302;
+
     // A block's determinant at or below this part of its scale squared counts as zero.
     pub const GROWTH_EPS: f64 = 1e-14;
 
@@ -79,6 +83,18 @@ impl PivotRule {
     {
         let low = own * PivotRule::LOW_INVERSE;
         (low * low > square) & (PivotRule::threshold(low) <= own)
+    }
+
+    // The root of a square that is 0, or x's: |x|, without the root, wherever the square is neither tiny nor infinite. That
+    // it was rounded moves its root by less than half of x's last digit.
+    fn root_of(square: f64, x: f64) -> f64
+        requires { ⌜ SquareOf square x ⌝ }
+        ensures { λ r. ⌜ r ≡ sqrtOf square ⌝ }
+    {
+        if (PivotRule::LEAST_SQUARE < square) & scalar::is_finite(square) {
+            return scalar::magnitude(x);
+        }
+        scalar::sqrt(square)
     }
 
     // The last two tests at k, where the diagonal's magnitude, own, has lost the first against colmax, the greatest of its
@@ -100,7 +116,7 @@ impl PivotRule {
             ≡ byRow (view nrow (now (panel .entry))) (k .0) ke own colmax (imax .0) ⌝ }
     {
         let row = scan::row_greatest(panel, nrow, ncol, k, ke, imax);
-        let rowmax = scalar::sqrt(row.square);
+        let rowmax = PivotRule::root_of(row.square, scan::across(panel, nrow, imax, row.at));
         if own >= PivotRule::threshold(colmax) * (colmax / rowmax) {
             return Choice::Single(LocalRow(k.0));
         }
@@ -125,7 +141,7 @@ impl PivotRule {
         if PivotRule::reaches(own, column.square) {
             return Choice::Single(LocalRow(k.0));
         }
-        let colmax = scalar::sqrt(column.square);
+        let colmax = PivotRule::root_of(column.square, grid::get(panel, nrow, column.at.0, k.0));
         if scalar::maximum(own, colmax) == 0.0 {
             return Choice::ZeroColumn;
         }

@@ -1,6 +1,7 @@
 -- Laws of the greatest square: one place more, the end, and the two scans that the choice of a pivot makes. Assumes nothing.
 use Prim.Native.Nat.{ℕ, zero, suc, _+_, _-_, _*_, _<_, _≤_}
-use mathlib.Core.Path.{_≡_, sym, _∙_, ap}
+use mathlib.Core.Path.{_≡_, refl, sym, _∙_, ap, subst}
+use mathlib.Core.Logic.{inl, inr}
 use mathlib.Core.List.{List}
 use native.Mathlib.Omega.{arith}
 use lib.ListN.{getD}
@@ -8,8 +9,10 @@ use lib.Ieee.{Float, nan, lt}
 use Rattle.model.specs.Scalar.{squareOf}
 use Rattle.model.specs.Matrix.{Row, Mat, view}
 use Rattle.model.specs.Choice.{Greatest, greatest, noneYet, columnGreatest, rowGreatest}
-use Rattle.grid.proofs.Laws.{test, view-at, col-in}
-use Rattle.scan.specs.Greatest.{better, greatestDown, greatestAlong, Within, DownPre, AlongPre, ColumnPre, RowPre}
+use borrow.Author.Tests.{lt-ltb, le-ltb}
+use Rattle.grid.specs.Grid.{In}
+use Rattle.grid.proofs.Laws.{test, view-at, col-in, in-col}
+use Rattle.scan.specs.Greatest.{better, greatestDown, greatestAlong, across, FoundIn, DownPre, AlongPre, ColumnPre, RowPre, AcrossPre}
 use Rattle.scan.proofs.Laws.{left, none}
 
 -- ---- the two directions: g is the best before place i, G the whole scan's
@@ -41,29 +44,58 @@ pub along-end : (a : Mat) (row hi i : ℕ) (g G : Greatest) → hi ≤ i → gre
 unfolding greatestAlong
 along-end a row hi i g G h p = sym (greatest-end (a row) hi i g h) ∙ p
 
--- the place: k, or one of the n places from lo on
-better-at : (g : Greatest) (s : Float) (i k e : ℕ) → Within k e (g .at) → Within k e i → Within k e (better g s i .at)
-unfolding better
-better-at g s i k e h l = test (lt (g .square) s) (λ p. rw p l) (λ p. rw p h)
+-- ---- what every square that is looked at keeps, the greatest keeps
 
-greatest-at : (f : Row) (n lo k e : ℕ) (g : Greatest) → Within k e (g .at) → k ≤ lo → lo + n ≤ e → Within k e (greatest f lo n g .at)
+better-keeps : (P : Greatest → Type 0) (g : Greatest) (s : Float) (i : ℕ) → P g → P (record { square = s; at = i }) → P (better g s i)
+unfolding better
+better-keeps P g s i h l = test (lt (g .square) s) (λ p. rw p l) (λ p. rw p h)
+
+pub greatest-keeps : (P : Greatest → Type 0) (f : Row) (n lo : ℕ) (g : Greatest) → P g
+    → ((i : ℕ) → lo ≤ i → i < lo + n → P (record { square = squareOf (f i); at = i })) → P (greatest f lo n g)
 unfolding greatest better
-greatest-at f zero lo k e g h l u = h
-greatest-at f (suc n) lo k e g h l u =
-    let s = squareOf (f lo) in
-    greatest-at f n (lo + 1) k e (better g s lo) (better-at g s lo k e h (record { low = l; high = omega arith })) (omega arith) (omega arith)
+greatest-keeps P f zero lo g h k = h
+greatest-keeps P f (suc n) lo g h k =
+    greatest-keeps P f n (lo + 1) (better g (squareOf (f lo)) lo) (better-keeps P g (squareOf (f lo)) lo h (k lo (omega arith) (omega arith)))
+    (λ i l u. k i (omega arith) (omega arith))
 
 -- ---- the pivot's column, and the row and column of the row that it names
+
+none-found : (k ke : ℕ) (x : Float) → k < ke → FoundIn k ke (noneYet k) x
+none-found k ke x h = record { place = record { low = omega arith; high = h }; of = inl refl }
 
 pub column-is : (a : Mat) (k ke : ℕ) (G : Greatest) → G ≡ greatestDown a k (k + 1) ke (noneYet k) → G ≡ columnGreatest a k ke
 unfolding greatestDown columnGreatest
 column-is a k ke G e = e
 
-pub column-at : (a : Mat) (k ke : ℕ) (v : Float) (x : ℕ) → k < ke → record { square = v; at = x } ≡ greatestDown a k (k + 1) ke (noneYet k) → Within k ke x
+pub column-found : (a : Mat) (k ke : ℕ) (v : Float) (x : ℕ) → k < ke → record { square = v; at = x } ≡ greatestDown a k (k + 1) ke (noneYet k)
+    → FoundIn k ke (record { square = v; at = x }) (a x k)
 unfolding greatestDown
-column-at a k ke v x h e =
-    rw (ap (λ (g : Greatest). g .at) e)
-    (greatest-at (λ i. a i k) (ke - (k + 1)) (k + 1) k ke (noneYet k) (record { low = omega arith; high = h }) (omega arith) (omega arith))
+column-found a k ke v x h e =
+    let P : Greatest → Type 0 = λ g. FoundIn k ke g (a (g .at) k) in
+    subst P (sym e)
+    (greatest-keeps P (λ i. a i k) (ke - (k + 1)) (k + 1) (noneYet k) (none-found k ke (a k k) h)
+    (λ i l u. record { place = record { low = omega arith; high = omega arith }; of = inr refl }))
+
+pub across-left : (a : Mat) (r i : ℕ) (x : Float) → i < r → x ≡ a r i → x ≡ across a r i
+unfolding across
+across-left a r i x h e = e ∙ rw (lt-ltb i r h)
+
+pub across-below : (a : Mat) (r i : ℕ) (x : Float) → r ≤ i → x ≡ a i r → x ≡ across a r i
+unfolding across
+across-below a r i x h e = e ∙ rw (le-ltb i r h)
+
+pub row-found : (a : Mat) (k ke r : ℕ) (F G : Greatest) → k ≤ r → r < ke → F ≡ greatestAlong a r k r (noneYet k) → G ≡ greatestDown a r (r + 1) ke F
+    → FoundIn k ke G (across a r (G .at))
+unfolding greatestDown greatestAlong
+row-found a k ke r F G h l e p =
+    let P : Greatest → Type 0 = λ g. FoundIn k ke g (across a r (g .at)) in
+    let left : P F =
+    subst P (sym e)
+    (greatest-keeps P (a r) (r - k) k (noneYet k) (none-found k ke (across a r k) (omega arith))
+    (λ i m u. record { place = record { low = m; high = omega arith }; of = inr (ap squareOf (across-left a r i (a r i) (omega arith) refl)) })) in
+    subst P (sym p)
+    (greatest-keeps P (λ i. a i r) (ke - (r + 1)) (r + 1) F left
+    (λ i m u. record { place = record { low = omega arith; high = omega arith }; of = inr (ap squareOf (across-below a r i (a i r) (omega arith) refl)) }))
 
 pub row-is : (a : Mat) (k ke r : ℕ) (F G : Greatest) → F ≡ greatestAlong a r k r (noneYet k) → G ≡ greatestDown a r (r + 1) ke F → G ≡ rowGreatest a k ke r
 unfolding greatestDown greatestAlong rowGreatest
@@ -76,6 +108,12 @@ column-down n c k ke len h = record { up = omega arith; rows = omega arith; ther
 
 pub row-along : (n c k ke r len : ℕ) → RowPre n c k ke r len → AlongPre n r k r len
 row-along n c k ke r len h = record { up = h .here; inside = omega arith; there = omega (arith, col-in n c r len (h .panel) (omega arith)) }
+
+pub across-row : (n r i len : ℕ) → AcrossPre n r i len → i < r → In n r i len
+across-row n r i len h l = in-col n r r i len (h .column) (h .row) (omega arith)
+
+pub across-column : (n r i len : ℕ) → AcrossPre n r i len → In n i r len
+across-column n r i len h = in-col n r i r len (h .column) (h .inside) (omega arith)
 
 pub row-down : (n c k ke r len : ℕ) → RowPre n c k ke r len → DownPre n r (r + 1) ke len
 row-down n c k ke r len h = record { up = omega arith; rows = omega arith; there = col-in n c r len (h .panel) (omega arith) }

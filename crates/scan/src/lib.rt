@@ -12,8 +12,8 @@ ghost use Rattle.model.specs.Factor.{columnsCheck};
 ghost use Rattle.scan.specs.Finite.{markedBy, finiteFrom, columnFinite, firstRow, checkOf};
 ghost use Rattle.scan.specs.Finite.{everySecond, longSum, sumOf, columnSum, sumFinite, KnownFinite, PanelPre};
 ghost use Rattle.scan.specs.Marks.{partMarked, marked, tailMarks, ColumnMarksPre, TailColumnPre, MarksPre};
-ghost use Rattle.scan.specs.Greatest.{found, better, greatestDown, greatestAlong};
-ghost use Rattle.scan.specs.Greatest.{DownPre, AlongPre, ColumnPre, RowPre, Within};
+ghost use Rattle.scan.specs.Greatest.{found, better, greatestDown, greatestAlong, across};
+ghost use Rattle.scan.specs.Greatest.{DownPre, AlongPre, ColumnPre, RowPre, AcrossPre, FoundIn};
 use model::Elim;
 use model::LocalRow;
 
@@ -80,7 +80,7 @@ fn greatest_along(
 pub fn column_greatest(panel: &[f64], nrow: usize, ncol: usize, k: Elim, ke: usize) -> Greatest
     requires { ⌜ ColumnPre nrow ncol (k .0) ke (length (now panel)) ⌝ }
     ensures { λ g. ⌜ found g ≡ columnGreatest (view nrow (now (panel .entry))) (k .0) ke ⌝ }
-    ensures { λ g. ⌜ Within (k .0) ke (g .at .0) ⌝ }
+    ensures { λ g. ⌜ FoundIn (k .0) ke (found g) (view nrow (now (panel .entry)) (g .at .0) (k .0)) ⌝ }
 {
     greatest_down(
         panel,
@@ -95,6 +95,17 @@ pub fn column_greatest(panel: &[f64], nrow: usize, ncol: usize, k: Elim, ke: usi
     )
 }
 
+// What row and column r hold at a place: left of the diagonal the row's number, below it the column's.
+pub fn across(panel: &[f64], nrow: usize, r: LocalRow, at: LocalRow) -> f64
+    requires { ⌜ AcrossPre nrow (r .0) (at .0) (length (now panel)) ⌝ }
+    ensures { λ x. ⌜ x ≡ across (view nrow (now (panel .entry))) (r .0) (at .0) ⌝ }
+{
+    if at.0 < r.0 {
+        return grid::get(panel, nrow, r.0, at.0);
+    }
+    grid::get(panel, nrow, at.0, r.0)
+}
+
 // The greatest square of row and column r from k to ke, its diagonal aside.
 // origin: src/numeric/ldlt/bunch_kaufman.rs, fn ll_bk_panel_step
 pub fn row_greatest(
@@ -107,6 +118,7 @@ pub fn row_greatest(
 ) -> Greatest
     requires { ⌜ RowPre nrow ncol (k .0) ke (r .0) (length (now panel)) ⌝ }
     ensures { λ g. ⌜ found g ≡ rowGreatest (view nrow (now (panel .entry))) (k .0) ke (r .0) ⌝ }
+    ensures { λ g. ⌜ FoundIn (k .0) ke (found g) (across (view nrow (now (panel .entry))) (r .0) (g .at .0)) ⌝ }
 {
     let none = Greatest {
         square: 0.0,

@@ -1,6 +1,6 @@
 -- `scan::column_greatest` meets its contract: its one call is the definition. Assumes nothing.
 use borrow.Author.Needs.{needs}
-use Rattle.scan.proofs.Squares.{column-down, column-is, column-at}
+use Rattle.scan.proofs.Squares.{column-down, column-is, column-found}
 use Rattle.scan.proofs.column_greatest.Statement.{statement}
 use Rattle.scan.proofs.column_greatest.Tie as tie
 
@@ -11,7 +11,7 @@ greatest-down-requires : tie.Need-greatest-down-requires
 greatest-down-requires c κs = search column-down
 
 returns : tie.Need-returns
-returns c = (search column-is, search column-at)
+returns c = (search column-is, column-found _ _ _ _ _ (search needs) (c .greatest-down .ensures))
 
 pub column-greatest-spec : {M : Type 1} → statement M
 column-greatest-spec = tie.close (tie.spec add-greatest-down greatest-down-requires returns)

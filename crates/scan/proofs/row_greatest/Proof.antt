@@ -1,6 +1,6 @@
 -- `scan::row_greatest` meets its contract: the row first, then the column on top of it. Assumes nothing.
 use borrow.Author.Needs.{needs}
-use Rattle.scan.proofs.Squares.{row-along, row-down, row-is}
+use Rattle.scan.proofs.Squares.{row-along, row-down, row-is, row-found}
 use Rattle.scan.proofs.row_greatest.Statement.{statement}
 use Rattle.scan.proofs.row_greatest.Tie as tie
 
@@ -14,7 +14,7 @@ greatest-down-requires : tie.Need-greatest-down-requires
 greatest-down-requires c κs = search row-down
 
 returns : tie.Need-returns
-returns c = search row-is
+returns c = (search row-is, search (needs, row-found))
 
 pub row-greatest-spec : {M : Type 1} → statement M
 row-greatest-spec =

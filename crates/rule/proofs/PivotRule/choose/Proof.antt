@@ -1,7 +1,7 @@
 -- `rule::PivotRule::choose` meets its contract: each return is one way through the tests. Assumes nothing.
 use borrow.Author.Needs.{needs}
 use Rattle.rule.specs.declared.Choice.the-variants.{ZeroColumn, Single}
-use Rattle.rule.proofs.Ways.{diagonal-in, chosen, unsigned-both, way-reached, way-zero, way-own, way-rest}
+use Rattle.rule.proofs.Ways.{diagonal-in, below-in, square-read, chosen, unsigned-both, way-reached, way-zero, way-own, way-rest}
 use Rattle.rule.proofs.PivotRule.choose.Statement.{statement}
 use Rattle.rule.proofs.PivotRule.choose.Tie as tie
 
@@ -20,8 +20,11 @@ reaches-requires c κs = search (needs, unsigned-both)
 returns : tie.Need-returns
 returns c = chosen _ _ _ (Single _) (search needs) (search (needs, way-reached, c .before .reaches .ensures (c .if1 .taken)))
 
-sqrt-requires : tie.Need-sqrt-requires
-sqrt-requires c κs = search needs
+get-requires-2 : tie.Need-get-requires-2
+get-requires-2 c κs = search (needs, below-in)
+
+root-of-requires : tie.Need-root-of-requires
+root-of-requires c κs = search (needs, square-read)
 
 maximum-requires : tie.Need-maximum-requires
 maximum-requires c κs = search needs
@@ -50,7 +53,8 @@ choose-spec =
     column-greatest-requires
     reaches-requires
     returns
-    sqrt-requires
+    get-requires-2
+    root-of-requires
     maximum-requires
     returns-2
     threshold-requires
