@@ -109,6 +109,9 @@ pub fn telling() -> Vec<Named> {
         fail("squares: 1e-170 is hidden, no exchange", 2, 2, &[&[1e-200, 1e-170], &[1.0]]),
         fail("squares: the first of two that overflow, 7 at 2", 3, 3, &[&[0.0, 1e160, 1e200], &[0.0, 0.0], &[0.0]]),
         fail("squares: the first of two that round alike", 3, 3, &[&[1e-163, 2.0e-162, 2.2e-162], &[1.0, 0.0], &[1.0]]),
+        fail("squares: one that lost digits, its root is above the number: order 1 0", 2, 2, &[&[1.35e-162, 2e-162], &[1.0]]),
+        fail("squares: one that lost digits, in row imax: a block, 9 at 0", 2, 2, &[&[0.0, 2e-162], &[1.35e-162]]),
+        fail("squares: one that is infinite, so is its root: a block, 9 at 0", 2, 2, &[&[1e156, 1e155], &[1.0]]),
         fail("zero multipliers skipped in the head: -0 stays", 3, 3, &[&[1.0, 0.0, -1.0], &[1.0, -0.0], &[5.0]]),
         fail("zero multipliers skipped in the tail: -0 stays", 3, 2, &[&[1.0, 0.0, -1.0], &[1.0, -0.0]]),
         fail(
