@@ -83,7 +83,7 @@ extern "C" {
  * (tests/stack.c). If memcpy and memset are looked up at their first use and not at the program's start, that takes up
  * to 4 KiB more, once.
  */
-#define MISUKTAAN_UPDATE_STACK 20480
+#define MISUKTAAN_UPDATE_STACK 12288
 #define MISUKTAAN_STACK 8192
 
 /*

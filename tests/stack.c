@@ -2,8 +2,8 @@
  * How much of the stack the calls take. Each call is made on a thread of its own, whose stack is a buffer with a
  * forbidden page below it, painted first: the lowest byte that changed tells how far down the call went, counted from
  * the frame that makes it. No call may go further than the header states, and each must work on a thread whose whole
- * stack is the least that the system allows, an update on one of twice as much. Prints what was measured, and
- * `N passed, 0 failed` last; exits 1 if a check failed.
+ * stack is the least that the system allows. Prints what was measured, and `N passed, 0 failed` last; exits 1 if a check
+ * failed.
  */
 #define _DEFAULT_SOURCE
 #include "misuktaan.h"
@@ -74,19 +74,19 @@ static struct job on_stack(struct misuktaan_outcome (*call)(void), size_t size)
     return job;
 }
 
-/* The call answers `number` and takes at most `most` bytes; it answers so, too, where the whole stack has `small`. */
-static void within(const char *what, struct misuktaan_outcome (*call)(void), size_t number, size_t most, size_t small)
+/* The call answers `number` and takes at most `most` bytes; it answers so, too, on the least stack that there is. */
+static void within(const char *what, struct misuktaan_outcome (*call)(void), size_t number, size_t most)
 {
     struct job job = on_stack(call, ROOMY);
     printf("%-44s %6zu bytes\n", what, job.used);
     check(job.outcome.number == number, what, "number");
     check(job.used <= most, what, "stack");
-    check(on_stack(call, small).outcome.number == number, what, "number on a small stack");
+    check(on_stack(call, PTHREAD_STACK_MIN).outcome.number == number, what, "number on a small stack");
 }
 
 static void measure(const char *what, struct misuktaan_outcome (*call)(void), size_t number)
 {
-    within(what, call, number, MISUKTAAN_STACK, PTHREAD_STACK_MIN);
+    within(what, call, number, MISUKTAAN_STACK);
 }
 
 /* ---- the factor call, of the largest shape */
@@ -245,7 +245,7 @@ static void measure_others(void)
         rows[i] = i;
     }
     memcpy(below, rows, sizeof below);
-    within("update 128 x 1024 by 128 x 1024", update, 0, MISUKTAAN_UPDATE_STACK, 2 * PTHREAD_STACK_MIN);
+    within("update 128 x 1024 by 128 x 1024", update, 0, MISUKTAAN_UPDATE_STACK);
 }
 
 int main(void)

@@ -127,6 +127,7 @@ module _ (t : Target) (k : Descendant) (len : ℕ) (w : ListsPre t k len) where
     descendant = w .descendant;
     begin = omega (arith, (rw (← e) at (first-is (landsAt (t .first) (t .ncol) (bytes (k .rows))) (length (k .rows)) 0)) .high);
     fits = omega (arith, w .sizes .all, w .sizes .descendant);
+    few = omega (arith, w .sizes .rows, w .sizes .target);
   }
 
   module _ (start : ℕ) (e : start ≡ firstFrom (landsAt (t .first) (t .ncol) (bytes (k .rows))) (length (k .rows)) 0) (places : List ℕ)

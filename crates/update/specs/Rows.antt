@@ -41,12 +41,13 @@ pub record ColumnsPre (ncol len : ℕ) : Type 0 where
   pub few : ncol < 2 ^ 32
   pub there : ncol ≤ len
 
--- two lists that rise, and a place for each row from `start` on
+-- two lists that rise, the first of few rows, and a place for each row from `start` on
 pub record LocatePre (rows krows : List ℕ) (start room : ℕ) : Type 0 where
   pub target : everyFrom (risesAt (bytes rows) (length rows)) (length rows) 0 ≡ true
   pub descendant : everyFrom (risesAt (bytes krows) (length krows)) (length krows) 0 ≡ true
   pub begin : start ≤ length krows
   pub fits : length krows ≤ room
+  pub few : length rows ≤ 1024
 
 -- `places` has, for rows lo up to hi of the descendant, where they stand among the target's
 pub record Located (rows krows : List ℕ) (lo hi : ℕ) (places : List ℕ) : Type 0 where

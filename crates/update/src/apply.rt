@@ -97,7 +97,7 @@ fn subtract(
     panel: &mut [f64],
     nrow: usize,
     column: Elim,
-    places: &[usize],
+    places: &[u16],
     acc: &[f64],
     nk: usize,
     lo: usize,
@@ -109,7 +109,13 @@ fn subtract(
 {
     let mut r = lo;
     while r < hi {
-        less_at(panel, nrow, LocalRow(places[r]), column, acc[nk + r]);
+        less_at(
+            panel,
+            nrow,
+            LocalRow(places[r] as usize),
+            column,
+            acc[nk + r],
+        );
         r += 1;
     }
 }
@@ -127,7 +133,7 @@ fn update_row(
     ksub: &[f64],
     kblocks: &[u8],
     krows: &[u32],
-    places: &[usize],
+    places: &[u16],
     c: usize,
     v: &mut [f64],
     acc: &mut [f64],
@@ -164,7 +170,7 @@ pub fn update_rows(
     ksub: &[f64],
     kblocks: &[u8],
     krows: &[u32],
-    places: &[usize],
+    places: &[u16],
     start: usize,
 )
     requires { ⌜ ApplyPre ncol nrow nk mk (now kblocks) (now places) start (length (now panel)) (length (now kpanel))

@@ -43,7 +43,7 @@ fn update_columns(
         (now (krows .entry))) (now (panel .entry)) ⌝ }
 {
     let start = rows::first_landing(first, ncol, krows);
-    let mut places = [0usize; ROWS_MAX];
+    let mut places = [0u16; ROWS_MAX];
     let located = rows::locate(rows, krows, start, &mut places);
     let Entry::Sound = located else {
         return assembly::answer(located);

@@ -121,7 +121,7 @@ fn local_row(rows: &[u32], from: LocalRow, g: GlobalRow) -> LocalRow
 
 // The place of each of the descendant's rows from `start` on among the target's; or refusal 17, at the first that has
 // none.
-pub fn locate(rows: &[u32], krows: &[u32], start: usize, places: &mut [usize]) -> Entry
+pub fn locate(rows: &[u32], krows: &[u32], start: usize, places: &mut [u16]) -> Entry
     requires { ⌜ LocatePre (now rows) (now krows) start (length (now places)) ⌝ }
     ensures { λ r. ⌜ entrySays r ≡ firstNot (thereAt (now (rows .entry)) (bytes (now (krows .entry)))) 17
         (length (now (krows .entry)) - start) start ⌝ }
@@ -136,7 +136,7 @@ pub fn locate(rows: &[u32], krows: &[u32], start: usize, places: &mut [usize]) -
         if p == rows.len() {
             return Entry::Refused(Refusal::AbsentRow(i));
         }
-        places[i] = p;
+        places[i] = p as u16;
         from = p + 1;
         i += 1;
     }

@@ -28,6 +28,14 @@ mul-t14 c = search needs
 shared-slice-read-t16 : tie.Need-shared-slice-read-t16 Inv-loop μ-loop
 shared-slice-read-t16 c = search needs
 
+cast-t17 : tie.Need-cast-t17 Inv-loop μ-loop
+unfolding bytes
+cast-t17 c =
+    let at = c .before .before in
+    let start : tie.Start Inv-loop μ-loop = search in
+    let row = start .pre .inside (at .before .loop .r) (at .before .loop .inv .0) (at .loop-test .taken) .row in
+    search (needs, row)
+
 add-less-at : tie.Need-add-less-at Inv-loop μ-loop
 add-less-at c = search needs
 
@@ -75,6 +83,7 @@ subtract-spec =
     loop-holds
     mul-t14
     shared-slice-read-t16
+    cast-t17
     add-less-at
     mul-less-at
     shared-slice-read-less-at

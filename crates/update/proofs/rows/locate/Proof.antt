@@ -55,6 +55,9 @@ returns c =
       λ e. absurd (let z : _≡_ {A = ℕ} 0 1 = cc in omega arith),
     )
 
+cast-places : tie.Need-cast-places Inv-loop μ-loop
+cast-places c = omega (arith, step c .next, entered c .pre .few)
+
 mul-places : tie.Need-mul-places Inv-loop μ-loop
 mul-places c = search needs
 
@@ -95,6 +98,7 @@ locate-spec =
     local-row-requires
     same-length
     returns
+    cast-places
     mul-places
     slice-write-places
     add-from
