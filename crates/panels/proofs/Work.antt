@@ -1,27 +1,23 @@
 -- One panel's turn: the working buffer's first part as the multipliers, the rows below, the later columns. Assumes nothing.
 use mathlib.Core.Path.{_≡_, refl, sym, _∙_, ap, subst, fun-ext}
-use mathlib.Core.Bool.{true, _&&_}
 use mathlib.Core.List.{List}
-use Prim.Native.Nat.{ℕ, _+_, _-_, _*_, _≤_, _<_, min}
+use Prim.Native.Nat.{ℕ, _+_, _-_, _*_, _≤_, min}
 use native.Mathlib.Omega.{arith}
 use native.Mathlib.Nat.{mul-le-mul-right, mul-le-mul-left, mul-comm}
-use borrow.Author.Tests.{lt-ltb, le-ltb, le-leb, leb-true, ltb-true}
+use borrow.Author.Tests.{le-ltb, leb-true}
 use borrow.Rule.Slice.PartMut.{midOf, putMid}
-use lib.Dec.{leb, ltb}
-use lib.ListN.{length, getD, take, drop}
-use lib.Seq.{length-take-le, take-at, getD-take}
-use lib.Ieee.{Float, nan}
-use Rattle.model.specs.Scalar.{zeroF}
-use Rattle.model.specs.Matrix.{Row, Mat, view, vec, bytes, within, withPart}
+use lib.Dec.{leb}
+use lib.ListN.{length, take, drop}
+use lib.Seq.{length-take-le, take-at}
+use lib.Ieee.{Float}
+use Rattle.model.specs.Matrix.{Row, Mat, view, vec, bytes, within}
 use Rattle.model.specs.Step.{Pivots, rowAfterSteps}
 use Rattle.model.specs.Panel.{timesD, rowDeferred}
 use Rattle.model.specs.Head.{State, going, panelOf, blank}
 use Rattle.model.specs.Factor.{workLength}
 use Rattle.model.specs.declared.Mode.{Mode}
 use Rattle.model.specs.declared.Refusal.{Refusal}
-use Rattle.model.proofs.Cases.{test, and-left, and-right}
-use Rattle.model.proofs.Tabulated.{off-lt}
-use Rattle.grid.specs.Rules.{zeroed}
+use Rattle.model.proofs.Cases.{test}
 use Rattle.whole.specs.Whole.{below, wholeClosed, deferredRows, wholePassed}
 use Rattle.eliminate.specs.Eliminate.{inPanel}
 use Rattle.tail.specs.Tail.{pivotsOf, TailPre, StepsPre}
@@ -48,27 +44,6 @@ back-is n xs ys l = take-at ys (drop (n - 0) xs) n l
 
 square-fits : (nrow nb len : ℕ) → workLength nrow nb ≤ len → nb * nb ≤ len
 square-fits nrow nb len h = omega arith
-
-zero-at : (n : ℕ) (xs ws : List Float) → vec ws ≡ withPart (vec xs) 0 n zeroed → (i : ℕ) → i < n → getD ws i nan ≡ zeroF
-unfolding vec withPart zeroed
-zero-at n xs ws e i h = ap (λ (f : Row). f i) e ∙ rw (le-leb 0 i (omega arith), lt-ltb i n h)
-
-in-square : (nb kb ke j : ℕ) → ke ≤ kb + nb → within kb ke j ≡ true → j - kb < nb
-in-square nb kb ke j w t = omega (arith, leb-true kb j (and-left (leb kb j) (ltb j ke) t), ltb-true j ke (and-right (leb kb j) (ltb j ke) t))
-
--- zeros hold no multiplier
-pub blank-is : (nb kb ke : ℕ) (xs ws : List Float) → ke ≤ kb + nb → vec ws ≡ withPart (vec xs) 0 (nb * nb) zeroed
-    → inPanel kb ke (view nb (midOf 0 (nb * nb - 0) ws)) ≡ blank
-unfolding inPanel view blank
-blank-is nb kb ke xs ws w e =
-    rw (part-is (nb * nb) ws) (fun-ext λ j. fun-ext λ c.
-    test (within kb ke j && within kb ke c)
-    (λ t. let a : j - kb < nb = in-square nb kb ke j w (and-left (within kb ke j) (within kb ke c) t) in
-    let b : c - kb < nb = in-square nb kb ke c w (and-right (within kb ke j) (within kb ke c) t) in
-    let at : ℕ = j - kb + (c - kb) * nb in
-    let o : at < nb * nb = off-lt nb nb (j - kb) (c - kb) a b in
-    rw (t, lt-ltb (j - kb) nb a) (getD-take (nb * nb) ws at nan o ∙ zero-at (nb * nb) xs ws e at o))
-    (λ t. rw t))
 
 pub square-room : (nrow ncol nb kb ke : ℕ) (mode : Mode) (limit len lenW : ℕ) (ws : List Float) → TurnPre nrow ncol nb kb ke mode limit len lenW
     → length ws ≡ lenW → nb * nb ≤ length ws
@@ -157,17 +132,17 @@ deferred-pre nrow ncol nb kb ke len lenW ld ls lb lp ws blocks partners a eb e s
 
 -- ---- the laws of the turn
 
+-- the steps on the part w of the working buffer that is lent
 pub steps-is : (mode : Mode) (limit nrow nb kb ke before : ℕ) (r : Ran)
-    (p p′ d d′ s s′ a a′ m m′ w : List Float) (b b′ l l′ o o′ q q′ : List ℕ)
-    → progress r ke (state nrow nb kb ke p′ m′ d′ s′ a′ b′ l′ o′ q′)
-    ≡ panelOf ke mode limit (ke - kb) kb (state nrow nb kb ke p m d s a b l o q before)
-    → w ≡ m′ → inPanel kb ke (view nb m) ≡ blank
-    → progress r ke (state nrow nb kb ke p′ w d′ s′ a′ b′ l′ o′ q′)
-    ≡ panelOf ke mode limit (ke - kb) kb (between nrow p d s a b l o q before)
-steps-is mode limit nrow nb kb ke before r p p′ d d′ s s′ a a′ m m′ w b b′ l l′ o o′ q q′ h ew eb =
-    ap (λ (x : List Float). progress r ke (state nrow nb kb ke p′ x d′ s′ a′ b′ l′ o′ q′)) ew ∙ h
-    ∙ ap (λ (x : Mat). panelOf ke mode limit (ke - kb) kb
-    (record { a = view nrow p; mult = x; pivots = pivots d s a b l o q; rounds = before })) eb
+    (p p′ d d′ s s′ a a′ w m w′ : List Float) (b b′ l l′ o o′ q q′ : List ℕ)
+    → progress r ke (state nrow nb kb ke p′ m d′ s′ a′ b′ l′ o′ q′)
+    ≡ panelOf ke mode limit (ke - kb) kb (state nrow nb kb ke p (midOf 0 (nb * nb - 0) w) d s a b l o q before)
+    → w′ ≡ m
+    → progress r ke (state nrow nb kb ke p′ w′ d′ s′ a′ b′ l′ o′ q′)
+    ≡ panelOf ke mode limit (ke - kb) kb (state nrow nb kb ke p (take (nb * nb) w) d s a b l o q before)
+steps-is mode limit nrow nb kb ke before r p p′ d d′ s s′ a a′ w m w′ b b′ l l′ o o′ q q′ h e =
+    ap (λ (x : List Float). progress r ke (state nrow nb kb ke p′ x d′ s′ a′ b′ l′ o′ q′)) e ∙ h
+    ∙ ap (λ (x : List Float). panelOf ke mode limit (ke - kb) kb (state nrow nb kb ke p x d s a b l o q before)) (part-is (nb * nb) w)
 
 pub rows-part : (nrow nb kb ke : ℕ) (p : Pivots) (a : Mat) (n : ℕ) (k : ℕ) (ws : List Float)
     → below ke nrow (rowAfterSteps p (inPanel kb ke (view nb (midOf 0 (nb * nb - 0) ws))) ke n k) a

@@ -31,7 +31,8 @@ fn panel_end(kb: usize, nb: usize, ncol: usize) -> usize
     ncol
 }
 
-// The panel's steps, with no multiplier kept before them. The working buffer begins with the multipliers.
+// The panel's steps. The working buffer begins with the multipliers: any may stand there before; those that the rows
+// below read are kept by these steps.
 fn steps(
     panel: &mut [f64],
     work: &mut [f64],
@@ -57,13 +58,13 @@ fn steps(
     requires { ⌜ NotedTo kb ke before (bytes (now blocks)) (bytes (now partners)) ⌝ }
     ensures { λ r. ⌜ progress r ke (state nrow nb kb ke (now (panel .exit)) (take (nb * nb) (now (work .exit)))
         (now (d .exit)) (now (sub .exit)) (now (amounts .exit)) (now (blocks .exit)) (now (lifts .exit))
-        (now (order .exit)) (now (partners .exit))) ≡ panelOf ke mode limit (ke - kb) kb (between nrow
-        (now (panel .entry)) (now (d .entry)) (now (sub .entry)) (now (amounts .entry)) (now (blocks .entry))
-        (now (lifts .entry)) (now (order .entry)) (now (partners .entry)) before) ⌝ }
+        (now (order .exit)) (now (partners .exit))) ≡ panelOf ke mode limit (ke - kb) kb (state nrow nb kb ke
+        (now (panel .entry)) (take (nb * nb) (now (work .entry))) (now (d .entry)) (now (sub .entry))
+        (now (amounts .entry)) (now (blocks .entry)) (now (lifts .entry)) (now (order .entry)) (now (partners .entry))
+        before) ⌝ }
     ensures { λ r. ⌜ RanTo kb ke r (bytes (now (blocks .exit))) (bytes (now (partners .exit))) ⌝ }
 {
     let square = nb * nb;
-    grid::columns::zero(work, 0, square);
     bunch_kaufman::ll_bk_panel_step(
         panel,
         &mut work[0..square],

@@ -6,11 +6,12 @@ use lib.ListN.{length, take}
 use lib.Ieee.{Float}
 use borrow.Author.Needs.{needs}
 use Rattle.model.specs.Matrix.{bytes}
-use Rattle.model.specs.Head.{State}
+use Rattle.model.specs.Head.{State, blank}
 use Rattle.tail.specs.Tail.{StepsPre}
 use Rattle.bunch_kaufman.specs.Slices.{state}
-use Rattle.panels.specs.Turn.{between}
+use Rattle.panels.specs.Turn.{between, turnOf}
 use Rattle.panels.specs.Run.{AfterPre}
+use Rattle.panels.proofs.Multipliers.{turn-any}
 use Rattle.panels.proofs.Work.{after-pre, steps-pre, turn-stopped, turn-done, leaves-done}
 use Rattle.panels.proofs.turn.Statement.{statement}
 use Rattle.panels.proofs.turn.Tie as tie
@@ -80,9 +81,16 @@ partners-left s = s .steps .last .1 .1 .1 .1 .1 .1 .1 .1 .0
 abbrev kept-part : tie.After-steps → List Float
 kept-part s = take (entry s .args .nb * entry s .args .nb) (work-left s)
 
--- the state at the entry
+-- the state at the entry, with the multipliers that happen to stand in the working buffer
 abbrev given : tie.Start → State
 given c =
+    let a = c .args in
+    state (a .nrow) (a .nb) (a .kb) (a .ke) (a .panel .now) (take (a .nb * a .nb) (a .work .now)) (a .d .now) (a .sub .now) (a .amounts .now)
+    (a .blocks .now) (a .lifts .now) (a .order .now) (a .partners .now) (a .before)
+
+-- the same with no multiplier
+abbrev cleared : tie.Start → State
+cleared c =
     let a = c .args in
     between (a .nrow) (a .panel .now) (a .d .now) (a .sub .now) (a .amounts .now) (a .blocks .now) (a .lifts .now) (a .order .now)
     (a .partners .now) (a .before)
@@ -118,6 +126,11 @@ noted : (g : tie.After-ran) → StepsPre (entry (stepped g) .args .kb) (entry (s
 noted g =
     let s = stepped g in
     steps-pre (entry s .args .kb) (entry s .args .ke) _ (s .steps .result) (bytes (blocks-left s)) (bytes (partners-left s)) (s .steps .ensures .1) (g .ran .given .1)
+
+-- those multipliers are not read
+forgotten : (c : tie.Start) → turnOf (c .args .mode) (c .args .limit) (c .args .nrow) (c .args .ncol) (c .args .kb) (c .args .ke) (given c)
+    ≡ turnOf (c .args .mode) (c .args .limit) (c .args .nrow) (c .args .ncol) (c .args .kb) (c .args .ke) (cleared c)
+forgotten c = turn-any (c .args .mode) (c .args .limit) (c .args .nrow) (c .args .ncol) (c .args .kb) (c .args .ke) (given c) blank
 
 -- ---- the needs
 
@@ -162,7 +175,8 @@ returns c =
     let s = refused c in
     let a = entry s .args in (
       turn-stopped (a .mode) (a .limit) (a .nrow) (a .ncol) (a .kb) (a .ke) (s .steps .result) _ (reached s) (shown s) (given (entry s))
-          (s .steps .ensures .0) (c .enum-told .given .1),
+          (s .steps .ensures .0) (c .enum-told .given .1)
+          ∙ forgotten (entry s),
       s .steps .ensures .1,
     )
 
@@ -216,7 +230,8 @@ returns-2 c =
       turn-done (a .mode) (a .limit) (a .nrow) (a .ncol) (a .nb) (a .kb) (a .ke) _ (s .steps .result) (s .steps .last .0)
           (r .rows-below .last .0) (l .later-columns .last .0) (d-left s) (sub-left s) (amounts-left s) (kept-part s) (blocks-left s)
           (lifts-left s) (order-left s) (partners-left s) (given (entry s)) (s .steps .ensures .0) told (r .rows-below .ensures)
-          (l .later-columns .ensures),
+          (l .later-columns .ensures)
+          ∙ forgotten (entry s),
       leaves-done (a .kb) (a .ke) _ (s .steps .result) (bytes (blocks-left s)) (bytes (partners-left s)) (s .steps .ensures .1) told,
     )
 
