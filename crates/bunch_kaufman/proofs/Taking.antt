@@ -1,4 +1,4 @@
--- Laws of one step: a 1x1, a block and a zero column in the model's words, the choice's cases, and what the answer keeps to. Assumes nothing.
+-- Laws of one step: a 1x1 and a block in the model's words, the choice's cases, what the mode makes of them, and what the answer keeps to. Assumes nothing.
 use Prim.Native.Nat.{ℕ, _+_, _<_, _≤_}
 use mathlib.Core.Path.{_≡_, refl, sym, _∙_, ap, subst}
 use mathlib.Core.Bool.{true, false}
@@ -26,7 +26,7 @@ use Rattle.rule.specs.declared.Choice.the-variants.{ZeroColumn, Single, Block}
 use Rattle.rule.specs.declared.OneSettled as one
 use Rattle.rule.specs.declared.TwoSettled as two
 use Rattle.bunch_kaufman.specs.Slices.{blockIn}
-use Rattle.bunch_kaufman.specs.Answers.{tried, singleOf, pairOf, zeroOf, ByColumn}
+use Rattle.bunch_kaufman.specs.Answers.{tried, byMode, singleOf, pairOf, ByColumn}
 use Rattle.bunch_kaufman.specs.Terms.{TakenIn, LimitPre, PanelPre, StepPre, PivotPre, BlockPre}
 use Rattle.bunch_kaufman.specs.declared.Taken.{Taken}
 use Rattle.bunch_kaufman.specs.declared.Taken.the-variants.{Refused, Took}
@@ -98,27 +98,56 @@ unfolding tried
 pair-took ke k p kp limit A M B B′ M′ mode b v amount lifted rounds S x e s z b′ m′ =
     rw (m′, b′, x) (pair-by ke k p kp limit A M B mode b S (two.the-variants.Numbers v lifted amount rounds) x e s z)
 
--- ---- a zero column
+-- ---- the choice C, and D, what the mode makes of it
 
-pub zero-stop : (ke : ℕ) (k : Elim) (A M B N : Mat) (mode : Mode) → mode ≡ Fail → tried (Refused (ZeroPivot k)) B N ≡ zeroOf ke A M mode (k .0)
-unfolding zeroOf tried
-zero-stop ke k A M B N mode e = rw e
+pub mode-fail : (mode : Mode) (k : Elim) (C : Choice) → C ≡ ZeroColumn → mode ≡ Fail → ZeroColumn ≡ byMode mode k C
+mode-fail mode k C z e = rw (e, z)
 
-pub zero-single : (ke k : ℕ) (A M : Mat) (mode : Mode) (floor : Float) (R : Tried) → mode ≡ Lift floor → R ≡ singleOf ke A M mode k k → R ≡ zeroOf ke A M mode k
-unfolding zeroOf singleOf
-zero-single ke k A M mode floor R e r = r ∙ rw e
+pub mode-lift : (mode : Mode) (floor : Float) (k : Elim) (C : Choice) → C ≡ ZeroColumn → mode ≡ Lift floor → Single (record { 0 = k .0 }) ≡ byMode mode k C
+mode-lift mode floor k C z e = rw (e, z)
 
--- ---- the choice, by its answer C
+pub mode-single : (mode : Mode) (k : Elim) (C : Choice) (kp : LocalRow) → C ≡ Single kp → Single kp ≡ byMode mode k C
+mode-single Fail k C kp z = sym z
+mode-single (Lift floor) k C kp z = rw z
 
-by-choice : (ke : ℕ) (A M : Mat) (mode : Mode) (limit k : ℕ) (C o : Choice) → chosenIs k C ≡ choice.chooseOf A k ke → C ≡ o
-    → tryBy ke A M mode limit k (chosenIs k o) ≡ tryOf ke A M mode limit k
+pub mode-block : (mode : Mode) (k : Elim) (C : Choice) (kp : LocalRow) → C ≡ Block kp → Block kp ≡ byMode mode k C
+mode-block Fail k C kp z = sym z
+mode-block (Lift floor) k C kp z = rw z
+
+-- the step is the same
+by-mode : (ke : ℕ) (A M : Mat) (mode : Mode) (limit : ℕ) (k : Elim) (C : Choice)
+    → tryBy ke A M mode limit (k .0) (chosenIs (k .0) (byMode mode k C)) ≡ tryBy ke A M mode limit (k .0) (chosenIs (k .0) C)
+by-mode ke A M Fail limit k C = refl
+by-mode ke A M (Lift floor) limit k ZeroColumn = refl
+by-mode ke A M (Lift floor) limit k (Single kp) = refl
+by-mode ke A M (Lift floor) limit k (Block kp) = refl
+
+-- and so is where it can stand
+pub within-mode : (ke : ℕ) (mode : Mode) (k : Elim) (C D : Choice) → k .0 < ke → ChosenWithin (k .0) ke C → D ≡ byMode mode k C → ChosenWithin (k .0) ke D
+within-mode ke mode k C D h w e = subst (ChosenWithin (k .0) ke) (sym e) (go mode C w)
+  where
+    go : (mode : Mode) (C : Choice) → ChosenWithin (k .0) ke C → ChosenWithin (k .0) ke (byMode mode k C)
+    go Fail C w = w
+    go (Lift floor) ZeroColumn w = record { low = omega arith; high = h }
+    go (Lift floor) (Single kp) w = w
+    go (Lift floor) (Block kp) w = w
+
+by-choice : (ke : ℕ) (A M : Mat) (mode : Mode) (limit : ℕ) (k : Elim) (C D o : Choice) → chosenIs (k .0) C ≡ choice.chooseOf A (k .0) ke → D ≡ byMode mode k C
+    → D ≡ o → tryBy ke A M mode limit (k .0) (chosenIs (k .0) o) ≡ tryOf ke A M mode limit (k .0)
 unfolding tryOf
-by-choice ke A M mode limit k C o c z = ap (tryBy ke A M mode limit k) (ap (chosenIs k) (sym z) ∙ c)
+by-choice ke A M mode limit k C D o c m z =
+    ap (λ (x : Choice). tryBy ke A M mode limit (k .0) (chosenIs (k .0) x)) (sym z ∙ m)
+    ∙ by-mode ke A M mode limit k C
+    ∙ ap (tryBy ke A M mode limit (k .0)) c
 
-zero-by : (ke : ℕ) (A M : Mat) (mode : Mode) (limit k : ℕ) → zeroOf ke A M mode k ≡ tryBy ke A M mode limit k choice.zeroColumn
-unfolding zeroOf
-zero-by ke A M Fail limit k = refl
-zero-by ke A M (Lift floor) limit k = refl
+-- a zero column is left in Fail alone
+zero-by : (ke : ℕ) (A M B N : Mat) (mode : Mode) (limit : ℕ) (k : Elim) (C : Choice) → byMode mode k C ≡ ZeroColumn
+    → tried (Refused (ZeroPivot k)) B N ≡ tryBy ke A M mode limit (k .0) choice.zeroColumn
+unfolding tried
+zero-by ke A M B N Fail limit k C e = refl
+zero-by ke A M B N (Lift floor) limit k ZeroColumn e = cc
+zero-by ke A M B N (Lift floor) limit k (Single kp) e = cc
+zero-by ke A M B N (Lift floor) limit k (Block kp) e = cc
 
 one-by : (ke : ℕ) (A M : Mat) (mode : Mode) (limit k kp : ℕ) → singleOf ke A M mode k kp ≡ tryBy ke A M mode limit k (choice.single kp)
 unfolding singleOf
@@ -175,20 +204,24 @@ pair-pre nrow ncol nb kb ke k kp len lenM C h z g =
       record { low = omega arith; high = omega (arith, w .low, w .high) },
     )
 
-pub step-zero : (ke : ℕ) (A M A′ M′ : Mat) (mode : Mode) (limit k : ℕ) (C : Choice) (T : Taken) → k < ke → LimitPre mode limit
-    → chosenIs k C ≡ choice.chooseOf A k ke → C ≡ ZeroColumn → tried T A′ M′ ≡ zeroOf ke A M mode k → ByColumn T
-    → (tried T A′ M′ ≡ tryOf ke A M mode limit k) × TakenIn ke k T
-step-zero ke A M A′ M′ mode limit k C T h l c z r b =
-    kept ke A M mode limit k T A′ M′ h l b (r ∙ zero-by ke A M mode limit k ∙ by-choice ke A M mode limit k C ZeroColumn c z)
+-- the choice at k, D by the mode and by its case o
+module _ (ke : ℕ) (A M A′ M′ : Mat) (mode : Mode) (limit : ℕ) (k : Elim) (C D : Choice) (h : k .0 < ke) (l : LimitPre mode limit)
+    (c : chosenIs (k .0) C ≡ choice.chooseOf A (k .0) ke) (m : D ≡ byMode mode k C) where
+  abbrev Stepped : Taken → Type 0
+  Stepped T = (tried T A′ M′ ≡ tryOf ke A M mode limit (k .0)) × TakenIn ke (k .0) T
 
-pub step-single : (ke : ℕ) (A M A′ M′ : Mat) (mode : Mode) (limit k : ℕ) (kp : LocalRow) (C : Choice) (T : Taken) → k < ke → LimitPre mode limit
-    → chosenIs k C ≡ choice.chooseOf A k ke → C ≡ Single kp → tried T A′ M′ ≡ singleOf ke A M mode k (kp .0) → ByColumn T
-    → (tried T A′ M′ ≡ tryOf ke A M mode limit k) × TakenIn ke k T
-step-single ke A M A′ M′ mode limit k kp C T h l c z r b =
-    kept ke A M mode limit k T A′ M′ h l b (r ∙ one-by ke A M mode limit k (kp .0) ∙ by-choice ke A M mode limit k C (Single kp) c z)
+  pub step-zero : D ≡ ZeroColumn → Stepped (Refused (ZeroPivot k))
+  step-zero z =
+      kept ke A M mode limit (k .0) (Refused (ZeroPivot k)) A′ M′ h l refl
+      (zero-by ke A M A′ M′ mode limit k C (sym m ∙ z) ∙ by-choice ke A M mode limit k C D ZeroColumn c m z)
 
-pub step-pair : (ke : ℕ) (A M A′ M′ : Mat) (mode : Mode) (limit k : ℕ) (kp : LocalRow) (C : Choice) (T : Taken) → k < ke → LimitPre mode limit
-    → chosenIs k C ≡ choice.chooseOf A k ke → C ≡ Block kp → tried T A′ M′ ≡ pairOf ke (exchanged k k ke A) M mode limit k k (kp .0) → ByColumn T
-    → (tried T A′ M′ ≡ tryOf ke A M mode limit k) × TakenIn ke k T
-step-pair ke A M A′ M′ mode limit k kp C T h l c z r b =
-    kept ke A M mode limit k T A′ M′ h l b (r ∙ two-by ke A M mode limit k k (kp .0) ∙ by-choice ke A M mode limit k C (Block kp) c z)
+  pub step-single : (kp : LocalRow) (T : Taken) → D ≡ Single kp → tried T A′ M′ ≡ singleOf ke A M mode (k .0) (kp .0) → ByColumn T → Stepped T
+  step-single kp T z r b =
+      kept ke A M mode limit (k .0) T A′ M′ h l b
+      (r ∙ one-by ke A M mode limit (k .0) (kp .0) ∙ by-choice ke A M mode limit k C D (Single kp) c m z)
+
+  pub step-pair : (kp : LocalRow) (T : Taken) → D ≡ Block kp → tried T A′ M′ ≡ pairOf ke (exchanged (k .0) (k .0) ke A) M mode limit (k .0) (k .0) (kp .0)
+      → ByColumn T → Stepped T
+  step-pair kp T z r b =
+      kept ke A M mode limit (k .0) T A′ M′ h l b
+      (r ∙ two-by ke A M mode limit (k .0) (k .0) (kp .0) ∙ by-choice ke A M mode limit k C D (Block kp) c m z)

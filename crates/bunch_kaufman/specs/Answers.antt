@@ -2,12 +2,15 @@
 use mathlib.Core.Path.{_≡_}
 use Prim.Native.Nat.{ℕ, _+_}
 use Rattle.model.specs.Matrix.{Mat, exchanged}
-use Rattle.model.specs.Choice.{zeroColumn}
-use Rattle.model.specs.Head.{State, settledOne, settledTwo, Tried, refusedAt, took, afterOne, afterTwo, tryBlock, tryBy, Progress, stopped, going}
+use Rattle.model.specs.Head.{State, settledOne, settledTwo, Tried, refusedAt, took, afterOne, afterTwo, tryBlock, Progress, stopped, going}
 use Rattle.model.specs.Answer.{Said, refused, accepted, turnedAway}
+use Rattle.model.specs.declared.Elim.{Elim}
 use Rattle.model.specs.declared.Mode.{Mode}
+use Rattle.model.specs.declared.Mode.the-variants.{Fail, Lift}
 use Rattle.model.specs.declared.Refusal.{Refusal}
 use Rattle.model.specs.declared.Report.{Report}
+use Rattle.rule.specs.declared.Choice.{Choice}
+use Rattle.rule.specs.declared.Choice.the-variants.{ZeroColumn, Single, Block}
 use Rattle.bunch_kaufman.specs.Slices.{blockIn}
 use Rattle.bunch_kaufman.specs.declared.Taken.{Taken}
 use Rattle.bunch_kaufman.specs.declared.Taken.the-variants.{Refused, Took}
@@ -37,6 +40,13 @@ ColumnOnly r = turnedAway {A = Report} r ≡ refused (numberOf r) (placeOf r) 0
 
 -- ---- the cases of a step
 
+-- what the mode makes of the choice at k: in Lift a zero column is a 1x1 from its own row
+abbrev pub byMode : Mode → Elim → Choice → Choice
+byMode Fail k c = c
+byMode (Lift floor) k ZeroColumn = Single (record { 0 = k .0 })
+byMode (Lift floor) k (Single kp) = Single kp
+byMode (Lift floor) k (Block kp) = Block kp
+
 -- a 1x1 at k, its number from row kp
 unfoldable pub singleOf : ℕ → Mat → Mat → Mode → ℕ → ℕ → Tried
 singleOf ke a m mode k kp = afterOne ke a m k kp (settledOne mode (a kp kp))
@@ -44,10 +54,6 @@ singleOf ke a m mode k kp = afterOne ke a m k kp (settledOne mode (a kp kp))
 -- a block at k and k + 1, with row kp exchanged for k + 1, after p was exchanged for k
 unfoldable pub pairOf : ℕ → Mat → Mat → Mode → ℕ → ℕ → ℕ → ℕ → Tried
 pairOf ke a m mode limit k p kp = tryBlock ke a m mode limit k p kp
-
--- a zero column, where the limit plays no part
-unfoldable pub zeroOf : ℕ → Mat → Mat → Mode → ℕ → Tried
-zeroOf ke a m mode k = tryBy ke a m mode 0 k zeroColumn
 
 -- ---- the answers
 

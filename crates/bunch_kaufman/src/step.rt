@@ -9,7 +9,7 @@ ghost use Rattle.scan.specs.Greatest.{Within};
 ghost use Rattle.model.specs.Head.{tryOf};
 ghost use Rattle.eliminate.specs.Eliminate.{inPanel};
 ghost use Rattle.bunch_kaufman.specs.Slices.{blockIn};
-ghost use Rattle.bunch_kaufman.specs.Answers.{tried, singleOf, pairOf, zeroOf, ByColumn};
+ghost use Rattle.bunch_kaufman.specs.Answers.{tried, byMode, singleOf, pairOf, ByColumn};
 ghost use Rattle.bunch_kaufman.specs.Terms.{StepPre, PivotPre, BlockPre, LimitPre, TakenIn};
 use super::Taken;
 use model::Block;
@@ -138,26 +138,17 @@ fn moved_pair(
     pair(panel, mult, nrow, ncol, nb, kb, ke, k, p, kp, mode, limit)
 }
 
-// A column that the column test finds zero: refused in Fail, a 1x1 from its own row in Lift.
-fn zero_column(
-    panel: &mut [f64],
-    mult: &mut [f64],
-    nrow: usize,
-    ncol: usize,
-    nb: usize,
-    kb: usize,
-    ke: usize,
-    k: Elim,
-    mode: Mode,
-) -> Taken
-    requires { ⌜ StepPre nrow ncol nb kb ke (k .0) (k .0) (length (now panel)) (length (now mult)) ⌝ }
-    ensures { λ r. ⌜ tried r (view nrow (now (panel .exit))) (inPanel kb ke (view nb (now (mult .exit))))
-        ≡ zeroOf ke (view nrow (now (panel .entry))) (inPanel kb ke (view nb (now (mult .entry)))) mode (k .0) ⌝ }
-    ensures { λ r. ⌜ ByColumn r ⌝ }
+// What the mode makes of the choice at k: in Lift a zero column is a 1x1 from its own row.
+fn by_mode(choice: Choice, mode: Mode, k: Elim) -> Choice
+    ensures { λ r. ⌜ r ≡ byMode mode k choice ⌝ }
 {
-    match mode {
-        Mode::Fail => Taken::Refused(Refusal::ZeroPivot(k)),
-        Mode::Lift(_) => single(panel, mult, nrow, ncol, nb, kb, ke, k, LocalRow(k.0), mode),
+    match choice {
+        Choice::ZeroColumn => match mode {
+            Mode::Fail => Choice::ZeroColumn,
+            Mode::Lift(_) => Choice::Single(LocalRow(k.0)),
+        },
+        Choice::Single(kp) => Choice::Single(kp),
+        Choice::Block(kp) => Choice::Block(kp),
     }
 }
 
@@ -180,9 +171,9 @@ pub fn step(
         ≡ tryOf ke (view nrow (now (panel .entry))) (inPanel kb ke (view nb (now (mult .entry)))) mode limit (k .0) ⌝ }
     ensures { λ r. ⌜ TakenIn ke (k .0) r ⌝ }
 {
-    let choice = PivotRule::choose(panel, nrow, ncol, k, ke);
+    let choice = by_mode(PivotRule::choose(panel, nrow, ncol, k, ke), mode, k);
     match choice {
-        Choice::ZeroColumn => zero_column(panel, mult, nrow, ncol, nb, kb, ke, k, mode),
+        Choice::ZeroColumn => Taken::Refused(Refusal::ZeroPivot(k)),
         Choice::Single(kp) => single(panel, mult, nrow, ncol, nb, kb, ke, k, kp, mode),
         Choice::Block(kp) => {
             let own = LocalRow(k.0);
