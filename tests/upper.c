@@ -1,12 +1,14 @@
 /*
- * Upper positions (row < column) of a factor call's input are copied and never read as numbers. No contract can say
- * what is not read, so two runs of this program do.
+ * Upper positions (row < column) of a factor call's input are copied and never read as numbers, and what the working
+ * buffer holds on entry is not read as a number either. No contract can say what is not read, so two runs of this
+ * program do.
  *
- *   upper             Each call is made with zeros in the upper positions, and then with signalling not-a-numbers,
- *                     infinities and the greatest numbers: the floating-point flags, the answer and every output come
- *                     out the same, and after acceptance the upper positions come back bit for bit.
- *   upper untouched   Each call is made with upper positions that nothing was written to. Under valgrind no decision
- *                     may rest on them.
+ *   upper             Each call is made with zeros in the upper positions and the working buffer, and then with
+ *                     signalling not-a-numbers, infinities and the greatest numbers: the floating-point flags, the
+ *                     answer and every output come out the same, and after acceptance the upper positions come back bit
+ *                     for bit.
+ *   upper untouched   Each call is made with upper positions and buffers that nothing was written to. Under valgrind no
+ *                     decision may rest on them.
  *   upper read        A decision on such a position, which valgrind must report: else the run before tells nothing.
  *
  * Prints `N passed, 0 failed`; exits 1 if a check failed.
@@ -208,7 +210,7 @@ static void make(const struct call *c, struct made *m)
     m->flags = fetestexcept(FE_ALL_EXCEPT);
 }
 
-/* ---- what the upper positions hold */
+/* ---- what the upper positions and the working buffer hold */
 
 enum { ZEROS, SIGNALLING, INFINITE, GREATEST, FILLS };
 
@@ -237,6 +239,16 @@ static void fill_upper(const struct call *c, struct made *m, int fill)
             const uint64_t u = bits(fill, i + j * c->nrow);
             memcpy(m->input + i + j * c->nrow, &u, sizeof u);
         }
+    }
+}
+
+/* The same for the working buffer, unless the call is refused with 6 and leaves it as it is. */
+static void fill_work(const struct call *c, struct made *m, int fill)
+{
+    double *work = m->at[WORK];
+    for (size_t i = 0; c->number != 6 && i < m->len[WORK]; i++) {
+        const uint64_t u = bits(fill, i);
+        memcpy(work + i, &u, sizeof u);
     }
 }
 
@@ -318,6 +330,7 @@ static struct made made_with(const struct call *c, int fill)
     for (int b = 0; b < BUFFERS; b++) {
         memset(m.at[b], 0x5A, m.len[b] * width[b]);
     }
+    fill_work(c, &m, fill);
     make(c, &m);
     return m;
 }
