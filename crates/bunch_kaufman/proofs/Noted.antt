@@ -82,14 +82,18 @@ both-by f g k e x y x′ y′ a b h = h ∙ rw (a, b)
 pub byte-by : (f g : ℕ → ℕ) (k e x x′ : ℕ) → x ≡ x′ → g ≡ put (put f e 0) k x → g ≡ put (put f e 0) k x′
 byte-by f g k e x x′ a h = h ∙ rw a
 
-pub noted-is : (s : Pivots) (d′ sub′ am′ : Row) (bl′ li′ or′ pa′ : ℕ → ℕ) (k e : ℕ) (v : Pivot)
-    → d′ ≡ put (put (s .d) e (lastNumber (v .diagonal))) k (firstNumber (v .diagonal))
-    → sub′ ≡ put (put (s .sub) e zeroF) k (underNumber (v .diagonal))
-    → am′ ≡ put (put (s .amounts) e (v .amount)) k (v .amount)
-    → bl′ ≡ put (put (s .blocks) e 0) k (byteOf (isBlock (v .diagonal)))
-    → li′ ≡ put (put (s .lifts) e (v .lifted)) k (v .lifted)
-    → or′ ≡ swapped (swapped (s .order) k (v .p .0)) e (v .kp .0)
+pub noted-is : (s : Pivots) (d′ sub′ : Row) (bl′ pa′ li′ : ℕ → ℕ) (am′ : Row) (or′ : ℕ → ℕ) (k e : ℕ) (v : Pivot)
+    → d′ ≡ put (put (s .diagonals .d) e (lastNumber (v .diagonal))) k (firstNumber (v .diagonal))
+    → sub′ ≡ put (put (s .diagonals .sub) e zeroF) k (underNumber (v .diagonal))
+    → bl′ ≡ put (put (s .diagonals .blocks) e 0) k (byteOf (isBlock (v .diagonal)))
     → pa′ ≡ put (put (s .partners) e (v .p .0)) k (v .kp .0)
-    → record { d = d′; sub = sub′; amounts = am′; blocks = bl′; lifts = li′; order = or′; partners = pa′ } ≡ noted s k e v
+    → li′ ≡ put (put (s .notes .lifts) e (v .lifted)) k (v .lifted)
+    → am′ ≡ put (put (s .notes .amounts) e (v .amount)) k (v .amount)
+    → or′ ≡ swapped (swapped (s .notes .order) k (v .p .0)) e (v .kp .0)
+    → record {
+      diagonals = record { d = d′; sub = sub′; blocks = bl′ };
+      partners = pa′;
+      notes = record { lifts = li′; amounts = am′; order = or′ };
+    } ≡ noted s k e v
 unfolding noted
-noted-is s d′ sub′ am′ bl′ li′ or′ pa′ k e v h1 h2 h3 h4 h5 h6 h7 = rw (h1, h2, h3, h4, h5, h6, h7)
+noted-is s d′ sub′ bl′ pa′ li′ am′ or′ k e v h1 h2 h3 h4 h5 h6 h7 = rw (h1, h2, h3, h4, h5, h6, h7)

@@ -18,7 +18,7 @@ use Rattle.model.specs.declared.Refusal.{Refusal}
 use Rattle.model.proofs.Bounds.{GoodPivot}
 use Rattle.model.proofs.Recorded.{last-from as last-ge, Reached, panel-reached, noted-recorded, noted-starts, end-starts}
 use Rattle.grid.proofs.Laws.{test}
-use Rattle.whole.proofs.Steps.{Went, Inside, panel-inside}
+use Rattle.whole.proofs.Steps.{Went, PivotsInside, panel-inside}
 use Rattle.bunch_kaufman.specs.Answers.{tried, progress, endedBy}
 use Rattle.bunch_kaufman.specs.Terms.{PivotIn, TakenIn, NotedTo, PanelNoted, RanTo, PanelPre, StepPre, NotesPre, NotePre}
 use Rattle.bunch_kaufman.specs.declared.Taken.{Taken}
@@ -93,10 +93,10 @@ step-pre nrow ncol nb kb ke k len₀ lenM₀ len lenM h p q l m = record { sizes
 took-in : (ke k : ℕ) (T : Taken) (v : Pivot) → TakenIn ke k T → T ≡ Took v → PivotIn ke k v
 took-in ke k T v g e = subst (λ (u : Taken). TakenIn ke k u) e g
 
-pub note-pre : {ke k e ld ls la lb ll lo lp ld₀ ls₀ la₀ lb₀ ll₀ lo₀ lp₀ : ℕ} {T : Taken} {v : Pivot}
-    → TakenIn ke k T → T ≡ Took v → e ≡ lastOf k (isBlock (v .diagonal)) → NotesPre ke ld₀ ls₀ la₀ lb₀ ll₀ lo₀ lp₀
-    → ld ≡ ld₀ → ls ≡ ls₀ → la ≡ la₀ → lb ≡ lb₀ → ll ≡ ll₀ → lo ≡ lo₀ → lp ≡ lp₀
-    → NotePre k e (v .p .0) (v .kp .0) ld ls la lb ll lo lp
+pub note-pre : {ke k e ld ls lb lp ll la lo ld₀ ls₀ lb₀ lp₀ ll₀ la₀ lo₀ : ℕ} {T : Taken} {v : Pivot}
+    → TakenIn ke k T → T ≡ Took v → e ≡ lastOf k (isBlock (v .diagonal)) → NotesPre ke ld₀ ls₀ lb₀ lp₀ ll₀ la₀ lo₀
+    → ld ≡ ld₀ → ls ≡ ls₀ → lb ≡ lb₀ → lp ≡ lp₀ → ll ≡ ll₀ → la ≡ la₀ → lo ≡ lo₀
+    → NotePre k e (v .p .0) (v .kp .0) ld ls lb lp ll la lo
 note-pre {ke} {k} {T = T} {v = v} g z l h e1 e2 e3 e4 e5 e6 e7 =
     let w = took-in ke k T v g z in
     let m = last-ge k (isBlock (v .diagonal)) in
@@ -106,11 +106,11 @@ note-pre {ke} {k} {T = T} {v = v} g z l h e1 e2 e3 e4 e5 e6 e7 =
       from = omega arith;
       d = omega (arith, h .d);
       sub = omega (arith, h .sub);
-      amounts = omega (arith, h .amounts);
       blocks = omega (arith, h .blocks);
-      lifts = omega (arith, h .lifts);
-      order = omega (arith, h .order);
       partners = omega (arith, h .partners);
+      lifts = omega (arith, h .lifts);
+      amounts = omega (arith, h .amounts);
+      order = omega (arith, h .order);
       row = omega (arith, h .order);
       first = omega (arith, h .order, w .first);
     }
@@ -138,8 +138,8 @@ next-few ke k e r T v g z l h = omega (arith, took-in ke k T v g z .few, last-ge
 -- at column k of the panel that begins at kb
 record From (kb k : ℕ) (p : Pivots) : Type 0 where
   at : kb ≤ k
-  recorded : Recorded k (p .blocks) (p .partners)
-  start : Starts (p .blocks) kb
+  recorded : Recorded k (p .diagonals .blocks) (p .partners)
+  start : Starts (p .diagonals .blocks) kb
 
 from-step : (kb ke limit k : ℕ) (p : Pivots) (v : Pivot) → GoodPivot ke limit k v → From kb k p
     → From kb (lastOf k (isBlock (v .diagonal)) + 1) (noted p k (lastOf k (isBlock (v .diagonal))) v)
@@ -154,14 +154,14 @@ pub notes-stop : (kb ke k : ℕ) (T : Taken) (r : Refusal) (A : Ran) (f g : ℕ 
 notes-stop kb ke k T r A f g h z w = rw (w, z) (subst (λ (u : Taken). TakenIn ke k u) z h)
 
 -- the notes of the state u after a panel's steps from s
-pub notes-end : (ke : ℕ) (mode : Mode) (limit kb k before : ℕ) (s u : State) → NotedTo kb ke before (s .pivots .blocks) (s .pivots .partners) → kb ≤ ke
+pub notes-end : (ke : ℕ) (mode : Mode) (limit kb k before : ℕ) (s u : State) → NotedTo kb ke before (s .pivots .diagonals .blocks) (s .pivots .partners) → kb ≤ ke
     → panelOf ke mode limit (ke - k) k u ≡ panelOf ke mode limit (ke - kb) kb s → ke ≤ k → k ≤ ke → u .rounds ≤ 64 * k
-    → PanelNoted kb ke (u .rounds) (u .pivots .blocks) (u .pivots .partners)
+    → PanelNoted kb ke (u .rounds) (u .pivots .diagonals .blocks) (u .pivots .partners)
 unfolding panelOf
 notes-end ke mode limit kb k before s u h a e l m r =
     let q : ke - k ≡ 0 = omega arith in
     let f = sym (rw q at e) in
-    let w = subst (Went (λ t. Inside ke (t .pivots))) f
+    let w = subst (Went (λ t. PivotsInside ke (t .pivots))) f
     (panel-inside ke mode limit (ke - kb) kb s (record { partner = h .partner; pair = h .pair })) in
     let v = subst (Reached (From kb) ke) f (panel-reached ke mode limit (From kb) (from-step kb ke limit) (ke - kb) kb s a (omega arith)
     (record { at = omega arith; recorded = h .recorded; start = end-starts kb _ _ (h .recorded) })) in

@@ -80,14 +80,14 @@ pub record BlockPre (nrow ncol k len : ℕ) : Type 0 where
   pub last : k + 1 < ncol
 
 -- the columns before ke are there in each buffer of the notes
-pub record NotesPre (ke ld ls la lb ll lo lp : ℕ) : Type 0 where
+pub record NotesPre (ke ld ls lb lp ll la lo : ℕ) : Type 0 where
   pub d : ke ≤ ld
   pub sub : ke ≤ ls
-  pub amounts : ke ≤ la
   pub blocks : ke ≤ lb
-  pub lifts : ke ≤ ll
-  pub order : ke ≤ lo
   pub partners : ke ≤ lp
+  pub lifts : ke ≤ ll
+  pub amounts : ke ≤ la
+  pub order : ke ≤ lo
 
 -- two columns, or a column and a row, are there in a buffer
 pub record ColumnsPre (k e len : ℕ) : Type 0 where
@@ -101,11 +101,11 @@ pub record DiagonalPre (k e ld ls lb : ℕ) : Type 0 where
   pub sub : e < ls
   pub blocks : e < lb
 
--- in amounts and lift bytes
-pub record LiftPre (k e la ll : ℕ) : Type 0 where
+-- in lift bytes and amounts
+pub record LiftPre (k e ll la : ℕ) : Type 0 where
   pub from : k ≤ e
-  pub amounts : e < la
   pub lifts : e < ll
+  pub amounts : e < la
 
 -- columns k to e and rows p and kp are there in the order, the columns in the partners
 pub record ExchangesPre (k e p kp lo lp : ℕ) : Type 0 where
@@ -116,14 +116,14 @@ pub record ExchangesPre (k e p kp lo lp : ℕ) : Type 0 where
   pub partners : e < lp
 
 -- and so are a pivot's columns k to e, and its rows p and kp
-pub record NotePre (k e p kp ld ls la lb ll lo lp : ℕ) : Type 0 where
+pub record NotePre (k e p kp ld ls lb lp ll la lo : ℕ) : Type 0 where
   pub from : k ≤ e
   pub d : e < ld
   pub sub : e < ls
-  pub amounts : e < la
   pub blocks : e < lb
-  pub lifts : e < ll
-  pub order : e < lo
   pub partners : e < lp
+  pub lifts : e < ll
+  pub amounts : e < la
+  pub order : e < lo
   pub row : kp < lo
   pub first : p < lo

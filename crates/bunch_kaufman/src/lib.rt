@@ -5,11 +5,13 @@ ghost use mathlib.Core.Path.{_≡_};
 ghost use Prim.Native.Nat.{_-_};
 ghost use lib.ListN.{length};
 ghost use Rattle.model.specs.Matrix.{bytes};
+ghost use Rattle.model.specs.Step.{pivotsOf};
 ghost use Rattle.model.specs.Head.{panelOf};
 ghost use Rattle.bunch_kaufman.specs.Slices.{state};
 ghost use Rattle.bunch_kaufman.specs.Answers.{progress, endedBy};
 ghost use Rattle.bunch_kaufman.specs.Terms.{PanelPre, NotesPre, LimitPre, NotedTo, RanTo};
 use model::Elim;
+use model::Frame;
 use model::Mode;
 use model::Pivot;
 use model::Refusal;
@@ -41,54 +43,61 @@ fn ended(t: Taken) -> Ran
 
 // The steps of columns kb to ke, a refusal ending them.
 // in: before, the rounds of the columns before kb / in and out: panel, nrow·ncol numbers; mult, the multipliers of this
-// panel, nb·nb numbers; d, sub, amounts, blocks, lifts, order and partners, the notes by column
+// panel, nb·nb numbers; the record of pivots by column: D in d, sub and blocks; partners; the notes in the others
 // origin: src/numeric/ldlt/bunch_kaufman.rs, fn ll_bk_panel_step
 pub fn ll_bk_panel_step(
     panel: &mut [f64],
     mult: &mut [f64],
     d: &mut [f64],
     sub: &mut [f64],
-    amounts: &mut [f64],
     blocks: &mut [u8],
-    lifts: &mut [u8],
-    order: &mut [usize],
     partners: &mut [usize],
-    nrow: usize,
-    ncol: usize,
-    nb: usize,
-    kb: usize,
-    ke: usize,
+    lifts: &mut [u8],
+    amounts: &mut [f64],
+    order: &mut [usize],
+    at: Frame,
     mode: Mode,
     limit: usize,
     before: usize,
 ) -> Ran
-    requires { ⌜ PanelPre nrow ncol nb kb ke (length (now panel)) (length (now mult)) ⌝ }
-    requires { ⌜ NotesPre ke (length (now d)) (length (now sub)) (length (now amounts)) (length (now blocks))
-        (length (now lifts)) (length (now order)) (length (now partners)) ⌝ }
+    requires { ⌜ PanelPre (at .nrow) (at .ncol) (at .nb) (at .kb) (at .ke) (length (now panel)) (length (now mult)) ⌝ }
+    requires { ⌜ NotesPre (at .ke) (length (now d)) (length (now sub)) (length (now blocks)) (length (now partners))
+        (length (now lifts)) (length (now amounts)) (length (now order)) ⌝ }
     requires { ⌜ LimitPre mode limit ⌝ }
-    requires { ⌜ NotedTo kb ke before (bytes (now blocks)) (bytes (now partners)) ⌝ }
-    ensures { λ r. ⌜ progress r ke
-        (state nrow nb kb ke (now (panel .exit)) (now (mult .exit)) (now (d .exit)) (now (sub .exit))
-        (now (amounts .exit)) (now (blocks .exit)) (now (lifts .exit)) (now (order .exit)) (now (partners .exit)))
-        ≡ panelOf ke mode limit (ke - kb) kb
-        (state nrow nb kb ke (now (panel .entry)) (now (mult .entry)) (now (d .entry)) (now (sub .entry))
-        (now (amounts .entry)) (now (blocks .entry)) (now (lifts .entry)) (now (order .entry)) (now (partners .entry))
-        before) ⌝ }
-    ensures { λ r. ⌜ RanTo kb ke r (bytes (now (blocks .exit))) (bytes (now (partners .exit))) ⌝ }
+    requires { ⌜ NotedTo (at .kb) (at .ke) before (bytes (now blocks)) (bytes (now partners)) ⌝ }
+    ensures { λ r. ⌜ progress r (at .ke) (state at (now (panel .exit)) (now (mult .exit))
+        (pivotsOf (now (d .exit)) (now (sub .exit)) (now (blocks .exit)) (now (partners .exit)) (now (lifts .exit))
+        (now (amounts .exit)) (now (order .exit))))
+        ≡ panelOf (at .ke) mode limit (at .ke - at .kb) (at .kb) (state at (now (panel .entry)) (now (mult .entry))
+        (pivotsOf (now (d .entry)) (now (sub .entry)) (now (blocks .entry)) (now (partners .entry))
+        (now (lifts .entry)) (now (amounts .entry)) (now (order .entry))) before) ⌝ }
+    ensures { λ r. ⌜ RanTo (at .kb) (at .ke) r (bytes (now (blocks .exit))) (bytes (now (partners .exit))) ⌝ }
 {
-    let mut k = kb;
+    let ke = at.ke;
+    let mut k = at.kb;
     let mut rounds = before;
     while k < ke {
-        let at = Elim(k);
-        let taken = step::step(panel, mult, nrow, ncol, nb, kb, ke, at, mode, limit);
+        let here = Elim(k);
+        let taken = step::step(
+            panel,
+            mult,
+            at.nrow,
+            at.ncol,
+            at.nb,
+            at.kb,
+            ke,
+            here,
+            mode,
+            limit,
+        );
         let Taken::Took(v) = taken else {
             return ended(taken);
         };
         let x = v.diagonal;
-        let e = record::last_column(at, x);
+        let e = record::last_column(here, x);
         let next = e.0 + 1;
         rounds += v.rounds;
-        record::note(d, sub, amounts, blocks, lifts, order, partners, at, e, v);
+        record::note(d, sub, blocks, partners, lifts, amounts, order, here, e, v);
         k = next;
     }
     Ran::Done(rounds)

@@ -6,9 +6,8 @@ ghost use lib.ListN.{length};
 ghost use Prim.Native.Nat.{_<_};
 ghost use Rattle.model.specs.Scalar.{zeroF};
 ghost use Rattle.model.specs.Matrix.{vec, bytes, places, put, swapped};
-ghost use Rattle.model.specs.Step.{isBlock, firstNumber, lastNumber, underNumber};
+ghost use Rattle.model.specs.Step.{isBlock, firstNumber, lastNumber, underNumber, pivotsOf};
 ghost use Rattle.model.specs.Head.{lastOf, byteOf, noted};
-ghost use Rattle.bunch_kaufman.specs.Slices.{pivots};
 ghost use Rattle.bunch_kaufman.specs.Terms.{ColumnsPre, DiagonalPre, LiftPre, NotePre, ExchangesPre};
 use model::Diagonal;
 use model::Elim;
@@ -144,40 +143,40 @@ fn note_diagonal(d: &mut [f64], sub: &mut [f64], blocks: &mut [u8], k: Elim, e: 
 }
 
 // The pivot's lift, in both of its columns.
-fn note_lift(amounts: &mut [f64], lifts: &mut [u8], k: Elim, e: Elim, lifted: u8, amount: f64)
-    requires { ⌜ LiftPre (k .0) (e .0) (length (now amounts)) (length (now lifts)) ⌝ }
-    ensures { λ _. ⌜ vec (now (amounts .exit)) ≡ put (put (vec (now (amounts .entry))) (e .0) amount) (k .0) amount ⌝ }
+fn note_lift(lifts: &mut [u8], amounts: &mut [f64], k: Elim, e: Elim, lifted: u8, amount: f64)
+    requires { ⌜ LiftPre (k .0) (e .0) (length (now lifts)) (length (now amounts)) ⌝ }
     ensures { λ _. ⌜ bytes (now (lifts .exit)) ≡ put (put (bytes (now (lifts .entry))) (e .0) lifted) (k .0) lifted ⌝ }
+    ensures { λ _. ⌜ vec (now (amounts .exit)) ≡ put (put (vec (now (amounts .entry))) (e .0) amount) (k .0) amount ⌝ }
 {
-    put_both(amounts, k, e, amount, amount);
     put_both_bytes(lifts, k, e, lifted, lifted);
+    put_both(amounts, k, e, amount, amount);
 }
 
-// Notes the pivot v in columns k to e.
+// Notes the pivot v in columns k to e: in D, in the partners, in what the caller is told.
 pub fn note(
     d: &mut [f64],
     sub: &mut [f64],
-    amounts: &mut [f64],
     blocks: &mut [u8],
-    lifts: &mut [u8],
-    order: &mut [usize],
     partners: &mut [usize],
+    lifts: &mut [u8],
+    amounts: &mut [f64],
+    order: &mut [usize],
     k: Elim,
     e: Elim,
     v: Pivot,
 )
-    requires { ⌜ NotePre (k .0) (e .0) (v .p .0) (v .kp .0) (length (now d)) (length (now sub)) (length (now amounts))
-        (length (now blocks)) (length (now lifts)) (length (now order)) (length (now partners)) ⌝ }
-    ensures { λ _. ⌜ pivots (now (d .exit)) (now (sub .exit)) (now (amounts .exit)) (now (blocks .exit))
-        (now (lifts .exit)) (now (order .exit)) (now (partners .exit))
+    requires { ⌜ NotePre (k .0) (e .0) (v .p .0) (v .kp .0) (length (now d)) (length (now sub)) (length (now blocks))
+        (length (now partners)) (length (now lifts)) (length (now amounts)) (length (now order)) ⌝ }
+    ensures { λ _. ⌜ pivotsOf (now (d .exit)) (now (sub .exit)) (now (blocks .exit)) (now (partners .exit))
+        (now (lifts .exit)) (now (amounts .exit)) (now (order .exit))
         ≡ noted
-        (pivots (now (d .entry)) (now (sub .entry)) (now (amounts .entry)) (now (blocks .entry)) (now (lifts .entry))
-        (now (order .entry)) (now (partners .entry))) (k .0) (e .0) v ⌝ }
+        (pivotsOf (now (d .entry)) (now (sub .entry)) (now (blocks .entry)) (now (partners .entry))
+        (now (lifts .entry)) (now (amounts .entry)) (now (order .entry))) (k .0) (e .0) v ⌝ }
 {
     let x = v.diagonal;
     let p = v.p;
     let kp = v.kp;
     note_diagonal(d, sub, blocks, k, e, x);
-    note_lift(amounts, lifts, k, e, v.lifted, v.amount);
+    note_lift(lifts, amounts, k, e, v.lifted, v.amount);
     put_exchange(order, partners, k, e, p, kp);
 }

@@ -12,12 +12,13 @@ use lib.Ieee.{Float}
 use lib.ListN.{length}
 use Rattle.model.specs.Scalar.{_⊕_, _⊖_, _⊗_, zeroF}
 use Rattle.model.specs.Matrix.{Row, Mat, view, vec, within, withColumn, withPart}
-use Rattle.model.specs.Step.{Pivots}
-use Rattle.model.specs.Panel.{Panel, timesD, sumFrom, accOf, rowDeferred}
+use Rattle.model.specs.Step.{Diagonals}
+use Rattle.model.specs.Panel.{timesD, sumFrom, accOf, rowDeferred}
 use Rattle.grid.specs.Rules.{columnOf, behind, zeroed, lessEach}
 use Rattle.grid.proofs.Laws.{test, cmp, no, col-in, vec-part}
 use Rattle.grid.proofs.Parts.{column-at, column-lent}
-use Rattle.deferred.specs.Deferred.{pivotsOf, panelOf, deferredRows, deferred, DeferredPre}
+use Rattle.whole.specs.Whole.{deferredRows}
+use Rattle.deferred.specs.Deferred.{DeferredPre}
 use Rattle.deferred.specs.Products.{columnProduct, withProducts, ProductsPre}
 use Rattle.deferred.specs.Sums.{laterRow, rowsFrom, gathered, columnDeferred, partDeferred, LosePre, PairPre, ColumnsPre, RowsPre}
 
@@ -262,20 +263,20 @@ from-diagonal a P G kb w c end from lo hi e p =
 
 -- ---- all later columns, by rows
 
-module _ (G H a : Mat) (d s : Row) (f : ℕ → ℕ) (n c kb ke : ℕ) (e : H ≡ withProducts G d s f a kb ke n (ke - kb)) (h : kb ≤ ke) where
-  product-at : (i k : ℕ) → ke ≤ i → i < n → k < ke - kb → H i k ≡ timesD (pivotsOf d s f) (a i) (kb + k)
+module _ (G H a : Mat) (D : Diagonals) (n c kb ke : ℕ) (e : H ≡ withProducts G D a kb ke n (ke - kb)) (h : kb ≤ ke) where
+  product-at : (i k : ℕ) → ke ≤ i → i < n → k < ke - kb → H i k ≡ timesD D (a i) (kb + k)
   unfolding withProducts columnProduct
   product-at i k l g u = ap (λ (M : Mat). M i k) e ∙ rw (lt-ltb k (ke - kb) u, le-leb ke i l, lt-ltb i n g)
 
   -- the sum is the definition's
-  same-sum : (i j : ℕ) → ke ≤ i → i < n → gathered zeroed H (laterRow a j kb) 0 (ke - kb) i ≡ accOf (panelOf kb ke d s f a) (a i) (a j)
-  unfolding gathered laterRow zeroed panelOf
+  same-sum : (i j : ℕ) → ke ≤ i → i < n → gathered zeroed H (laterRow a j kb) 0 (ke - kb) i ≡ accOf D kb ke (a i) (a j)
+  unfolding gathered laterRow zeroed
   same-sum i j l g =
-      sum-same _ (λ k. timesD (pivotsOf d s f) (a i) k ⊗ a j k) (ke - kb) 0 kb zeroF
+      sum-same _ (λ k. timesD D (a i) k ⊗ a j k) (ke - kb) 0 kb zeroF
       (λ k u. let z : 0 + k ≡ k = omega arith in rw (z, product-at i k l g u))
 
-  by-rows : partDeferred a H kb (ke - kb) ke c ke n ≡ deferred n c kb ke d s f a
-  unfolding partDeferred columnDeferred deferred deferredRows panelOf rowDeferred
+  by-rows : partDeferred a H kb (ke - kb) ke c ke n ≡ deferredRows n c D kb ke a
+  unfolding partDeferred columnDeferred deferredRows rowDeferred
   by-rows =
       fun-ext λ i. fun-ext λ j.
       test (leb ke i)
@@ -293,9 +294,9 @@ module _ (G H a : Mat) (d s : Row) (f : ℕ → ℕ) (n c kb ke : ℕ) (e : H �
       (λ v. rw (u, v, no (leb j i), no (leb ke j && ltb j c))))
       (λ u. rw (u, no (leb j i), no (leb ke j && ltb j c)))
 
-pub update-whole : (G H a P : Mat) (d s : Row) (f : ℕ → ℕ) (n c kb ke : ℕ) → kb ≤ ke → H ≡ withProducts G d s f a kb ke n (ke - kb)
-    → P ≡ partDeferred a H kb (ke - kb) ke c ke n → P ≡ deferred n c kb ke d s f a
-update-whole G H a P d s f n c kb ke h e p = p ∙ by-rows G H a d s f n c kb ke e h
+pub update-whole : (G H a P : Mat) (D : Diagonals) (n c kb ke : ℕ) → kb ≤ ke → H ≡ withProducts G D a kb ke n (ke - kb)
+    → P ≡ partDeferred a H kb (ke - kb) ke c ke n → P ≡ deferredRows n c D kb ke a
+update-whole G H a P D n c kb ke h e p = p ∙ by-rows G H a D n c kb ke e h
 
 -- ---- what the parts ask
 
@@ -312,35 +313,3 @@ update-products n c kb ke glen len dlen slen bs h =
       flags = h .flags;
       closed = h .closed;
     }
-
--- ---- the rule of any panel
-
--- L·D reads d, subdiagonal and block bytes
-timesD-same : (p q : Pivots) (l : Row) (k : ℕ) → p .d ≡ q .d → p .sub ≡ q .sub → p .blocks ≡ q .blocks → timesD p l k ≡ timesD q l k
-unfolding timesD
-timesD-same p q l k ed es eb = rw (ed, es, eb)
-
--- and the rule no more than that, the panel's columns, and in these the rows below that it is asked for
-pub row-deferred-same : (p q : Panel) (end : ℕ) (l : Row) → p .kb ≡ q .kb → p .ke ≡ q .ke → p .pivots .d ≡ q .pivots .d → p .pivots .sub ≡ q .pivots .sub
-    → p .pivots .blocks ≡ q .pivots .blocks → ((i j : ℕ) → q .ke ≤ i → i < end → j < q .ke → p .below i j ≡ q .below i j)
-    → rowDeferred p end l ≡ rowDeferred q end l
-unfolding rowDeferred
-row-deferred-same p q end l ekb eke ed es eb below =
-    fun-ext λ c. rw (eke, ekb)
-    (test (leb (q .ke) c)
-    (λ x. test (ltb c end)
-    (λ y. rw (x, y) (ap (λ (v : Float). l c ⊖ v) (sum-same (λ k. timesD (p .pivots) l k ⊗ p .below c k) (λ k. timesD (q .pivots) l k ⊗ q .below c k)
-    (q .ke - q .kb) (q .kb) (q .kb) zeroF
-    (λ k u. let b = below c (q .kb + k) (leb-true (q .ke) c x) (ltb-true c end y) (omega arith) in
-    rw (timesD-same (p .pivots) (q .pivots) l (q .kb + k) ed es eb, b)))))
-    (λ y. rw (x, y)))
-    (λ x. rw x))
-
--- the update's matrix is the rule's of every panel with these columns and pivots, whose rows below the update was given
-pub deferred-is : (p : Panel) (n c : ℕ) (d s : Row) (f : ℕ → ℕ) (a : Mat) → p .pivots .d ≡ d → p .pivots .sub ≡ s → p .pivots .blocks ≡ f
-    → ((i j : ℕ) → p .ke ≤ i → i < c → j < p .ke → p .below i j ≡ a i j) → deferred n c (p .kb) (p .ke) d s f a ≡ deferredRows n c p a
-unfolding deferred deferredRows panelOf pivotsOf
-deferred-is p n c d s f a ed es ef below =
-    fun-ext λ i. ap (λ (r : Row). cond (within (p .ke) n i) r (a i))
-    (row-deferred-same (panelOf (p .kb) (p .ke) d s f a) p (min (i + 1) c) (a i) refl refl (sym ed) (sym es) (sym ef)
-    (λ r j l h g. sym (below r j l (omega arith) g)))

@@ -11,12 +11,12 @@ use native.Mathlib.Omega.{arith}
 use borrow.Author.Tests.{lt-ltb, le-ltb, eq-eqb, ne-eqb, ltb-true}
 use borrow.Rule.Slice.PartMut.{midOf, putMid}
 use Rattle.model.specs.Matrix.{Row, Mat, view, vec, bytes, withColumn, withPart}
-use Rattle.grid.specs.Rules.{columnOf, times, blended}
+use Rattle.model.specs.Step.{Diagonals, diagonalsOf, endsBlock}
 use Rattle.model.specs.Panel.{timesD}
+use Rattle.grid.specs.Rules.{columnOf, times, blended}
 use Rattle.grid.proofs.Laws.{test, cmp}
 use Rattle.grid.proofs.Parts.{column-at, column-lent}
-use Rattle.deferred.specs.Deferred.{pivotsOf}
-use Rattle.deferred.specs.Products.{endsBlock, columnProduct, withProducts, BlendPre, ProductPre, ProductsPre}
+use Rattle.deferred.specs.Products.{columnProduct, withProducts, BlendPre, ProductPre, ProductsPre}
 
 -- ---- a column of g, lent
 
@@ -48,33 +48,28 @@ blend-lent n gs hs xs t k lo p q h out l e =
 
 -- ---- L·D of one column
 
-pub ends-yes : (bs : List ℕ) (k : ℕ) → (k ≡ 0 → ⊥) → eqb (getD bs (k - 1) 0) 1 ≡ endsBlock (bytes bs) k
-unfolding endsBlock bytes
-ends-yes bs k h = rw (lt-ltb 0 k (omega arith))
-
 -- a block that ends at k began before it
 pub ends-after : (f : ℕ → ℕ) (k : ℕ) (b : Bool) → b ≡ endsBlock f k → b ≡ true → 1 ≤ k
-unfolding endsBlock
 ends-after f k b e h =
     test (ltb 0 k) (λ p. omega (arith, ltb-true 0 k p)) (λ p. let z : false ≡ true = sym (e ∙ rw p) ∙ h in absurd (false≢true z))
 
 module _ (G P a : Mat) (ds ss : List Float) (bs : List ℕ) (t lo n k : ℕ) where
   pub product-first : getD bs k 0 ≡ 1 → P ≡ withColumn G t lo n (blended (columnOf a k) (columnOf a (k + 1)) (getD ds k nan) (getD ss k nan))
-      → P ≡ withColumn G t lo n (columnProduct (vec ds) (vec ss) (bytes bs) a k)
-  unfolding columnProduct timesD pivotsOf blended columnOf vec bytes
+      → P ≡ withColumn G t lo n (columnProduct (diagonalsOf ds ss bs) a k)
+  unfolding columnProduct timesD blended columnOf vec bytes
   product-first h e = e ∙ ap (λ (N : Row). withColumn G t lo n N) (fun-ext λ i. rw (eq-eqb (getD bs k 0) 1 h))
 
   pub product-second : (b : Bool) → (getD bs k 0 ≡ 1 → ⊥) → b ≡ endsBlock (bytes bs) k → b ≡ true
       → P ≡ withColumn G t lo n (blended (columnOf a (k - 1)) (columnOf a (k - 1 + 1)) (getD ss (k - 1) nan) (getD ds k nan))
-      → P ≡ withColumn G t lo n (columnProduct (vec ds) (vec ss) (bytes bs) a k)
-  unfolding columnProduct timesD pivotsOf endsBlock blended columnOf vec bytes
+      → P ≡ withColumn G t lo n (columnProduct (diagonalsOf ds ss bs) a k)
+  unfolding columnProduct timesD blended columnOf vec bytes
   product-second b h f g e =
       let s : k - 1 + 1 ≡ k = omega (arith, ends-after (bytes bs) k b f g) in
       e ∙ ap (λ (N : Row). withColumn G t lo n N) (fun-ext λ i. rw (s, ne-eqb (getD bs k 0) 1 h, sym f ∙ g))
 
   pub product-plain : (b : Bool) → (getD bs k 0 ≡ 1 → ⊥) → b ≡ endsBlock (bytes bs) k → b ≡ false
-      → P ≡ withColumn G t lo n (times (columnOf a k) (getD ds k nan)) → P ≡ withColumn G t lo n (columnProduct (vec ds) (vec ss) (bytes bs) a k)
-  unfolding columnProduct timesD pivotsOf endsBlock times columnOf vec bytes
+      → P ≡ withColumn G t lo n (times (columnOf a k) (getD ds k nan)) → P ≡ withColumn G t lo n (columnProduct (diagonalsOf ds ss bs) a k)
+  unfolding columnProduct timesD times columnOf vec bytes
   product-plain b h f g e = e ∙ ap (λ (N : Row). withColumn G t lo n N) (fun-ext λ i. rw (ne-eqb (getD bs k 0) 1 h, sym f ∙ g))
 
 pub first-pre : (n t k lo glen len dlen slen : ℕ) (bs : List ℕ) → ProductPre n t k lo glen len dlen slen bs → getD bs k 0 ≡ 1 → BlendPre n t k lo glen len
@@ -89,30 +84,30 @@ second-pre n t k lo glen len f b e h r o l =
 
 -- ---- L·D of all columns
 
-products-more : (G : Mat) (d s : Row) (f : ℕ → ℕ) (a : Mat) (kb lo hi m : ℕ)
-    → withColumn (withProducts G d s f a kb lo hi m) m lo hi (columnProduct d s f a (kb + m)) ≡ withProducts G d s f a kb lo hi (m + 1)
+products-more : (G : Mat) (D : Diagonals) (a : Mat) (kb lo hi m : ℕ)
+    → withColumn (withProducts G D a kb lo hi m) m lo hi (columnProduct D a (kb + m)) ≡ withProducts G D a kb lo hi (m + 1)
 unfolding withColumn withProducts
-products-more G d s f a kb lo hi m =
+products-more G D a kb lo hi m =
     fun-ext λ i. fun-ext λ t.
     cmp t m
     (λ l. rw (ne-eqb t m (λ x. omega arith), lt-ltb t m l, lt-ltb t (m + 1) (omega arith)))
     (λ e. rw (e, eq-eqb m m refl, le-ltb m m (omega arith), lt-ltb m (m + 1) (omega arith)))
     (λ g. rw (ne-eqb t m (λ x. omega arith), le-ltb t m (omega arith), le-ltb t (m + 1) (omega arith)))
 
-pub products-none : (G : Mat) (d s : Row) (f : ℕ → ℕ) (a : Mat) (kb lo hi : ℕ) → G ≡ withProducts G d s f a kb lo hi (kb - kb)
+pub products-none : (G : Mat) (D : Diagonals) (a : Mat) (kb lo hi : ℕ) → G ≡ withProducts G D a kb lo hi (kb - kb)
 unfolding withProducts
-products-none G d s f a kb lo hi = fun-ext λ i. fun-ext λ t. rw (le-ltb t (kb - kb) (omega arith))
+products-none G D a kb lo hi = fun-ext λ i. fun-ext λ t. rw (le-ltb t (kb - kb) (omega arith))
 
-pub products-step : (G P Q : Mat) (d s : Row) (f : ℕ → ℕ) (a : Mat) (kb lo hi k : ℕ) → kb ≤ k → P ≡ withProducts G d s f a kb lo hi (k - kb)
-    → Q ≡ withColumn P (k - kb) lo hi (columnProduct d s f a k) → Q ≡ withProducts G d s f a kb lo hi (k + 1 - kb)
-products-step G P Q d s f a kb lo hi k h p q =
+pub products-step : (G P Q : Mat) (D : Diagonals) (a : Mat) (kb lo hi k : ℕ) → kb ≤ k → P ≡ withProducts G D a kb lo hi (k - kb)
+    → Q ≡ withColumn P (k - kb) lo hi (columnProduct D a k) → Q ≡ withProducts G D a kb lo hi (k + 1 - kb)
+products-step G P Q D a kb lo hi k h p q =
     let x : kb + (k - kb) ≡ k = omega arith in
     let y : k - kb + 1 ≡ k + 1 - kb = omega arith in
-    q ∙ rw (p, ← y) (rw x at (products-more G d s f a kb lo hi (k - kb)))
+    q ∙ rw (p, ← y) (rw x at (products-more G D a kb lo hi (k - kb)))
 
-pub products-end : (G P : Mat) (d s : Row) (f : ℕ → ℕ) (a : Mat) (kb lo hi k ke : ℕ) → k ≤ ke → ke ≤ k → P ≡ withProducts G d s f a kb lo hi (k - kb)
-    → P ≡ withProducts G d s f a kb lo hi (ke - kb)
-products-end G P d s f a kb lo hi k ke h l p = p ∙ ap (λ (x : ℕ). withProducts G d s f a kb lo hi (x - kb)) (le-antisymm h l)
+pub products-end : (G P : Mat) (D : Diagonals) (a : Mat) (kb lo hi k ke : ℕ) → k ≤ ke → ke ≤ k → P ≡ withProducts G D a kb lo hi (k - kb)
+    → P ≡ withProducts G D a kb lo hi (ke - kb)
+products-end G P D a kb lo hi k ke h l p = p ∙ ap (λ (x : ℕ). withProducts G D a kb lo hi (x - kb)) (le-antisymm h l)
 
 pub products-pre : (n kb ke k glen glen′ len dlen slen : ℕ) (bs : List ℕ) → ProductsPre n kb ke glen len dlen slen bs → kb ≤ k → k < ke → glen′ ≡ glen
     → ProductPre n (k - kb) k ke glen′ len dlen slen bs

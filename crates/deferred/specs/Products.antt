@@ -1,26 +1,21 @@
 -- L·D of a panel's columns, formed by columns, and what its steps ask of their callers. From document 01, 'll_cdiv_emit'. Definitions only. Assumes nothing.
 use mathlib.Core.Path.{_≡_}
-use mathlib.Core.Bool.{Bool, cond, _&&_}
+use mathlib.Core.Bool.{cond, _&&_}
 use mathlib.Core.List.{List}
 use Prim.Native.Nat.{ℕ, _+_, _-_, _*_, _<_, _≤_}
 use lib.Dec.{ltb}
 use lib.ListN.{length, getD}
 use Rattle.model.specs.Matrix.{Row, Mat, bytes, within}
-use Rattle.model.specs.Step.{begins}
+use Rattle.model.specs.Step.{Diagonals}
 use Rattle.model.specs.Panel.{timesD}
-use Rattle.deferred.specs.Deferred.{pivotsOf}
-
--- the column before k begins a block
-unfoldable pub endsBlock : (ℕ → ℕ) → ℕ → Bool
-endsBlock blocks k = ltb 0 k && begins blocks (k - 1)
 
 -- 'L·D' in column k, by rows
-unfoldable pub columnProduct : Row → Row → (ℕ → ℕ) → Mat → ℕ → Row
-columnProduct d sub blocks a k = λ i. timesD (pivotsOf d sub blocks) (a i) k
+unfoldable pub columnProduct : Diagonals → Mat → ℕ → Row
+columnProduct D a k = λ i. timesD D (a i) k
 
 -- g with L·D of the n columns from kb on in its first n columns, rows lo up to hi
-unfoldable pub withProducts : Mat → Row → Row → (ℕ → ℕ) → Mat → ℕ → ℕ → ℕ → ℕ → Mat
-withProducts g d sub blocks a kb lo hi n = λ i t. cond (ltb t n && within lo hi i) (columnProduct d sub blocks a (kb + t) i) (g i t)
+unfoldable pub withProducts : Mat → Diagonals → Mat → ℕ → ℕ → ℕ → ℕ → Mat
+withProducts g D a kb lo hi n = λ i t. cond (ltb t n && within lo hi i) (columnProduct D a (kb + t) i) (g i t)
 
 -- ---- what the callers owe
 

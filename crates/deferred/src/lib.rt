@@ -4,9 +4,11 @@
 ghost use mathlib.Core.Path.{_≡_};
 ghost use Prim.Native.Nat.{_+_, _-_, _<_, _≤_, min, max};
 ghost use lib.ListN.{length};
-ghost use Rattle.model.specs.Matrix.{view, vec, bytes, withColumn};
+ghost use Rattle.model.specs.Matrix.{view, vec, withColumn};
+ghost use Rattle.model.specs.Step.{diagonalsOf};
 ghost use Rattle.grid.specs.Rules.{columnOf, behind, lessEach};
-ghost use Rattle.deferred.specs.Deferred.{deferred, DeferredPre};
+ghost use Rattle.whole.specs.Whole.{deferredRows};
+ghost use Rattle.deferred.specs.Deferred.{DeferredPre};
 ghost use Rattle.deferred.specs.Products.{withProducts};
 ghost use Rattle.deferred.specs.Sums.{partDeferred, LosePre, PairPre, ColumnsPre, RowsPre};
 
@@ -166,11 +168,12 @@ pub fn deferred_update(
     requires { ⌜ DeferredPre nrow ncol kb ke (length (now g)) (length (now panel)) (length (now d))
         (length (now sub)) (now blocks) ⌝ }
     ensures { λ _. ⌜ view nrow (now (panel .exit))
-        ≡ deferred nrow ncol kb ke (vec (now (d .entry))) (vec (now (sub .entry))) (bytes (now (blocks .entry)))
+        ≡ deferredRows nrow ncol (diagonalsOf (now (d .entry)) (now (sub .entry)) (now (blocks .entry))) kb ke
         (view nrow (now (panel .entry))) ⌝ }
     ensures { λ _. ⌜ view nrow (now (g .exit))
-        ≡ withProducts (view nrow (now (g .entry))) (vec (now (d .entry))) (vec (now (sub .entry)))
-        (bytes (now (blocks .entry))) (view nrow (now (panel .entry))) kb ke nrow (ke - kb) ⌝ }
+        ≡ withProducts (view nrow (now (g .entry)))
+        (diagonalsOf (now (d .entry)) (now (sub .entry)) (now (blocks .entry))) (view nrow (now (panel .entry)))
+        kb ke nrow (ke - kb) ⌝ }
 {
     products::products(g, panel, d, sub, blocks, nrow, kb, ke);
     defer_columns(panel, g, nrow, ncol, kb, ke);

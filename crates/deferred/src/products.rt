@@ -1,11 +1,13 @@
 // L·D of a panel's columns, formed first: column t of g for the panel's column kb + t, rows from ke on.
 ghost use mathlib.Core.Path.{_≡_};
-ghost use Prim.Native.Nat.{_+_, _-_, _≤_};
+ghost use Prim.Native.Nat.{_+_, _-_};
 ghost use lib.ListN.{length};
-ghost use Rattle.model.specs.Matrix.{view, vec, bytes, withColumn};
+ghost use Rattle.model.specs.Matrix.{view, withColumn};
+ghost use Rattle.model.specs.Step.{diagonalsOf};
 ghost use Rattle.grid.specs.Rules.{columnOf, times, blended};
-ghost use Rattle.deferred.specs.Products.{endsBlock, columnProduct, withProducts};
+ghost use Rattle.deferred.specs.Products.{columnProduct, withProducts};
 ghost use Rattle.deferred.specs.Products.{ScalePre, BlendPre, ProductPre, ProductsPre};
+use model::Elim;
 
 // Rows from lo on of g's column t become those of the panel's column k times r.
 fn scale_column(g: &mut [f64], panel: &[f64], nrow: usize, t: usize, k: usize, lo: usize, r: f64)
@@ -46,17 +48,6 @@ fn blend_columns(
     grid::kernels::blend(&mut g[a..b], &panel[c..e], &panel[u..v], nrow - lo, p, q);
 }
 
-// Whether the column before k begins a block.
-fn ends_block(blocks: &[u8], k: usize) -> bool
-    requires { ⌜ k ≤ length (now blocks) ⌝ }
-    ensures { λ r. ⌜ r ≡ endsBlock (bytes (now (blocks .entry))) k ⌝ }
-{
-    if k == 0 {
-        return false;
-    }
-    blocks[k - 1] == 1
-}
-
 // Rows from lo on of g's column t become L·D of the panel's column k.
 fn product_column(
     g: &mut [f64],
@@ -73,14 +64,14 @@ fn product_column(
         (length (now sub)) (now blocks) ⌝ }
     ensures { λ _. ⌜ view nrow (now (g .exit))
         ≡ withColumn (view nrow (now (g .entry))) t lo nrow
-        (columnProduct (vec (now (d .entry))) (vec (now (sub .entry))) (bytes (now (blocks .entry)))
+        (columnProduct (diagonalsOf (now (d .entry)) (now (sub .entry)) (now (blocks .entry)))
         (view nrow (now (panel .entry))) k) ⌝ }
 {
     if blocks[k] == 1 {
         blend_columns(g, panel, nrow, t, k, lo, d[k], sub[k]);
         return;
     }
-    if ends_block(blocks, k) {
+    if diagonal::ends_block(blocks, Elim(k)) {
         blend_columns(g, panel, nrow, t, k - 1, lo, sub[k - 1], d[k]);
         return;
     }
@@ -101,8 +92,9 @@ pub fn products(
     requires { ⌜ ProductsPre nrow kb ke (length (now g)) (length (now panel)) (length (now d))
         (length (now sub)) (now blocks) ⌝ }
     ensures { λ _. ⌜ view nrow (now (g .exit))
-        ≡ withProducts (view nrow (now (g .entry))) (vec (now (d .entry))) (vec (now (sub .entry)))
-        (bytes (now (blocks .entry))) (view nrow (now (panel .entry))) kb ke nrow (ke - kb) ⌝ }
+        ≡ withProducts (view nrow (now (g .entry)))
+        (diagonalsOf (now (d .entry)) (now (sub .entry)) (now (blocks .entry))) (view nrow (now (panel .entry)))
+        kb ke nrow (ke - kb) ⌝ }
 {
     for k in kb..ke {
         product_column(g, panel, d, sub, blocks, nrow, k - kb, k, ke);

@@ -11,6 +11,7 @@ use lib.ListN.{length, replicate, length-replicate}
 use lib.Ieee.{Float, lt}
 use Rattle.model.specs.Scalar.{zeroF, isFinite}
 use Rattle.model.specs.Matrix.{view, bytes}
+use Rattle.model.specs.Step.{pivotsOf}
 use Rattle.model.specs.Head.{State}
 use Rattle.model.specs.Factor.{Buffers, workLength, modeCheck, entryCheck, start}
 use Rattle.model.specs.Answer.{sound, refuseIf}
@@ -49,7 +50,7 @@ work-less nrow w nb h =
 
 pub run-pre : (c : Settings) (input : List Float) (b : Buffers) (w len lenW : ℕ) → entryCheck c input b ≡ sound
     → w ≡ min (c .nb) (max (c .ncol) 1) → len ≡ length (b .panel) → lenW ≡ length (b .work)
-    → RunPre (c .nrow) (c .ncol) w (c .mode) (c .limit) len lenW
+    → RunPre (record { ncol = c .ncol; nrow = c .nrow; nb = w; mode = c .mode; limit = c .limit }) len lenW
 run-pre c input b w len lenW e h l m =
     let p = passed c input b e in
     let some = p .some in
@@ -65,19 +66,21 @@ run-pre c input b w len lenW e h l m =
       work = omega (arith, work-less (c .nrow) w (c .nb) (omega arith), p .lengths .work);
     }
 
-pub holds-pre : (c : Settings) (input : List Float) (b : Buffers) (ld ls la lb ll lo : ℕ) (partners : List ℕ) → entryCheck c input b ≡ sound
-    → ld ≡ length (b .d) → ls ≡ length (b .sub) → la ≡ length (b .amounts) → lb ≡ length (b .blocks) → ll ≡ length (b .lifts)
-    → lo ≡ length (b .order) → partners ≡ replicate 128 0 → TurnHolds (c .nrow) (c .ncol) ld ls la lb ll lo (length partners)
-holds-pre c input b ld ls la lb ll lo partners e e1 e2 e3 e4 e5 e6 e7 =
+pub holds-pre : (c : Settings) (input : List Float) (b : Buffers) (ld ls lb : ℕ) (partners : List ℕ) (ll la lo : ℕ) → entryCheck c input b ≡ sound
+    → ld ≡ length (b .d) → ls ≡ length (b .sub) → lb ≡ length (b .blocks) → partners ≡ replicate 128 0 → ll ≡ length (b .lifts)
+    → la ≡ length (b .amounts) → lo ≡ length (b .order) → TurnHolds (c .nrow) (c .ncol) ld ls lb (length partners) ll la lo
+holds-pre c input b ld ls lb partners ll la lo e e1 e2 e3 e4 e5 e6 e7 =
     let p = passed c input b e in
     record {
-      d = e1 ∙ p .lengths .d;
-      sub = e2 ∙ p .lengths .sub;
-      amounts = e3 ∙ p .lengths .amounts;
-      blocks = e4 ∙ p .lengths .blocks;
+      diagonals = record {
+        d = e1 ∙ p .lengths .d;
+        sub = e2 ∙ p .lengths .sub;
+        blocks = e3 ∙ p .lengths .blocks;
+        partners = ap length e4 ∙ length-replicate {A = ℕ} 128 0;
+      };
       lifts = e5 ∙ p .lengths .lifts;
-      order = e6 ∙ p .lengths .order;
-      partners = ap length e7 ∙ length-replicate {A = ℕ} 128 0;
+      amounts = e6 ∙ p .lengths .amounts;
+      order = e7 ∙ p .lengths .order;
     }
 
 -- the run with the width that is used, from the start
@@ -102,8 +105,8 @@ noted-none n blocks partners e f = record {
 pub start-is : (c : Settings) (input : List Float) (b : Buffers) (panel d sub amounts : List Float) (blocks lifts order partners : List ℕ)
     → entryCheck c input b ≡ sound → Begun input panel d sub blocks lifts amounts order
     → length d ≡ length (b .d) → length sub ≡ length (b .sub) → length amounts ≡ length (b .amounts) → partners ≡ replicate 128 0
-    → between (c .nrow) panel d sub amounts blocks lifts order partners 0 ≡ start (c .ncol) (view (c .nrow) input)
+    → between (c .nrow) panel (pivotsOf d sub blocks partners lifts amounts order) 0 ≡ start (c .ncol) (view (c .nrow) input)
 start-is c input b panel d sub amounts blocks lifts order partners e w ld ls la p =
     let q = passed c input b e in
-    begun-start input panel d sub amounts blocks lifts order (bytes partners) (c .nrow) (c .ncol) w (ld ∙ q .lengths .d) (ls ∙ q .lengths .sub)
+    begun-start input panel d sub amounts blocks partners lifts order (c .nrow) (c .ncol) w (ld ∙ q .lengths .d) (ls ∙ q .lengths .sub)
     (la ∙ q .lengths .amounts) (ap bytes p ∙ bytes-zeros 128)

@@ -6,12 +6,12 @@ use Prim.Native.Nat.{ℕ, zero, suc, _+_, _-_, _≤_, _<_}
 use native.Mathlib.Omega.{arith}
 use lib.ListN.{length, replicate}
 use lib.Ieee.{Float}
-use Rattle.model.specs.Scalar.{zeroF, isFinite}
-use Rattle.model.specs.Matrix.{view, vec, bytes, headOf}
-use Rattle.model.specs.Step.{Pivots}
+use Rattle.model.specs.Scalar.{zeroF}
+use Rattle.model.specs.Matrix.{Mat, view, vec, bytes}
+use Rattle.model.specs.Step.{Diagonals, diagonalsOf, Pivots, pivotsOf}
 use Rattle.model.specs.Head.{State, Run}
 use Rattle.model.specs.Inertia.{talliedOf, bytesFrom, checkBytes}
-use Rattle.model.specs.Factor.{Buffers, Outcome, everyFrom, pivotSound, columnSound, resultCheck, entryCheck, zeros, factorOf}
+use Rattle.model.specs.Factor.{Buffers, Outcome, columnSound, resultCheck, entryCheck, zeros, factorOf}
 use Rattle.model.specs.Answer.{Said, refused, Check, sound, stop, turnedAway}
 use Rattle.model.specs.declared.Settings.{Settings}
 use Rattle.model.specs.declared.Refusal.{Refusal}
@@ -24,10 +24,9 @@ use Rattle.model.proofs.Cases.{test}
 use Rattle.model.proofs.Entry.{Passed, passed}
 use Rattle.model.proofs.Accepted.{AtEnd, Kept, head-kept, bytes-sound}
 use Rattle.whole.specs.Whole.{ended}
-use Rattle.whole.proofs.Masked.{head-at}
 use Rattle.whole.proofs.Result.{Reached, run-ended, reached-pivots}
 use Rattle.scan.specs.Marks.{tailMarks}
-use Rattle.finish.specs.Result.{foundSays, emitted, pivotsOf, ResultPre}
+use Rattle.finish.specs.Result.{foundSays, ResultPre}
 use Rattle.finish.specs.declared.Found.{Found}
 use Rattle.finish.specs.declared.Found.the-variants.{Clean, At}
 use Rattle.finish.proofs.Buffers.{zeros-same}
@@ -40,34 +39,14 @@ use Rattle.bunch_kaufman.specs.declared.Ran.{Ran}
 use Rattle.bunch_kaufman.specs.declared.Ran.the-variants.{Stopped, Done}
 use Rattle.factor.proofs.Outcome.{wholeOf, stopped-outcome, unsound-outcome, accepted-outcome}
 
--- ---- the result check looks at the head, d, subdiagonal and block bytes alone
-
-every-same : (f g : ℕ → Bool) (n i : ℕ) → ((j : ℕ) → i ≤ j → j < i + n → f j ≡ g j) → everyFrom f n i ≡ everyFrom g n i
-unfolding everyFrom
-every-same f g zero i h = refl
-every-same f g (suc n) i h = rw (h i (omega arith) (omega arith), every-same f g n (i + 1) (λ j x y. h j (omega arith) (omega arith)))
-
--- what the check sees of a state
-abbrev seen : ℕ → State → State
-seen n s = emitted (headOf n (s .a)) (s .pivots .d) (s .pivots .sub) (s .pivots .blocks)
-
-column-same : (n : ℕ) (s : State) (k : ℕ) → columnSound n (seen n s) k ≡ columnSound n s k
-unfolding columnSound emitted pivotsOf pivotSound
-column-same n s k =
-    rw (every-same (λ i. isFinite (headOf n (s .a) i k)) (λ i. isFinite (s .a i k)) (n - k) k
-    (λ i x y. ap isFinite (head-at n (s .a) i k x (omega arith))))
-
-check-same : (n : ℕ) (s : State) (m k : ℕ) → resultCheck n (seen n s) m k ≡ resultCheck n s m k
-unfolding resultCheck
-check-same n s zero k = refl
-check-same n s (suc m) k = rw (column-same n s k, check-same n s m (k + 1))
+-- ---- the result check
 
 -- refusal 9 names a column alone
-stop-place : (n : ℕ) (s : State) (m k : ℕ) (number p q : ℕ) → resultCheck n s m k ≡ stop number p q → q ≡ 0
+stop-place : (n : ℕ) (D : Diagonals) (a : Mat) (m k : ℕ) (number p q : ℕ) → resultCheck n D a m k ≡ stop number p q → q ≡ 0
 unfolding resultCheck
-stop-place n s zero k number p q e = absurd (let z : _≡_ {A = ℕ} 0 1 = cc in omega arith)
-stop-place n s (suc m) k number p q e =
-    test (columnSound n s k) (λ t. stop-place n s m (k + 1) number p q (rw t at e)) (λ t. let z : stop 9 k 0 ≡ stop number p q = rw t at e in cc)
+stop-place n D a zero k number p q e = absurd (let z : _≡_ {A = ℕ} 0 1 = cc in omega arith)
+stop-place n D a (suc m) k number p q e =
+    test (columnSound n D a k) (λ t. stop-place n D a m (k + 1) number p q (rw t at e)) (λ t. let z : stop 9 k 0 ≡ stop number p q = rw t at e in cc)
 
 -- ---- the buffers' lengths stay
 
@@ -95,11 +74,11 @@ outcome-zeros n p s a b z es ez l = rw (es, ez, zeros-alike a b l)
 
 -- what an elimination left in the buffers
 abbrev Left : Settings → List Float → Ran → Buffers → Type 0
-Left c input r a = Eliminated c input r (a .panel) (a .d) (a .sub) (a .amounts) (a .blocks) (a .lifts) (a .order)
+Left c input r a = Eliminated c input r (a .panel) (a .d) (a .sub) (a .blocks) (a .lifts) (a .amounts) (a .order)
 
 -- the state that they show, by the rounds
 abbrev shown : ℕ → Buffers → List ℕ → ℕ → State
-shown nrow a partners = between nrow (a .panel) (a .d) (a .sub) (a .amounts) (a .blocks) (a .lifts) (a .order) partners
+shown nrow a partners = between nrow (a .panel) (pivotsOf (a .d) (a .sub) (a .blocks) partners (a .lifts) (a .amounts) (a .order))
 
 module _ (c : Settings) (input : List Float) (b : Buffers) (e : entryCheck c input b ≡ sound) where
   checked : Passed c input b
@@ -134,8 +113,8 @@ module _ (c : Settings) (input : List Float) (b : Buffers) (e : entryCheck c inp
         reached-pivots (c .mode) (c .limit) (c .nrow) (c .ncol) (c .nb) (view (c .nrow) input) last reach in
         let n : length (a .blocks) ≡ c .ncol = l .blocks ∙ checked .lengths .blocks in
         ap (λ (m : ℕ). bytesFrom (bytes (a .blocks)) m m 0) n
-        ∙ ap (λ (p : Pivots). bytesFrom (p .blocks) (c .ncol) (c .ncol) 0) same
-        ∙ bytes-sound (reach .state .pivots .blocks) (c .ncol) (c .ncol) 0 (omega arith) (kept .recorded .paired)
+        ∙ ap (λ (p : Pivots). bytesFrom (p .diagonals .blocks) (c .ncol) (c .ncol) 0) same
+        ∙ bytes-sound (reach .state .pivots .diagonals .blocks) (c .ncol) (c .ncol) 0 (omega arith) (kept .recorded .paired)
 
     pub judge-pre : JudgePre (c .nrow) (c .ncol) (length (a .panel)) (length (a .d)) (length (a .sub)) (length (a .marks)) (a .blocks)
     judge-pre = record {
@@ -148,7 +127,7 @@ module _ (c : Settings) (input : List Float) (b : Buffers) (e : entryCheck c inp
       check = bytes-kept;
     }
 
-    judged-call : (k : Check) → resultCheck (c .ncol) last (c .ncol) 0 ≡ k → judgedBy k (c .nrow) (c .ncol) rounds a ≡ factorOf c input b
+    judged-call : (k : Check) → resultCheck (c .ncol) (last .pivots .diagonals) (last .a) (c .ncol) 0 ≡ k → judgedBy k (c .nrow) (c .ncol) rounds a ≡ factorOf c input b
     unfolding tailMarks
     judged-call sound g =
         let len = checked .lengths in
@@ -160,15 +139,13 @@ module _ (c : Settings) (input : List Float) (b : Buffers) (e : entryCheck c inp
         refl (ap (λ (n : ℕ). replicate n zeroF) (l .work))
         (ap (λ (n : ℕ). talliedOf n (vec (a .d)) (vec (a .sub)) (bytes (a .blocks))) (l .d ∙ len .d))
     judged-call (stop n p q) g =
-        let z : q ≡ 0 = stop-place (c .ncol) last (c .ncol) 0 n p q g in
+        let z : q ≡ 0 = stop-place (c .ncol) (last .pivots .diagonals) (last .a) (c .ncol) 0 n p q g in
         outcome-zeros n p (refused n p q) a b (zeros a) (ap (λ (x : ℕ). refused n p x) z) refl l ∙ unsound-outcome c input b e last ends n p q g
 
     -- judged, it is the call's outcome
     pub judge-call : judgeOf (c .nrow) (c .ncol) rounds a ≡ factorOf c input b
     unfolding judgeOf
-    judge-call =
-        ap (λ (k : Check). judgedBy k (c .nrow) (c .ncol) rounds a) (check-same (c .ncol) last (c .ncol) 0)
-        ∙ judged-call (resultCheck (c .ncol) last (c .ncol) 0) refl
+    judge-call = judged-call (resultCheck (c .ncol) (last .pivots .diagonals) (last .a) (c .ncol) 0) refl
 
 -- ---- the judgement
 
@@ -187,7 +164,7 @@ result-pre nrow ncol lp ld ls lm blocks w = record {
 
 module _ (nrow ncol rounds : ℕ) (b : Buffers) (found : Found)
     (h : foundSays found
-    ≡ resultCheck ncol (emitted (headOf ncol (view nrow (b .panel))) (vec (b .d)) (vec (b .sub)) (bytes (b .blocks))) ncol 0) where
+    ≡ resultCheck ncol (diagonalsOf (b .d) (b .sub) (b .blocks)) (view nrow (b .panel)) ncol 0) where
   pub judge-refused : (k : Elim) (z : Buffers) → found ≡ At k → z ≡ zeros b → outcomeOf (Refused (NotFinite k)) z ≡ judgeOf nrow ncol rounds b
   unfolding judgeOf
   judge-refused k z e ez = rw (← h, e, ez)

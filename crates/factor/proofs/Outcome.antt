@@ -7,7 +7,7 @@ use lib.ListN.{length, getD, replicate}
 use lib.Ieee.{Float, nan}
 use Rattle.model.specs.Scalar.{zeroF}
 use Rattle.model.specs.Matrix.{Row, Mat, view, vec, bytes, places, tabulate, columnMajor}
-use Rattle.model.specs.Step.{Pivots}
+use Rattle.model.specs.Step.{diagonalsOf, Pivots, pivotsOf}
 use Rattle.model.specs.Head.{State}
 use Rattle.model.specs.Inertia.{talliedOf}
 use Rattle.model.specs.Factor.{Buffers, Outcome, start, entryCheck, resultCheck, HeadAnswer, fails, stands, headAnswerOf}
@@ -85,45 +85,45 @@ module _ (c : Settings) (input : List Float) (b : Buffers) (e : entryCheck c inp
     reached = run-ended (c .mode) (c .limit) (c .nrow) (c .ncol) (c .nb) given (checked .head) (checked .some) t (sym s)
 
     -- refused after the last column
-    pub unsound-outcome : (n p q : ℕ) → resultCheck (c .ncol) t (c .ncol) 0 ≡ stop n p q
+    pub unsound-outcome : (n p q : ℕ) → resultCheck (c .ncol) (t .pivots .diagonals) (t .a) (c .ncol) 0 ≡ stop n p q
         → record { answer = refused n p 0; buffers = zeros b } ≡ factorOf c input b
     unsound-outcome n p q h =
         sym (by-head (fails n p) (reached-answer (c .mode) (c .limit) (c .nrow) (c .ncol) (c .nb) given t reached ∙ rw h))
 
-    stands-answer : resultCheck (c .ncol) t (c .ncol) 0 ≡ sound
+    stands-answer : resultCheck (c .ncol) (t .pivots .diagonals) (t .a) (c .ncol) 0 ≡ sound
         → headAnswerOf (c .mode) (c .limit) (c .ncol) (c .nb) given ≡ stands (reached .state) (reached .panels)
     stands-answer h = reached-answer (c .mode) (c .limit) (c .nrow) (c .ncol) (c .nb) given t reached ∙ rw h
 
   -- accepted
   pub accepted-outcome : (panel d sub amounts work : List Float) (blocks lifts order marks partners : List ℕ) (rounds : ℕ) (tally : Tally)
-      → ended (between (c .nrow) panel d sub amounts blocks lifts order partners rounds) ≡ wholeOf
-      → resultCheck (c .ncol) (between (c .nrow) panel d sub amounts blocks lifts order partners rounds) (c .ncol) 0 ≡ sound
+      → ended (between (c .nrow) panel (pivotsOf d sub blocks partners lifts amounts order) rounds) ≡ wholeOf
+      → resultCheck (c .ncol) (diagonalsOf d sub blocks) (view (c .nrow) panel) (c .ncol) 0 ≡ sound
       → length panel ≡ c .nrow * c .ncol → length d ≡ c .ncol → length sub ≡ c .ncol → length amounts ≡ c .ncol
       → length blocks ≡ c .ncol → length lifts ≡ c .ncol → length order ≡ c .nrow
       → marks ≡ tabulate (c .nrow - c .ncol) (λ i. markOf (c .ncol) (view (c .nrow) panel (c .ncol + i)))
       → work ≡ replicate (length (b .work)) zeroF → tally ≡ talliedOf (c .ncol) (vec d) (vec sub) (bytes blocks)
       → acceptedWith rounds tally (buffersOf panel d sub blocks lifts amounts order marks work) ≡ factorOf c input b
   accepted-outcome panel d sub amounts work blocks lifts order marks partners rounds tally s h lp ld ls la lb ll lo em ew et =
-      let t = between (c .nrow) panel d sub amounts blocks lifts order partners rounds in
+      let t = between (c .nrow) panel (pivotsOf d sub blocks partners lifts amounts order) rounds in
       let w = reached t s in
       let v : Pivots = w .state .pivots in
       let p : t .pivots ≡ v = reached-pivots (c .mode) (c .limit) (c .nrow) (c .ncol) (c .nb) given t w in
       let entries : Mat = factorEntry (c .ncol) (w .state) (w .panels) given in
       outcome-same rounds (w .state .rounds) tally (reportOf (c .ncol) (w .state) .inertia)
       panel (columnMajor (c .nrow) (c .ncol) entries)
-      d (tabulate (c .ncol) (v .d)) sub (tabulate (c .ncol) (v .sub)) amounts (tabulate (c .ncol) (v .amounts))
+      d (tabulate (c .ncol) (v .diagonals .d)) sub (tabulate (c .ncol) (v .diagonals .sub)) amounts (tabulate (c .ncol) (v .notes .amounts))
       work (replicate (length (b .work)) zeroF)
-      blocks (tabulate (c .ncol) (v .blocks)) lifts (tabulate (c .ncol) (v .lifts)) order (tabulate (c .nrow) (v .order))
+      blocks (tabulate (c .ncol) (v .diagonals .blocks)) lifts (tabulate (c .ncol) (v .notes .lifts)) order (tabulate (c .nrow) (v .notes .order))
       marks (tabulate (c .nrow - c .ncol) (λ i. markOf (c .ncol) (factorRowOf (c .ncol) (w .panels) (given (c .ncol + i)))))
       (reached-rounds (c .mode) (c .limit) (c .nrow) (c .ncol) (c .nb) given t w)
-      (et ∙ ap (λ (q : Pivots). talliedOf (c .ncol) (q .d) (q .sub) (q .blocks)) p)
+      (et ∙ ap (λ (q : Pivots). talliedOf (c .ncol) (q .diagonals .d) (q .diagonals .sub) (q .diagonals .blocks)) p)
       (is-columnMajor (c .nrow) (c .ncol) entries panel lp (reached-entry (c .mode) (c .limit) (c .nrow) (c .ncol) (c .nb) given t w))
-      (vec-tabulate (c .ncol) d (v .d) ld (ap (λ (q : Pivots). q .d) p))
-      (vec-tabulate (c .ncol) sub (v .sub) ls (ap (λ (q : Pivots). q .sub) p))
-      (bytes-tabulate (c .ncol) blocks (v .blocks) lb (ap (λ (q : Pivots). q .blocks) p))
-      (bytes-tabulate (c .ncol) lifts (v .lifts) ll (ap (λ (q : Pivots). q .lifts) p))
-      (vec-tabulate (c .ncol) amounts (v .amounts) la (ap (λ (q : Pivots). q .amounts) p))
-      (places-tabulate (c .nrow) order (v .order) lo (ap (λ (q : Pivots). q .order) p))
+      (vec-tabulate (c .ncol) d (v .diagonals .d) ld (ap (λ (q : Pivots). q .diagonals .d) p))
+      (vec-tabulate (c .ncol) sub (v .diagonals .sub) ls (ap (λ (q : Pivots). q .diagonals .sub) p))
+      (bytes-tabulate (c .ncol) blocks (v .diagonals .blocks) lb (ap (λ (q : Pivots). q .diagonals .blocks) p))
+      (bytes-tabulate (c .ncol) lifts (v .notes .lifts) ll (ap (λ (q : Pivots). q .notes .lifts) p))
+      (vec-tabulate (c .ncol) amounts (v .notes .amounts) la (ap (λ (q : Pivots). q .notes .amounts) p))
+      (places-tabulate (c .nrow) order (v .notes .order) lo (ap (λ (q : Pivots). q .notes .order) p))
       (em ∙ tabulate-same (c .nrow - c .ncol) _ _
       (λ i l. reached-mark (c .mode) (c .limit) (c .nrow) (c .ncol) (c .nb) given t w (c .ncol + i) (omega arith) (omega arith)))
       ew

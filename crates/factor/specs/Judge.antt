@@ -5,7 +5,8 @@ use Prim.Native.Nat.{ℕ, _+_, _-_, _*_, _<_, _≤_, min, max}
 use lib.ListN.{length, replicate}
 use lib.Ieee.{Float}
 use Rattle.model.specs.Scalar.{zeroF}
-use Rattle.model.specs.Matrix.{view, vec, bytes, headOf}
+use Rattle.model.specs.Matrix.{view, vec, bytes}
+use Rattle.model.specs.Step.{diagonalsOf, pivotsOf}
 use Rattle.model.specs.Inertia.{empty, talliedOf, checkBytes}
 use Rattle.model.specs.Factor.{Buffers, Outcome, start, resultCheck, zeros, entryCheck}
 use Rattle.model.specs.Answer.{Said, refused, accepted, Check, sound, stop, factoredSays}
@@ -14,7 +15,6 @@ use Rattle.model.specs.declared.Report.{Report}
 use Rattle.model.specs.declared.Factored.{Factored}
 use Rattle.model.specs.declared.Factored.the-variants.{Accepted, Refused}
 use Rattle.scan.specs.Marks.{tailMarks}
-use Rattle.finish.specs.Result.{emitted}
 use Rattle.whole.specs.Whole.{wholePanelsOf}
 use Rattle.panels.specs.Turn.{between}
 use Rattle.panels.specs.Run.{runOf, RunLeaves}
@@ -53,12 +53,13 @@ judgedBy (stop n p q) nrow ncol rounds b = record { answer = refused n p q; buff
 
 unfoldable pub judgeOf : ℕ → ℕ → ℕ → Buffers → Outcome
 judgeOf nrow ncol rounds b =
-    judgedBy (resultCheck ncol (emitted (headOf ncol (view nrow (b .panel))) (vec (b .d)) (vec (b .sub)) (bytes (b .blocks))) ncol 0) nrow ncol rounds b
+    judgedBy (resultCheck ncol (diagonalsOf (b .d) (b .sub) (b .blocks)) (view nrow (b .panel)) ncol 0) nrow ncol rounds b
 
 -- what an elimination of the input leaves; the exchange partners are its own
-pub record Eliminated (c : Settings) (given : List Float) (r : Ran) (panel d sub amounts : List Float) (blocks lifts order : List ℕ) : Type 0 where
+pub record Eliminated (c : Settings) (given : List Float) (r : Ran) (panel d sub : List Float) (blocks lifts : List ℕ) (amounts : List Float) (order : List ℕ)
+    : Type 0 where
   pub partners : List ℕ
-  pub run : runOf r (between (c .nrow) panel d sub amounts blocks lifts order partners)
+  pub run : runOf r (between (c .nrow) panel (pivotsOf d sub blocks partners lifts amounts order))
       ≡ wholePanelsOf (c .mode) (c .limit) (c .nrow) (c .ncol) (min (c .nb) (max (c .ncol) 1)) (c .ncol) 0 (start (c .ncol) (view (c .nrow) given))
   pub leaves : RunLeaves (c .ncol) r (bytes blocks) (bytes partners)
 

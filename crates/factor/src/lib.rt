@@ -54,27 +54,30 @@ fn eliminate(
     requires { ⌜ entryCheck c (now input) (buffersOf (now panel) (now d) (now sub) (now blocks) (now lifts)
         (now amounts) (now order) (now marks) (now work)) ≡ sound ⌝ }
     ensures { λ r. ⌜ Eliminated c (now (input .entry)) r (now (panel .exit)) (now (d .exit)) (now (sub .exit))
-        (now (amounts .exit)) (now (blocks .exit)) (now (lifts .exit)) (now (order .exit)) ⌝ }
+        (now (blocks .exit)) (now (lifts .exit)) (now (amounts .exit)) (now (order .exit)) ⌝ }
 {
     finish::begin(input, panel, d, sub, blocks, lifts, amounts, order);
     let mut partners = [0; 128];
     let nb = width(c.nb, c.ncol);
     let mode = c.mode;
-    panels::panels(
-        panel,
-        d,
-        sub,
-        amounts,
-        blocks,
-        lifts,
-        order,
-        &mut partners,
-        work,
-        c.nrow,
-        c.ncol,
+    let used = Settings {
+        ncol: c.ncol,
+        nrow: c.nrow,
         nb,
         mode,
-        c.limit,
+        limit: c.limit,
+    };
+    panels::panels(
+        panel,
+        work,
+        d,
+        sub,
+        blocks,
+        &mut partners,
+        lifts,
+        amounts,
+        order,
+        used,
     )
 }
 

@@ -11,6 +11,7 @@ use lib.Seq.{ext-getD, getD-set-same, getD-set-other}
 use lib.Ieee.{Float, nan}
 use Rattle.model.specs.Scalar.{zeroF}
 use Rattle.model.specs.Matrix.{Row, view, vec, bytes, places, withPart, tabulate}
+use Rattle.model.specs.Step.{pivotsOf}
 use Rattle.model.specs.Head.{State, blank}
 use Rattle.model.specs.Factor.{Buffers, start, zeros}
 use Rattle.model.proofs.Tabulated.{length-tabulateFrom, getD-tabulate, is-tabulate}
@@ -94,24 +95,16 @@ places-inOrder n =
     (λ p. List·getD-eq-default (tabulate n (λ k. k)) i (omega (arith, length-tabulateFrom 0 n (λ k. k), ltb-false i n p)))
 
 -- the state at the start of the run; the exchange partners are the run's own
-pub begun-start : (given panel d sub amounts : List Float) (blocks lifts order : List ℕ) (partners : ℕ → ℕ) (nrow ncol : ℕ)
-    → Begun given panel d sub blocks lifts amounts order → length d ≡ ncol → length sub ≡ ncol → length amounts ≡ ncol → partners ≡ (λ i. 0)
+pub begun-start : (given panel d sub amounts : List Float) (blocks partners lifts order : List ℕ) (nrow ncol : ℕ)
+    → Begun given panel d sub blocks lifts amounts order → length d ≡ ncol → length sub ≡ ncol → length amounts ≡ ncol → bytes partners ≡ (λ i. 0)
     → _≡_ {A = State} (record {
       a = view nrow panel;
       mult = blank;
-      pivots = record {
-        d = vec d;
-        sub = vec sub;
-        amounts = vec amounts;
-        blocks = bytes blocks;
-        lifts = bytes lifts;
-        order = places order;
-        partners = partners;
-      };
+      pivots = pivotsOf d sub blocks partners lifts amounts order;
       rounds = 0;
     }) (start ncol (view nrow given))
 unfolding start
-begun-start given panel d sub amounts blocks lifts order partners nrow ncol b l m n p =
+begun-start given panel d sub amounts blocks partners lifts order nrow ncol b l m n p =
     let ed : vec d ≡ vec (replicate ncol zeroF) = ap vec (b .d ∙ ap (λ (k : ℕ). replicate k zeroF) l) in
     let es : vec sub ≡ vec (replicate ncol zeroF) = ap vec (b .sub ∙ ap (λ (k : ℕ). replicate k zeroF) m) in
     let ea : vec amounts ≡ vec (replicate ncol zeroF) = ap vec (b .amounts ∙ ap (λ (k : ℕ). replicate k zeroF) n) in

@@ -1,14 +1,11 @@
--- The look at the result after the last column, refusal 9: the state that it reads, its declared answer as a check has it, and what it asks of its
--- callers. From document 01, 'What is turned away, in checking order'. Definitions only. Assumes nothing.
+-- The look at the result after the last column, refusal 9: its declared answer as a check has it, and what it asks of its callers. From document 01, 'What is turned away, in checking order'. Definitions only. Assumes nothing.
 use mathlib.Core.Path.{_≡_}
 use mathlib.Core.Bool.{Bool, _&&_}
 use mathlib.Core.List.{List}
 use Prim.Native.Nat.{ℕ, _+_, _*_, _<_, _≤_}
 use lib.ListN.{length}
-use Rattle.model.specs.Scalar.{zeroF, reciprocalOf, isFinite}
-use Rattle.model.specs.Matrix.{Row, Mat, bytes}
-use Rattle.model.specs.Step.{Pivots}
-use Rattle.model.specs.Head.{State, blank}
+use Rattle.model.specs.Scalar.{reciprocalOf, isFinite}
+use Rattle.model.specs.Matrix.{bytes}
 use Rattle.model.specs.Answer.{Check, sound, turnedAway}
 use Rattle.model.specs.declared.Block.{Block}
 use Rattle.model.specs.declared.Refusal.the-variants.{NotFinite}
@@ -19,14 +16,6 @@ use Rattle.finish.specs.declared.Found.the-variants.{Clean, At}
 abbrev pub foundSays : Found → Check
 foundSays Clean = sound
 foundSays (At k) = stopOf (turnedAway (NotFinite k))
-
--- the pivots and the state that are looked at; what is not named here plays no part
-unfoldable pub pivotsOf : Row → Row → (ℕ → ℕ) → Pivots
-pivotsOf d sub blocks =
-    record { d = d; sub = sub; amounts = λ i. zeroF; blocks = blocks; lifts = λ i. 0; order = λ i. i; partners = λ i. 0 }
-
-unfoldable pub emitted : Mat → Row → Row → (ℕ → ℕ) → State
-emitted a d sub blocks = record { a = a; mult = blank; pivots = pivotsOf d sub blocks; rounds = 0 }
 
 -- a block's determinant and its reciprocal
 unfoldable pub blockSound : Block → Bool

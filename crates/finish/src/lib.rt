@@ -4,11 +4,12 @@
 ghost use mathlib.Core.Path.{_≡_};
 ghost use Prim.Native.Nat.{_<_};
 ghost use lib.ListN.{length};
-ghost use Rattle.model.specs.Matrix.{view, vec, bytes, withPart, headOf};
+ghost use Rattle.model.specs.Matrix.{view, vec, withPart};
+ghost use Rattle.model.specs.Step.{diagonalsOf};
 ghost use Rattle.model.specs.Factor.{pivotSound, columnSound, resultCheck, zeros};
 ghost use Rattle.finish.specs.Buffers.{buffersOf, inOrder, Begun, PartPre};
 ghost use Rattle.scan.specs.Finite.{columnFinite, KnownFinite};
-ghost use Rattle.finish.specs.Result.{foundSays, pivotsOf, emitted, blockSound};
+ghost use Rattle.finish.specs.Result.{foundSays, blockSound};
 ghost use Rattle.finish.specs.Result.{HeadPre, PivotsPre, ResultPre};
 use grid::kernels;
 use model::Block;
@@ -94,8 +95,8 @@ fn block_sound(b: Block) -> bool
 fn pivot_sound(d: &[f64], sub: &[f64], blocks: &[u8], k: Elim) -> bool
     requires { ⌜ PivotsPre (length (now d)) (length (now sub)) (now blocks) ⌝ }
     requires { ⌜ k .0 < length (now d) ⌝ }
-    ensures { λ r. ⌜ r ≡ pivotSound
-        (pivotsOf (vec (now (d .entry))) (vec (now (sub .entry))) (bytes (now (blocks .entry)))) (k .0) ⌝ }
+    ensures { λ r. ⌜ r
+        ≡ pivotSound (diagonalsOf (now (d .entry)) (now (sub .entry)) (now (blocks .entry))) (k .0) ⌝ }
 {
     if diagonal::block_begins(blocks, k) {
         return block_sound(diagonal::block_at(d, sub, k));
@@ -130,8 +131,8 @@ fn column_sound(
     requires { ⌜ ResultPre nrow ncol (length (now panel)) (length (now d)) (length (now sub)) (now blocks) ⌝ }
     requires { ⌜ KnownFinite finite (view nrow (now panel)) nrow ncol ⌝ }
     requires { ⌜ k < ncol ⌝ }
-    ensures { λ r. ⌜ r ≡ columnSound ncol (emitted (view nrow (now (panel .entry)))
-        (vec (now (d .entry))) (vec (now (sub .entry))) (bytes (now (blocks .entry)))) k ⌝ }
+    ensures { λ r. ⌜ r ≡ columnSound ncol
+        (diagonalsOf (now (d .entry)) (now (sub .entry)) (now (blocks .entry))) (view nrow (now (panel .entry))) k ⌝ }
 {
     scalar::is_finite(d[k])
         & (scalar::is_finite(sub[k])
@@ -152,8 +153,9 @@ pub fn first_unsound(
 ) -> Found
     requires { ⌜ ResultPre nrow ncol (length (now panel)) (length (now d)) (length (now sub)) (now blocks) ⌝ }
     requires { ⌜ KnownFinite finite (view nrow (now panel)) nrow ncol ⌝ }
-    ensures { λ r. ⌜ foundSays r ≡ resultCheck ncol (emitted (headOf ncol (view nrow (now (panel .entry))))
-        (vec (now (d .entry))) (vec (now (sub .entry))) (bytes (now (blocks .entry)))) ncol 0 ⌝ }
+    ensures { λ r. ⌜ foundSays r ≡ resultCheck ncol
+        (diagonalsOf (now (d .entry)) (now (sub .entry)) (now (blocks .entry))) (view nrow (now (panel .entry)))
+        ncol 0 ⌝ }
 {
     for k in 0..ncol {
         if !column_sound(panel, d, sub, blocks, nrow, ncol, k, finite) {

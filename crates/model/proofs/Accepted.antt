@@ -64,15 +64,15 @@ swapped-permutes n f p q hp hq w = record {
 
 -- at column k of a run over ncol columns
 pub record Kept (ncol k : ℕ) (p : Pivots) : Type 0 where
-  pub order : Permutes ncol (p .order)
-  pub recorded : Recorded k (p .blocks) (p .partners)
+  pub order : Permutes ncol (p .notes .order)
+  pub recorded : Recorded k (p .diagonals .blocks) (p .partners)
 
 noted-kept : (ncol ke limit k : ℕ) (p : Pivots) (v : Pivot) → ke ≤ ncol → GoodPivot ke limit k v → Kept ncol k p
     → Kept ncol (lastOf k (isBlock (v .diagonal)) + 1) (noted p k (lastOf k (isBlock (v .diagonal))) v)
 unfolding noted
 noted-kept ncol ke limit k p v h g w = record {
-  order = swapped-permutes ncol (swapped (p .order) k (v .p .0)) (lastOf k (isBlock (v .diagonal))) (v .kp .0) (omega (arith, g .last)) (omega (arith, g .row))
-      (swapped-permutes ncol (p .order) k (v .p .0) (omega (arith, g .last, last-from k (isBlock (v .diagonal)))) (omega (arith, g .first)) (w .order));
+  order = swapped-permutes ncol (swapped (p .notes .order) k (v .p .0)) (lastOf k (isBlock (v .diagonal))) (v .kp .0) (omega (arith, g .last)) (omega (arith, g .row))
+      (swapped-permutes ncol (p .notes .order) k (v .p .0) (omega (arith, g .last, last-from k (isBlock (v .diagonal)))) (omega (arith, g .first)) (w .order));
   recorded = noted-recorded ke limit k p v g (w .recorded);
 }
 
@@ -155,7 +155,7 @@ accepted-is x r e = by-check (entryCheck (x .settings) (x .input) (x .lent)) ref
 -- the run of a head that stands was done
 stands-kept : (ncol : ℕ) (g : Run) (s : State) (ps : List Panel) → AtEnd ncol g → judgedRun ncol g ≡ stands s ps → Kept ncol ncol (s .pivots)
 stands-kept ncol (head.refused n p) s ps w e = absurd (let z : _≡_ {A = ℕ} 0 1 = cc in omega arith)
-stands-kept ncol (done t qs) s ps w e = by-check (resultCheck ncol t ncol 0) e
+stands-kept ncol (done t qs) s ps w e = by-check (resultCheck ncol (t .pivots .diagonals) (t .a) ncol 0) e
   where
     by-check : (c : Check) → judged c t qs ≡ stands s ps → Kept ncol ncol (s .pivots)
     by-check sound h = let z : t ≡ s = cc in subst (λ (u : State). Kept ncol ncol (u .pivots)) z w
@@ -207,7 +207,7 @@ pub accepted-ordered : (x : Call) → Accepted x → Ordered (x .settings .ncol)
 accepted-ordered x w =
     let p : Passed (x .settings) (x .input) (x .lent) = entry-passed (x .settings) (x .input) (x .lent) (w .entry) in
     subst (λ (o : List ℕ). Ordered (x .settings .ncol) (x .settings .nrow) o) (sym (ap (λ (o : Outcome). o .buffers .order) (accepted-leaves x w)))
-    (ordered (x .settings .ncol) (x .settings .nrow) (w .state .pivots .order) (p .head) (accepted-kept x w .order))
+    (ordered (x .settings .ncol) (x .settings .nrow) (w .state .pivots .notes .order) (p .head) (accepted-kept x w .order))
 
 -- ---- the block bytes
 
@@ -237,7 +237,7 @@ tabulated-paired n f w = record {
 pub accepted-bytes : (x : Call) → Accepted x → checkBytes (outcomeOf x .buffers .blocks) ≡ sound
 accepted-bytes x w =
     let n = x .settings .ncol in
-    let f = w .state .pivots .blocks in
+    let f = w .state .pivots .diagonals .blocks in
     ap (λ (o : Outcome). checkBytes (o .buffers .blocks)) (accepted-leaves x w)
     ∙ ap (λ (m : ℕ). bytesFrom (bytes (tabulate n f)) m m 0) (length-tabulateFrom 0 n f)
     ∙ bytes-sound (bytes (tabulate n f)) n n 0 (omega arith) (tabulated-paired n f (accepted-kept x w .recorded .paired))

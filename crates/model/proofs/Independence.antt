@@ -95,8 +95,8 @@ panel-stands z s ps e i j h l =
 order-fails : (z : Call) (pz : PassedCall z) (n p : ℕ) → outcomeOf z ≡ leftBy (fails n p) z → (k : ℕ) → k < z .settings .nrow → bytes (outcomeOf z .buffers .order) k ≡ 0
 order-fails z pz n p e k l = ap (λ (o : Outcome). bytes (o .buffers .order) k) e ∙ bytes-zeros (z .settings .nrow) (length (z .lent .order)) (pz .lengths .order) k l
 
-order-stands : (z : Call) (s : State) (ps : List Panel) → outcomeOf z ≡ leftBy (stands s ps) z → (k : ℕ) → k < z .settings .nrow → bytes (outcomeOf z .buffers .order) k ≡ s .pivots .order k
-order-stands z s ps e k l = ap (λ (o : Outcome). bytes (o .buffers .order) k) e ∙ bytes-tabulate (z .settings .nrow) k (s .pivots .order) l
+order-stands : (z : Call) (s : State) (ps : List Panel) → outcomeOf z ≡ leftBy (stands s ps) z → (k : ℕ) → k < z .settings .nrow → bytes (outcomeOf z .buffers .order) k ≡ s .pivots .notes .order k
+order-stands z s ps e k l = ap (λ (o : Outcome). bytes (o .buffers .order) k) e ∙ bytes-tabulate (z .settings .nrow) k (s .pivots .notes .order) l
 
 mark-fails : (z : Call) (pz : PassedCall z) (n p : ℕ) → outcomeOf z ≡ leftBy (fails n p) z → (q : ℕ) → z .settings .ncol ≤ q → q < z .settings .nrow
     → bytes (outcomeOf z .buffers .marks) (q - z .settings .ncol) ≡ 0
@@ -139,11 +139,11 @@ module _ (x y : Call) (px : PassedCall x) (py : PassedCall y) (cols : x .setting
   }
   same-outcome (stands s ps) ex ey = record {
     answer = through (λ (o : Outcome). o .answer) _ _ _ _ ex ey (ap (λ (n : ℕ). accepted (reportOf n s)) cols);
-    d = through (λ (o : Outcome). o .buffers .d) _ _ _ _ ex ey (ap (λ (n : ℕ). tabulate n (s .pivots .d)) cols);
-    sub = through (λ (o : Outcome). o .buffers .sub) _ _ _ _ ex ey (ap (λ (n : ℕ). tabulate n (s .pivots .sub)) cols);
-    blocks = through (λ (o : Outcome). o .buffers .blocks) _ _ _ _ ex ey (ap (λ (n : ℕ). tabulate n (s .pivots .blocks)) cols);
-    lifts = through (λ (o : Outcome). o .buffers .lifts) _ _ _ _ ex ey (ap (λ (n : ℕ). tabulate n (s .pivots .lifts)) cols);
-    amounts = through (λ (o : Outcome). o .buffers .amounts) _ _ _ _ ex ey (ap (λ (n : ℕ). tabulate n (s .pivots .amounts)) cols);
+    d = through (λ (o : Outcome). o .buffers .d) _ _ _ _ ex ey (ap (λ (n : ℕ). tabulate n (s .pivots .diagonals .d)) cols);
+    sub = through (λ (o : Outcome). o .buffers .sub) _ _ _ _ ex ey (ap (λ (n : ℕ). tabulate n (s .pivots .diagonals .sub)) cols);
+    blocks = through (λ (o : Outcome). o .buffers .blocks) _ _ _ _ ex ey (ap (λ (n : ℕ). tabulate n (s .pivots .diagonals .blocks)) cols);
+    lifts = through (λ (o : Outcome). o .buffers .lifts) _ _ _ _ ex ey (ap (λ (n : ℕ). tabulate n (s .pivots .notes .lifts)) cols);
+    amounts = through (λ (o : Outcome). o .buffers .amounts) _ _ _ _ ex ey (ap (λ (n : ℕ). tabulate n (s .pivots .notes .amounts)) cols);
     order = λ k l. order-stands x s ps ex k (omega (arith, px .head)) ∙ sym (order-stands y s ps ey k (omega (arith, py .head)));
     lower = λ i j h l.
         panel-stands x s ps ex i j (omega (arith, px .head)) (omega arith) ∙ entry-lower (x .settings .ncol) s ps (given x) i j h l

@@ -133,12 +133,12 @@ step-ahead f q k two p kp w hp hk c h s = cmp c k before (λ e. subst (Ahead (st
 
 -- ---- a step
 
-pub noted-recorded : (ke limit k : ℕ) (p : Pivots) (v : Pivot) → GoodPivot ke limit k v → Recorded k (p .blocks) (p .partners)
-    → Recorded (lastOf k (isBlock (v .diagonal)) + 1) (noted p k (lastOf k (isBlock (v .diagonal))) v .blocks) (noted p k (lastOf k (isBlock (v .diagonal))) v .partners)
+pub noted-recorded : (ke limit k : ℕ) (p : Pivots) (v : Pivot) → GoodPivot ke limit k v → Recorded k (p .diagonals .blocks) (p .partners)
+    → Recorded (lastOf k (isBlock (v .diagonal)) + 1) (noted p k (lastOf k (isBlock (v .diagonal))) v .diagonals .blocks) (noted p k (lastOf k (isBlock (v .diagonal))) v .partners)
 unfolding noted stepBytes stepPartners
 noted-recorded ke limit k p v g w = record {
-  paired = step-paired (p .blocks) k (isBlock (v .diagonal)) (w .paired);
-  ahead = step-ahead (p .blocks) (p .partners) k (isBlock (v .diagonal)) (v .p .0) (v .kp .0) w (g .ahead) (g .from);
+  paired = step-paired (p .diagonals .blocks) k (isBlock (v .diagonal)) (w .paired);
+  ahead = step-ahead (p .diagonals .blocks) (p .partners) k (isBlock (v .diagonal)) (v .p .0) (v .kp .0) w (g .ahead) (g .from);
 }
 
 -- nothing is recorded yet
@@ -159,7 +159,7 @@ past-starts n k f q w h = test (eqb (f k) 1)
     (λ t. rw t (λ c e b. let x : c ≡ k = omega arith in eqb-false (f k) 1 t (ap f (sym x) ∙ b)))
 
 -- a step at k or later leaves the start at kb
-pub noted-starts : (kb k e : ℕ) (p : Pivots) (v : Pivot) → kb ≤ k → k ≤ e → Starts (p .blocks) kb → Starts (noted p k e v .blocks) kb
+pub noted-starts : (kb k e : ℕ) (p : Pivots) (v : Pivot) → kb ≤ k → k ≤ e → Starts (p .diagonals .blocks) kb → Starts (noted p k e v .diagonals .blocks) kb
 unfolding noted put
 noted-starts kb k e p v h l s c x b =
     s c x (sym (rw (ne-eqb c k (λ z. omega arith), ne-eqb c e (λ z. omega arith))) ∙ b)

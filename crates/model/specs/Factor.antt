@@ -8,7 +8,7 @@ use lib.ListN.{length, replicate}
 use lib.Ieee.{Float, lt}
 use Rattle.model.specs.Scalar.{zeroF, reciprocalOf, isFinite}
 use Rattle.model.specs.Matrix.{Row, Mat, view, vec, headOf, rowOf, tabulate, columnMajor}
-use Rattle.model.specs.Step.{Pivots, blockAt, begins, endsBlock}
+use Rattle.model.specs.Step.{Diagonals, blockAt, begins, endsBlock}
 use Rattle.model.specs.Panel.{Panel, tailRowOf}
 use Rattle.model.specs.Head as head
 use Rattle.model.specs.Inertia.{talliedOf}
@@ -84,7 +84,11 @@ start ncol a =
     record {
       a = a;
       mult = head.blank;
-      pivots = record { d = none; sub = none; amounts = none; blocks = λ i. 0; lifts = λ i. 0; order = λ i. i; partners = λ i. 0 };
+      pivots = record {
+        diagonals = record { d = none; sub = none; blocks = λ i. 0 };
+        partners = λ i. 0;
+        notes = record { lifts = λ i. 0; amounts = none; order = λ i. i };
+      };
       rounds = 0;
     }
 
@@ -98,24 +102,24 @@ everyFrom f zero i = true
 everyFrom f (suc n) i = f i && everyFrom f n (i + 1)
 
 -- a pivot's own number at k: the reciprocal of a 1x1; of a block's first column its determinant with its reciprocal; its second column has none
-unfoldable pub pivotSound : Pivots → ℕ → Bool
-pivotSound p k =
-    let det = blockAt (p .d) (p .sub) k .det in
+unfoldable pub pivotSound : Diagonals → ℕ → Bool
+pivotSound D k =
+    let det = blockAt (D .d) (D .sub) k .det in
     let block = isFinite det && isFinite (reciprocalOf det) in
-    let single = endsBlock (p .blocks) k || isFinite (reciprocalOf (p .d k)) in
-    cond (begins (p .blocks) k) block single
+    let single = endsBlock (D .blocks) k || isFinite (reciprocalOf (D .d k)) in
+    cond (begins (D .blocks) k) block single
 
 -- column k after the last column: 'd, subdiagonal, lower head entry, block determinant, or reciprocal of a 1x1 pivot or determinant'
-unfoldable pub columnSound : ℕ → head.State → ℕ → Bool
-columnSound ncol s k =
-    isFinite (s .pivots .d k) && (isFinite (s .pivots .sub k) && (pivotSound (s .pivots) k && everyFrom (λ i. isFinite (s .a i k)) (ncol - k) k))
+unfoldable pub columnSound : ℕ → Diagonals → Mat → ℕ → Bool
+columnSound ncol D a k =
+    isFinite (D .d k) && (isFinite (D .sub k) && (pivotSound D k && everyFrom (λ i. isFinite (a i k)) (ncol - k) k))
 
 -- the least of n columns from k on that is not: refusal 9
-unfoldable pub resultCheck : ℕ → head.State → ℕ → ℕ → Check
-resultCheck ncol s zero k = sound
-resultCheck ncol s (suc n) k =
-    let rest = resultCheck ncol s n (k + 1) in
-    cond (columnSound ncol s k) rest (stop 9 k 0)
+unfoldable pub resultCheck : ℕ → Diagonals → Mat → ℕ → ℕ → Check
+resultCheck ncol D a zero k = sound
+resultCheck ncol D a (suc n) k =
+    let rest = resultCheck ncol D a n (k + 1) in
+    cond (columnSound ncol D a k) rest (stop 9 k 0)
 
 -- the head's answer: a run refusal with its place, or the state and the panels
 pub data HeadAnswer : Type 0 where
@@ -128,7 +132,7 @@ judged (stop n a b) s ps = fails n a
 
 abbrev pub judgedRun : ℕ → head.Run → HeadAnswer
 judgedRun ncol (head.refused n p) = fails n p
-judgedRun ncol (head.done s ps) = judged (resultCheck ncol s ncol 0) s ps
+judgedRun ncol (head.done s ps) = judged (resultCheck ncol (s .pivots .diagonals) (s .a) ncol 0) s ps
 
 unfoldable pub headAnswerOf : Mode → ℕ → ℕ → ℕ → Mat → HeadAnswer
 headAnswerOf mode limit ncol nb a = judgedRun ncol (headRunOf mode limit ncol nb a)
@@ -171,18 +175,18 @@ zeros b = record {
 abbrev pub written : Settings → Mat → head.State → List Panel → Buffers → Buffers
 written c a s ps b = record {
   panel = columnMajor (c .nrow) (c .ncol) (factorEntry (c .ncol) s ps a);
-  d = tabulate (c .ncol) (s .pivots .d);
-  sub = tabulate (c .ncol) (s .pivots .sub);
-  blocks = tabulate (c .ncol) (s .pivots .blocks);
-  lifts = tabulate (c .ncol) (s .pivots .lifts);
-  amounts = tabulate (c .ncol) (s .pivots .amounts);
-  order = tabulate (c .nrow) (s .pivots .order);
+  d = tabulate (c .ncol) (s .pivots .diagonals .d);
+  sub = tabulate (c .ncol) (s .pivots .diagonals .sub);
+  blocks = tabulate (c .ncol) (s .pivots .diagonals .blocks);
+  lifts = tabulate (c .ncol) (s .pivots .notes .lifts);
+  amounts = tabulate (c .ncol) (s .pivots .notes .amounts);
+  order = tabulate (c .nrow) (s .pivots .notes .order);
   marks = tabulate (c .nrow - c .ncol) (λ i. markOf (c .ncol) (factorRowOf (c .ncol) ps (a (c .ncol + i))));
   work = replicate (length (b .work)) zeroF;
 }
 
 abbrev pub reportOf : ℕ → head.State → Report
-reportOf ncol s = record { rounds = s .rounds; inertia = talliedOf ncol (s .pivots .d) (s .pivots .sub) (s .pivots .blocks) }
+reportOf ncol s = let D = s .pivots .diagonals in record { rounds = s .rounds; inertia = talliedOf ncol (D .d) (D .sub) (D .blocks) }
 
 abbrev pub afterHead : HeadAnswer → Settings → Mat → Buffers → Outcome
 afterHead (fails n p) c a b = record { answer = refused n p 0; buffers = zeros b }

@@ -8,11 +8,12 @@ use Rattle.model.specs.Scalar.{_⊕_, _⊖_, _⊗_, zeroF, reciprocalOf,
 use Rattle.model.specs.Root.{sqrtOf}
 use Rattle.model.specs.Matrix.{Row, Mat, put, swapped, exchanged, withColumn}
 use Rattle.model.specs.Choice.{Choice, zeroColumn, single, block, chooseOf}
-use Rattle.model.specs.Step.{one, two, Pivots, blockOf, isBlock, firstNumber, lastNumber, underNumber, firstMultiplier, secondMultiplier, eliminated, rowAfterSteps}
+use Rattle.model.specs.Step.{one, two, Diagonals, Notes, Pivots, blockOf, isBlock, firstNumber, lastNumber, underNumber, firstMultiplier, secondMultiplier, eliminated, rowAfterSteps}
 use Rattle.model.specs.Panel.{Panel, rowAfterPanel}
 use Rattle.model.specs.declared.Mode.{Mode}
 use Rattle.model.specs.declared.Mode.the-variants.{Fail, Lift}
 use Rattle.model.specs.declared.Block.{Block}
+use Rattle.model.specs.declared.Diagonal.{Diagonal}
 use Rattle.model.specs.declared.Diagonal.the-variants.{One, Two}
 use Rattle.model.specs.declared.Pivot.{Pivot}
 
@@ -145,16 +146,28 @@ abbrev pub byteOf : Bool → ℕ
 byteOf b = cond b 1 0
 
 -- of a pivot in columns k to e: what stands at e is put first, so that a 1x1 keeps what is meant for k
+abbrev pub withDiagonal : Diagonals → ℕ → ℕ → Diagonal → Diagonals
+withDiagonal D k e x =
+    record {
+      d = put (put (D .d) e (lastNumber x)) k (firstNumber x);
+      sub = put (put (D .sub) e zeroF) k (underNumber x);
+      blocks = put (put (D .blocks) e 0) k (byteOf (isBlock x));
+    }
+
+abbrev pub withNotes : Notes → ℕ → ℕ → Pivot → Notes
+withNotes n k e v =
+    record {
+      lifts = put (put (n .lifts) e (v .lifted)) k (v .lifted);
+      amounts = put (put (n .amounts) e (v .amount)) k (v .amount);
+      order = swapped (swapped (n .order) k (v .p .0)) e (v .kp .0);
+    }
+
 unfoldable pub noted : Pivots → ℕ → ℕ → Pivot → Pivots
 noted p k e v =
     record {
-      d = put (put (p .d) e (lastNumber (v .diagonal))) k (firstNumber (v .diagonal));
-      sub = put (put (p .sub) e zeroF) k (underNumber (v .diagonal));
-      amounts = put (put (p .amounts) e (v .amount)) k (v .amount);
-      blocks = put (put (p .blocks) e 0) k (byteOf (isBlock (v .diagonal)));
-      lifts = put (put (p .lifts) e (v .lifted)) k (v .lifted);
-      order = swapped (swapped (p .order) k (v .p .0)) e (v .kp .0);
+      diagonals = withDiagonal (p .diagonals) k e (v .diagonal);
       partners = put (put (p .partners) e (v .p .0)) k (v .kp .0);
+      notes = withNotes (p .notes) k e v;
     }
 
 -- ---- a panel's steps in turn
@@ -190,7 +203,16 @@ blank i j = zeroF
 -- the finished panel, with the head's rows from ke on after its steps
 unfoldable pub closed : ℕ → ℕ → State → Panel
 closed kb ke s =
-    record { kb = kb; ke = ke; pivots = s .pivots; mult = s .mult; below = λ i. rowAfterSteps (s .pivots) (s .mult) ke (ke - kb) kb (s .a i) }
+    let D = s .pivots .diagonals in
+    let partners = s .pivots .partners in
+    record {
+      kb = kb;
+      ke = ke;
+      diagonals = D;
+      partners = partners;
+      mult = s .mult;
+      below = λ i. rowAfterSteps D partners (s .mult) ke (ke - kb) kb (s .a i);
+    }
 
 -- the later rows of the head go through the panel, each up to its own column
 unfoldable pub passed : Panel → State → State

@@ -5,42 +5,44 @@ use Prim.Native.Nat.{ℕ, zero, suc, _+_, _-_}
 use lib.Ieee.{Float}
 use Rattle.model.specs.Scalar.{_⊕_, _⊖_, _⊗_, zeroF}
 use Rattle.model.specs.Matrix.{Row, Mat, within}
-use Rattle.model.specs.Step.{Pivots, begins, endsBlock, rowAfterSteps}
+use Rattle.model.specs.Step.{Diagonals, begins, endsBlock, rowAfterSteps}
 
--- columns kb to ke, the pivots, the multipliers of its steps, and the head's rows from ke on after the steps
+-- columns kb to ke, D, the rows exchanged, the multipliers of its steps, and the head's rows from ke on after the steps
 pub record Panel : Type 0 where
   pub kb : ℕ
   pub ke : ℕ
-  pub pivots : Pivots
+  pub diagonals : Diagonals
+  pub partners : ℕ → ℕ
   pub mult : Mat
   pub below : Mat
 
 -- 'L·D of x's row': 'l·d', or 'a·d11 + b·d21' in a block's first column and 'a·d21 + b·d22' in its second
-unfoldable pub timesD : Pivots → Row → Row
-timesD p r = λ c.
-    let plain = r c ⊗ p .d c in
-    let first = r c ⊗ p .d c ⊕ r (c + 1) ⊗ p .sub c in
-    let second = r (c - 1) ⊗ p .sub (c - 1) ⊕ r c ⊗ p .d c in
-    cond (begins (p .blocks) c) first (cond (endsBlock (p .blocks) c) second plain)
+unfoldable pub timesD : Diagonals → Row → Row
+timesD D r = λ c.
+    let plain = r c ⊗ D .d c in
+    let first = r c ⊗ D .d c ⊕ r (c + 1) ⊗ D .sub c in
+    let second = r (c - 1) ⊗ D .sub (c - 1) ⊕ r c ⊗ D .d c in
+    cond (begins (D .blocks) c) first (cond (endsBlock (D .blocks) c) second plain)
 
 -- the sum of f over n places from c on, in order, on top of acc
 unfoldable pub sumFrom : Row → ℕ → ℕ → Float → Float
 sumFrom f c zero acc = acc
 sumFrom f c (suc n) acc = sumFrom f (c + 1) n (acc ⊕ f c)
 
--- 'each term L·D of x's row (formed first) times L of x's column's row', 'summed from +0.0': l is x's row, m its column's row
-abbrev pub accOf : Panel → Row → Row → Float
-accOf p l m = sumFrom (λ k. timesD (p .pivots) l k ⊗ m k) (p .kb) (p .ke - p .kb) zeroF
+-- 'each term L·D of x's row (formed first) times L of x's column's row', 'summed from +0.0', over columns kb to ke: l is x's row, m its column's row
+abbrev pub accOf : Diagonals → (kb ke : ℕ) → Row → Row → Float
+accOf D kb ke l m = sumFrom (λ k. timesD D l k ⊗ m k) kb (ke - kb) zeroF
 
--- the row l less acc, in the columns from ke on and before `end`
-unfoldable pub rowDeferred : Panel → ℕ → Row → Row
-rowDeferred p end l = λ c.
-    let less = l c ⊖ accOf p l (p .below c) in
-    cond (within (p .ke) end c) less (l c)
+-- the row l less acc, in the columns from ke on and before `end`; L of their rows stands in `below`
+unfoldable pub rowDeferred : Diagonals → (kb ke : ℕ) → Mat → ℕ → Row → Row
+rowDeferred D kb ke below end l = λ c.
+    let less = l c ⊖ accOf D kb ke l (below c) in
+    cond (within ke end c) less (l c)
 
 -- a row below the panel goes through its steps, then loses acc
 unfoldable pub rowAfterPanel : Panel → ℕ → Row → Row
-rowAfterPanel p end r = rowDeferred p end (rowAfterSteps (p .pivots) (p .mult) (p .ke) (p .ke - p .kb) (p .kb) r)
+rowAfterPanel p end r =
+    rowDeferred (p .diagonals) (p .kb) (p .ke) (p .below) end (rowAfterSteps (p .diagonals) (p .partners) (p .mult) (p .ke) (p .ke - p .kb) (p .kb) r)
 
 -- a tail row goes through all panels in turn
 unfoldable pub tailRowOf : ℕ → List Panel → Row → Row

@@ -1,11 +1,12 @@
 -- One elimination step: what it does to a row, and how it is read off the record of pivots. From document 01, 'll_bk_panel_step' and 'apply_bk_panel_trailing'.
 -- Definitions only. Assumes nothing.
 use mathlib.Core.Bool.{Bool, true, false, cond, _&&_}
+use mathlib.Core.List.{List}
 use Prim.Native.Nat.{ℕ, zero, suc, _+_, _-_}
 use lib.Dec.{eqb, ltb}
 use lib.Ieee.{Float, eq}
 use Rattle.model.specs.Scalar.{_⊖_, _⊗_, zeroF, reciprocalOf}
-use Rattle.model.specs.Matrix.{Row, Mat, within, exchangedPlace}
+use Rattle.model.specs.Matrix.{Row, Mat, vec, bytes, places, within, exchangedPlace}
 use Rattle.model.specs.declared.Block.{Block}
 use Rattle.model.specs.declared.Diagonal.{Diagonal}
 use Rattle.model.specs.declared.Diagonal.the-variants.{One, Two}
@@ -77,18 +78,37 @@ partnerOf (two k kp b m1 m2) = kp
 unfoldable pub rowAfterStep : ℕ → Step → Row → Row
 rowAfterStep ke s r = eliminated s ke (λ j. r (exchangedPlace (movedColumn s) (partnerOf s) j))
 
--- ---- the record of pivots
+-- ---- the record of pivots, in its parts
 
--- d, subdiagonal, lift amounts; bytes 1 where a block begins and where a lift was; the order; the rows exchanged: at a pivot's first column the one with its
--- last column, at a block's second column the one that was exchanged with its first column before
-pub record Pivots : Type 0 where
+-- D: d, the subdiagonal, and a byte that is 1 where a block begins
+pub record Diagonals : Type 0 where
   pub d : Row
   pub sub : Row
-  pub amounts : Row
   pub blocks : ℕ → ℕ
+
+-- as the three lists of a call hold it
+abbrev pub diagonalsOf : List Float → List Float → List ℕ → Diagonals
+diagonalsOf d sub blocks = record { d = vec d; sub = vec sub; blocks = bytes blocks }
+
+-- what a caller is told beside D and no step reads: a byte that is 1 where a lift was, lift amounts, the order
+pub record Notes : Type 0 where
   pub lifts : ℕ → ℕ
+  pub amounts : Row
   pub order : ℕ → ℕ
+
+abbrev pub notesOf : List ℕ → List Float → List ℕ → Notes
+notesOf lifts amounts order = record { lifts = bytes lifts; amounts = vec amounts; order = places order }
+
+-- D; the rows exchanged, at a pivot's first column the one with its last column, at a block's second column the one that was exchanged with its first
+-- column before; the notes
+pub record Pivots : Type 0 where
+  pub diagonals : Diagonals
   pub partners : ℕ → ℕ
+  pub notes : Notes
+
+abbrev pub pivotsOf : (d sub : List Float) (blocks partners lifts : List ℕ) (amounts : List Float) (order : List ℕ) → Pivots
+pivotsOf d sub blocks partners lifts amounts order =
+    record { diagonals = diagonalsOf d sub blocks; partners = bytes partners; notes = notesOf lifts amounts order }
 
 -- a block begins at k
 abbrev pub begins : (ℕ → ℕ) → ℕ → Bool
@@ -111,11 +131,11 @@ unfoldable pub diagonalAt : Row → Row → (ℕ → ℕ) → ℕ → Diagonal
 diagonalAt d sub blocks k = cond (begins blocks k) (Two (blockAt d sub k)) (One (d k))
 
 -- the step at k; `mult j k` is the multiplier of the head's row j in column k, as it was when the step was taken
-unfoldable pub stepAt : Pivots → Mat → ℕ → Step
-stepAt p mult k =
-    let block = two k (p .partners k) (blockAt (p .d) (p .sub) k) (λ j. mult j k) (λ j. mult j (k + 1)) in
-    let single = one k (p .partners k) (p .d k) (λ j. mult j k) in
-    cond (begins (p .blocks) k) block single
+unfoldable pub stepAt : Diagonals → (partners : ℕ → ℕ) → Mat → ℕ → Step
+stepAt D partners mult k =
+    let block = two k (partners k) (blockAt (D .d) (D .sub) k) (λ j. mult j k) (λ j. mult j (k + 1)) in
+    let single = one k (partners k) (D .d k) (λ j. mult j k) in
+    cond (begins (D .blocks) k) block single
 
 -- the row that the step at k exchanged with k before anything else: k itself at a 1x1
 unfoldable pub firstOf : (blocks partners : ℕ → ℕ) → ℕ → ℕ
@@ -126,12 +146,12 @@ unfoldable pub arrived : (blocks partners : ℕ → ℕ) → ℕ → Row → Row
 arrived blocks partners k r = λ j. r (exchangedPlace k (firstOf blocks partners k) j)
 
 -- and after the step at k
-unfoldable pub rowStepped : Pivots → Mat → ℕ → ℕ → Row → Row
-rowStepped p mult ke k r = rowAfterStep ke (stepAt p mult k) (arrived (p .blocks) (p .partners) k r)
+unfoldable pub rowStepped : Diagonals → (partners : ℕ → ℕ) → Mat → ℕ → ℕ → Row → Row
+rowStepped D partners mult ke k r = rowAfterStep ke (stepAt D partners mult k) (arrived (D .blocks) partners k r)
 
 -- at most n steps from column k on, up to ke
-unfoldable pub rowAfterSteps : Pivots → Mat → ℕ → ℕ → ℕ → Row → Row
-rowAfterSteps p mult ke zero k r = r
-rowAfterSteps p mult ke (suc n) k r =
-    let next = rowAfterSteps p mult ke n (pastOf (p .blocks) k) (rowStepped p mult ke k r) in
+unfoldable pub rowAfterSteps : Diagonals → (partners : ℕ → ℕ) → Mat → ℕ → ℕ → ℕ → Row → Row
+rowAfterSteps D partners mult ke zero k r = r
+rowAfterSteps D partners mult ke (suc n) k r =
+    let next = rowAfterSteps D partners mult ke n (pastOf (D .blocks) k) (rowStepped D partners mult ke k r) in
     cond (ltb k ke) next r

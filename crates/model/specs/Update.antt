@@ -7,7 +7,7 @@ use lib.ListN.{length}
 use lib.Ieee.{Float}
 use Rattle.model.specs.Scalar.{_⊖_, _⊗_, zeroF, isFinite}
 use Rattle.model.specs.Matrix.{Row, Mat, view, vec, bytes, columnMajor}
-use Rattle.model.specs.Step.{Pivots, begins}
+use Rattle.model.specs.Step.{diagonalsOf, begins}
 use Rattle.model.specs.Panel.{timesD, sumFrom}
 use Rattle.model.specs.Inertia.{checkBytes}
 use Rattle.model.specs.Factor.{shapeSound, everyFrom}
@@ -82,18 +82,13 @@ updateCheck t k panel =
 
 -- ---- the update
 
--- D as the descendant has it; its order and lifts play no part
-abbrev pub pivotsOf : Descendant → Pivots
-pivotsOf k =
-    record { d = vec (k .d); sub = vec (k .sub); amounts = λ i. zeroF; blocks = bytes (k .blocks); lifts = λ i. 0; order = λ i. i; partners = λ i. 0 }
-
 -- the descendant's row r below its head, as a row of its columns
 abbrev pub descendantRow : Descendant → ℕ → Row
 descendantRow k r = view (k .nk + k .mk) (k .panel) (k .nk + r)
 
 -- 'each landing row c forms v', 'each row from c on subtracts acc, summed from +0.0 in column order'
 abbrev pub updateAcc : Descendant → ℕ → ℕ → Float
-updateAcc k r c = sumFrom (λ j. descendantRow k r j ⊗ timesD (pivotsOf k) (descendantRow k c) j) 0 (k .nk) zeroF
+updateAcc k r c = sumFrom (λ j. descendantRow k r j ⊗ timesD (diagonalsOf (k .d) (k .sub) (k .blocks)) (descendantRow k c) j) 0 (k .nk) zeroF
 
 -- row i and column j of the target: less acc where both are rows of the descendant, the column's not after the row's
 unfoldable pub updated : Target → Descendant → Mat → Mat

@@ -25,6 +25,16 @@ pub struct Settings {
     pub limit: usize,
 }
 
+// The panel at work: the node's rows and columns, the width by which the multipliers are laid out, and the panel's own
+// columns, kb to ke.
+pub struct Frame {
+    pub nrow: usize,
+    pub ncol: usize,
+    pub nb: usize,
+    pub kb: usize,
+    pub ke: usize,
+}
+
 // A two-by-two pivot with its determinant, passed by value from the choice to elimination, tail and inertia.
 pub struct Block {
     pub d11: f64,

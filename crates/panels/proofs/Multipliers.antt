@@ -9,8 +9,7 @@ use lib.Dec.{ltb}
 use lib.Ieee.{Float}
 use Rattle.model.specs.Matrix.{Row, Mat, put, withColumn, exchanged}
 use Rattle.model.specs.Choice.{Choice, zeroColumn, single, block, chooseOf}
-use Rattle.model.specs.Step.{Pivots, begins, blockAt, pastOf, stepAt, arrived, rowAfterStep, rowStepped, rowAfterSteps}
-use Rattle.model.specs.Panel.{rowDeferred}
+use Rattle.model.specs.Step.{Diagonals, Pivots, begins, blockAt, pastOf, stepAt, arrived, rowAfterStep, rowStepped, rowAfterSteps}
 use Rattle.model.specs.Head.{SettledOne, oneRefused, oneIs, settledOne, SettledTwo, twoRefused, twoIs, settledTwo, keptOne, keptTwo, afterOne, afterTwo}
 use Rattle.model.specs.Head.{State, Tried, tryBy, tryOf, lastOf, noted, Progress, going, after, panelOf, blank}
 use Rattle.model.specs.declared.Block.{Block}
@@ -35,28 +34,28 @@ record Same (ke : ℕ) (f : ℕ → ℕ) (m n : Mat) (c : ℕ) : Type 0 where
 abbrev Kept : ℕ → ℕ → ℕ → (ℕ → ℕ) → Mat → Mat → Type 0
 Kept kb ke k f m n = (c : ℕ) → kb ≤ c → c < k → Same ke f m n c
 
-step-at-same : (p : Pivots) (m n : Mat) (ke k : ℕ) → Same ke (p .blocks) m n k → rowAfterStep ke (stepAt p m k) ≡ rowAfterStep ke (stepAt p n k)
-unfolding stepAt lastOf
-step-at-same p m n ke k s =
-    test (begins (p .blocks) k)
-    (λ t. rw t (step-same k (p .partners k) ke (λ j. m j k) (λ j. m j (k + 1)) (λ j. n j k) (λ j. n j (k + 1)) (Two (blockAt (p .d) (p .sub) k))
-    (λ j h l. s .own j (rw t h) l) (λ j h l. s .next t j h l)))
-    (λ t. rw t (step-same k (p .partners k) ke (λ j. m j k) (λ j. m j k) (λ j. n j k) (λ j. n j k) (One (p .d k))
-    (λ j h l. s .own j (rw t h) l) (λ j h l. s .own j (rw t h) l)))
+module _ (D : Diagonals) (q : ℕ → ℕ) (m n : Mat) (ke : ℕ) where
+  step-at-same : (k : ℕ) → Same ke (D .blocks) m n k → rowAfterStep ke (stepAt D q m k) ≡ rowAfterStep ke (stepAt D q n k)
+  unfolding stepAt lastOf
+  step-at-same k s =
+      test (begins (D .blocks) k)
+      (λ t. rw t (step-same k (q k) ke (λ j. m j k) (λ j. m j (k + 1)) (λ j. n j k) (λ j. n j (k + 1)) (Two (blockAt (D .d) (D .sub) k))
+      (λ j h l. s .own j (rw t h) l) (λ j h l. s .next t j h l)))
+      (λ t. rw t (step-same k (q k) ke (λ j. m j k) (λ j. m j k) (λ j. n j k) (λ j. n j k) (One (D .d k))
+      (λ j h l. s .own j (rw t h) l) (λ j h l. s .own j (rw t h) l)))
 
-stepped-same : (p : Pivots) (m n : Mat) (ke k : ℕ) (r : Row) → Same ke (p .blocks) m n k → rowStepped p m ke k r ≡ rowStepped p n ke k r
-unfolding rowStepped
-stepped-same p m n ke k r s = ap (λ (f : Row → Row). f (arrived (p .blocks) (p .partners) k r)) (step-at-same p m n ke k s)
+  stepped-same : (k : ℕ) (r : Row) → Same ke (D .blocks) m n k → rowStepped D q m ke k r ≡ rowStepped D q n ke k r
+  unfolding rowStepped
+  stepped-same k r s = ap (λ (f : Row → Row). f (arrived (D .blocks) q k r)) (step-at-same k s)
 
-rows-same : (p : Pivots) (m n : Mat) (kb ke : ℕ) → Kept kb ke ke (p .blocks) m n → (l k : ℕ) (r : Row) → kb ≤ k
-    → rowAfterSteps p m ke l k r ≡ rowAfterSteps p n ke l k r
-unfolding rowAfterSteps
-rows-same p m n kb ke s zero k r h = refl
-rows-same p m n kb ke s (suc l) k r h =
-    test (ltb k ke)
-    (λ t. rw t (ap (λ (q : Row). rowAfterSteps p m ke l (pastOf (p .blocks) k) q) (stepped-same p m n ke k r (s k h (ltb-true k ke t)))
-    ∙ rows-same p m n kb ke s l (pastOf (p .blocks) k) (rowStepped p n ke k r) (omega (arith, past-more (p .blocks) k))))
-    (λ t. rw t)
+  rows-same : (kb : ℕ) → Kept kb ke ke (D .blocks) m n → (l k : ℕ) (r : Row) → kb ≤ k → rowAfterSteps D q m ke l k r ≡ rowAfterSteps D q n ke l k r
+  unfolding rowAfterSteps
+  rows-same kb s zero k r h = refl
+  rows-same kb s (suc l) k r h =
+      test (ltb k ke)
+      (λ t. rw t (ap (λ (x : Row). rowAfterSteps D q m ke l (pastOf (D .blocks) k) x) (stepped-same k r (s k h (ltb-true k ke t)))
+      ∙ rows-same kb s l (pastOf (D .blocks) k) (rowStepped D q n ke k r) (omega (arith, past-more (D .blocks) k))))
+      (λ t. rw t)
 
 -- ---- what a step keeps
 
@@ -123,17 +122,16 @@ module _ (nrow ncol kb ke : ℕ) where
   abbrev at : Mat → Mat → Pivots → ℕ → State
   at a m p r = record { a = a; mult = m; pivots = p; rounds = r }
 
-  onward-same : (k : ℕ) (a m n : Mat) (p : Pivots) (r : ℕ) → Kept kb ke ke (p .blocks) m n
+  onward-same : (k : ℕ) (a m n : Mat) (p : Pivots) (r : ℕ) → Kept kb ke ke (p .diagonals .blocks) m n
       → onward nrow ncol kb ke (going k (at a m p r)) ≡ onward nrow ncol kb ke (going k (at a n p r))
-  unfolding wholePassed wholeClosed deferredRows rowDeferred
+  unfolding wholePassed wholeClosed
   onward-same k a m n p r s =
-      let later : Mat → Mat = λ b. deferredRows nrow ncol (record { kb = kb; ke = ke; pivots = p; mult = m; below = b }) b in
-      ap (λ (g : Row → Row). going ke (at (later (below ke nrow g a)) blank p r))
-      (fun-ext λ x. rows-same p m n kb ke s (ke - kb) kb x (omega arith))
+      ap (λ (g : Row → Row). going ke (at (deferredRows nrow ncol (p .diagonals) kb ke (below ke nrow g a)) blank p r))
+      (fun-ext λ x. rows-same (p .diagonals) (p .partners) m n ke kb s (ke - kb) kb x (omega arith))
 
   -- one step, where `more` says the same of those that follow
-  module _ (k : ℕ) (p : Pivots) (r : ℕ) (m n : Mat) (kept : Kept kb ke k (p .blocks) m n) (f : ℕ → State → Progress)
-      (more : (b : Bool) (a x y : Mat) (q : Pivots) (z : ℕ) → Kept kb ke (lastOf k b + 1) (q .blocks) x y
+  module _ (k : ℕ) (p : Pivots) (r : ℕ) (m n : Mat) (kept : Kept kb ke k (p .diagonals .blocks) m n) (f : ℕ → State → Progress)
+      (more : (b : Bool) (a x y : Mat) (q : Pivots) (z : ℕ) → Kept kb ke (lastOf k b + 1) (q .diagonals .blocks) x y
       → onward nrow ncol kb ke (f (lastOf k b + 1) (at a x q z)) ≡ onward nrow ncol kb ke (f (lastOf k b + 1) (at a y q z))) where
     -- the steps t and u, from m and from n, end alike
     abbrev Alike : Mat → Tried → Tried → Type 0
@@ -142,12 +140,12 @@ module _ (nrow ncol kb ke : ℕ) where
     one-alike : (s a : Mat) (kp : ℕ) (d : SettledOne) → Alike s (afterOne ke a m k kp d) (afterOne ke a n k kp d)
     unfolding noted lastOf
     one-alike s a kp (oneRefused z) = refl
-    one-alike s a kp (oneIs d l x) = more false _ _ _ _ _ (kept-one kb ke k (p .blocks) m n (exchanged k kp ke a) kept d)
+    one-alike s a kp (oneIs d l x) = more false _ _ _ _ _ (kept-one kb ke k (p .diagonals .blocks) m n (exchanged k kp ke a) kept d)
 
     two-alike : (s a : Mat) (q kp : ℕ) (d : SettledTwo) → Alike s (afterTwo ke a m k q kp d) (afterTwo ke a n k q kp d)
     unfolding noted lastOf
     two-alike s a q kp (twoRefused z) = refl
-    two-alike s a q kp (twoIs b l x z) = more true _ _ _ _ _ (kept-two kb ke k (p .blocks) m n (exchanged (k + 1) kp ke a) kept b)
+    two-alike s a q kp (twoIs b l x z) = more true _ _ _ _ _ (kept-two kb ke k (p .diagonals .blocks) m n (exchanged (k + 1) kp ke a) kept b)
 
     by-alike : (a : Mat) (mode : Mode) (limit : ℕ) (c : Choice) → Alike a (tryBy ke a m mode limit k c) (tryBy ke a n mode limit k c)
     by-alike a Fail limit zeroColumn = refl
@@ -157,7 +155,7 @@ module _ (nrow ncol kb ke : ℕ) where
     by-alike a Fail limit (block q kp) = two-alike a (exchanged k q ke a) q kp (settledTwo Fail limit _)
     by-alike a (Lift floor) limit (block q kp) = two-alike a (exchanged k q ke a) q kp (settledTwo (Lift floor) limit _)
 
-  panel-any : (mode : Mode) (limit l k : ℕ) (a m n : Mat) (p : Pivots) (r : ℕ) → ke - k ≤ l → Kept kb ke k (p .blocks) m n
+  panel-any : (mode : Mode) (limit l k : ℕ) (a m n : Mat) (p : Pivots) (r : ℕ) → ke - k ≤ l → Kept kb ke k (p .diagonals .blocks) m n
       → onward nrow ncol kb ke (panelOf ke mode limit l k (at a m p r)) ≡ onward nrow ncol kb ke (panelOf ke mode limit l k (at a n p r))
   unfolding panelOf tryOf
   panel-any mode limit zero k a m n p r h kept = onward-same k a m n p r (λ c b e. kept c b (omega arith))

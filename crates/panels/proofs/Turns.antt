@@ -6,6 +6,7 @@ use borrow.Author.Tests.{lt-ltb, le-ltb, ltb-true}
 use lib.Dec.{ltb}
 use Rattle.model.specs.Head.{State, Progress, stopped, going, panelOf}
 use Rattle.model.specs.declared.Mode.{Mode}
+use Rattle.model.specs.declared.Settings.{Settings}
 use Rattle.model.specs.declared.Refusal.{Refusal}
 use Rattle.model.proofs.Cases.{test}
 use Rattle.whole.specs.Whole.{WholeRun, ended, wholeContinued, wholeClosed, wholePassed, wholePanelsOf}
@@ -91,38 +92,25 @@ run-begin mode limit nrow ncol nb s = let e : ncol - 0 ≡ ncol = omega arith in
 
 -- ---- what the loop asks
 
-pub turn-pre : (nrow ncol nb kb ke : ℕ) (mode : Mode) (limit len lenW len₀ lenW₀ : ℕ) → RunPre nrow ncol nb mode limit len₀ lenW₀
-    → len ≡ len₀ → lenW ≡ lenW₀ → kb < ncol → ke ≡ min (kb + nb) ncol → TurnPre nrow ncol nb kb ke mode limit len lenW
-turn-pre nrow ncol nb kb ke mode limit len lenW len₀ lenW₀ r e f h w =
+pub turn-pre : (c : Settings) (kb ke len lenW len₀ lenW₀ : ℕ) → RunPre c len₀ lenW₀ → len ≡ len₀ → lenW ≡ lenW₀ → kb < c .ncol → ke ≡ min (kb + c .nb) (c .ncol)
+    → TurnPre (record { nrow = c .nrow; ncol = c .ncol; nb = c .nb; kb = kb; ke = ke }) len lenW
+turn-pre c kb ke len lenW len₀ lenW₀ r e f h w =
     let some = r .some in
     record {
-      run = record {
-        panel = e ∙ r .panel;
-        head = r .head;
-        fewColumns = r .fewColumns;
-        fewRows = r .fewRows;
-        some = r .some;
-        narrow = r .narrow;
-        rounds = r .rounds;
-        work = omega (arith, r .work);
-      };
+      panel = e ∙ r .panel;
+      head = r .head;
+      fewColumns = r .fewColumns;
+      fewRows = r .fewRows;
+      narrow = r .narrow;
       here = omega arith;
       cols = omega arith;
       width = omega arith;
+      work = omega (arith, r .work);
     }
 
-pub holds-same : (nrow ncol ld ls la lb ll lo lp ld₀ ls₀ la₀ lb₀ ll₀ lo₀ lp₀ : ℕ) → TurnHolds nrow ncol ld₀ ls₀ la₀ lb₀ ll₀ lo₀ lp₀
-    → ld ≡ ld₀ → ls ≡ ls₀ → la ≡ la₀ → lb ≡ lb₀ → ll ≡ ll₀ → lo ≡ lo₀ → lp ≡ lp₀ → TurnHolds nrow ncol ld ls la lb ll lo lp
-holds-same nrow ncol ld ls la lb ll lo lp ld₀ ls₀ la₀ lb₀ ll₀ lo₀ lp₀ h e1 e2 e3 e4 e5 e6 e7 =
-    record {
-      d = e1 ∙ h .d;
-      sub = e2 ∙ h .sub;
-      amounts = e3 ∙ h .amounts;
-      blocks = e4 ∙ h .blocks;
-      lifts = e5 ∙ h .lifts;
-      order = e6 ∙ h .order;
-      partners = e7 ∙ h .partners;
-    }
+pub holds-same : (nrow ncol ld ls lb lp ll la lo ld₀ ls₀ lb₀ lp₀ ll₀ la₀ lo₀ : ℕ) → TurnHolds nrow ncol ld₀ ls₀ lb₀ lp₀ ll₀ la₀ lo₀
+    → ld ≡ ld₀ → ls ≡ ls₀ → lb ≡ lb₀ → lp ≡ lp₀ → ll ≡ ll₀ → la ≡ la₀ → lo ≡ lo₀ → TurnHolds nrow ncol ld ls lb lp ll la lo
+holds-same nrow ncol ld ls lb lp ll la lo ld₀ ls₀ lb₀ lp₀ ll₀ la₀ lo₀ h e1 e2 e3 e4 e5 e6 e7 = rw (e1, e2, e3, e4, e5, e6, e7) h
 
 -- the notes of a panel, as the next one begins with them
 pub noted-more : (k ke ke′ rounds : ℕ) (blocks partners : ℕ → ℕ) → NotedTo k ke rounds blocks partners → ke ≤ ke′

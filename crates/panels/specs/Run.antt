@@ -3,7 +3,8 @@ use mathlib.Core.Path.{_≡_}
 use Prim.Native.Nat.{ℕ, _+_, _*_, _≤_, _<_}
 use Rattle.model.specs.Head.{State}
 use Rattle.model.specs.Factor.{workLength}
-use Rattle.model.specs.declared.Mode.{Mode}
+use Rattle.model.specs.declared.Frame.{Frame}
+use Rattle.model.specs.declared.Settings.{Settings}
 use Rattle.whole.specs.Whole.{WholeRun, stoppedAt, ended}
 use Rattle.bunch_kaufman.specs.Answers.{numberOf, placeOf, ColumnOnly}
 use Rattle.bunch_kaufman.specs.Terms.{LimitPre, NotedTo}
@@ -20,46 +21,39 @@ abbrev pub RunLeaves : ℕ → Ran → (ℕ → ℕ) → (ℕ → ℕ) → Type 
 RunLeaves ncol (Stopped r) blocks partners = ColumnOnly r
 RunLeaves ncol (Done rounds) blocks partners = NotedTo ncol (ncol + 1) rounds blocks partners
 
--- shape, width and limit past the entry checks
-pub record RunPre (nrow ncol nb : ℕ) (mode : Mode) (limit len lenW : ℕ) : Type 0 where
-  pub panel : len ≡ nrow * ncol
-  pub head : ncol ≤ nrow
-  pub fewColumns : ncol ≤ 128
-  pub fewRows : nrow ≤ 1024
-  pub some : 1 ≤ nb
-  pub narrow : nb ≤ 64
-  pub rounds : LimitPre mode limit
-  pub work : workLength nrow nb ≤ lenW
+-- shape, width and limit past the entry checks; the width is the one that is used
+pub record RunPre (c : Settings) (len lenW : ℕ) : Type 0 where
+  pub panel : len ≡ c .nrow * c .ncol
+  pub head : c .ncol ≤ c .nrow
+  pub fewColumns : c .ncol ≤ 128
+  pub fewRows : c .nrow ≤ 1024
+  pub some : 1 ≤ c .nb
+  pub narrow : c .nb ≤ 64
+  pub rounds : LimitPre (c .mode) (c .limit)
+  pub work : workLength (c .nrow) (c .nb) ≤ lenW
 
--- and a panel of it
-pub record TurnPre (nrow ncol nb kb ke : ℕ) (mode : Mode) (limit len lenW : ℕ) : Type 0 where
-  pub run : RunPre nrow ncol nb mode limit len lenW
-  pub here : kb < ke
-  pub cols : ke ≤ ncol
-  pub width : ke ≤ kb + nb
+-- a panel of a node, with its part of the working buffer
+pub record TurnPre (at : Frame) (len lenW : ℕ) : Type 0 where
+  pub panel : len ≡ at .nrow * at .ncol
+  pub head : at .ncol ≤ at .nrow
+  pub fewColumns : at .ncol ≤ 128
+  pub fewRows : at .nrow ≤ 1024
+  pub narrow : at .nb ≤ 64
+  pub here : at .kb < at .ke
+  pub cols : at .ke ≤ at .ncol
+  pub width : at .ke ≤ at .kb + at .nb
+  pub work : workLength (at .nrow) (at .nb) ≤ lenW
 
--- the buffers of the record of pivots
-pub record TurnHolds (nrow ncol ld ls la lb ll lo lp : ℕ) : Type 0 where
+-- the buffers of D and of the exchanges
+pub record DiagonalsHold (ncol ld ls lb lp : ℕ) : Type 0 where
   pub d : ld ≡ ncol
   pub sub : ls ≡ ncol
-  pub amounts : la ≡ ncol
   pub blocks : lb ≡ ncol
+  pub partners : lp ≡ 128
+
+-- and those of the notes
+pub record TurnHolds (nrow ncol ld ls lb lp ll la lo : ℕ) : Type 0 where
+  pub diagonals : DiagonalsHold ncol ld ls lb lp
   pub lifts : ll ≡ ncol
+  pub amounts : la ≡ ncol
   pub order : lo ≡ nrow
-  pub partners : lp ≡ 128
-
--- a panel whose steps were taken: its sizes, and the buffers that the rows below it and the later columns read
-pub record AfterPre (nrow ncol nb kb ke len lenW ld ls lb lp : ℕ) : Type 0 where
-  pub panel : len ≡ nrow * ncol
-  pub head : ncol ≤ nrow
-  pub fewRows : nrow ≤ 1024
-  pub narrow : nb ≤ 64
-  pub here : kb < ke
-  pub cols : ke ≤ ncol
-  pub width : ke ≤ kb + nb
-  pub work : workLength nrow nb ≤ lenW
-  pub d : ld ≡ ncol
-  pub sub : ls ≡ ncol
-  pub blocks : lb ≡ ncol
-  pub partners : lp ≡ 128
-  pub fewColumns : ncol ≤ 128

@@ -3,15 +3,14 @@ use mathlib.Core.List.{List}
 use Prim.Native.Nat.{ℕ, _-_}
 use lib.Ieee.{Float}
 use Rattle.model.specs.Matrix.{view}
+use Rattle.model.specs.Step.{Pivots}
 use Rattle.model.specs.Head.{State, Progress, stopped, going, panelOf, blank}
 use Rattle.model.specs.declared.Mode.{Mode}
 use Rattle.whole.specs.Whole.{wholeClosed, wholePassed}
-use Rattle.bunch_kaufman.specs.Slices.{pivots}
 
 -- the state between two panels: no multiplier is kept
-abbrev pub between : ℕ → List Float → List Float → List Float → List Float → List ℕ → List ℕ → List ℕ → List ℕ → ℕ → State
-between nrow panel d sub amounts blocks lifts order partners rounds =
-    record { a = view nrow panel; mult = blank; pivots = pivots d sub amounts blocks lifts order partners; rounds = rounds }
+abbrev pub between : ℕ → List Float → Pivots → ℕ → State
+between nrow panel p rounds = record { a = view nrow panel; mult = blank; pivots = p; rounds = rounds }
 
 -- a panel whose steps were taken goes on to the rows below it and the later columns
 abbrev pub onward : ℕ → ℕ → ℕ → ℕ → Progress → Progress

@@ -4,20 +4,21 @@
 ghost use mathlib.Core.Path.{_≡_};
 ghost use Prim.Native.Nat.{_+_, _-_, _*_, _≤_, min};
 ghost use lib.ListN.{length, take};
-ghost use Rattle.model.specs.Matrix.{view, vec, bytes};
-ghost use Rattle.model.specs.Step.{rowAfterSteps};
+ghost use Rattle.model.specs.Matrix.{view, bytes};
+ghost use Rattle.model.specs.Step.{diagonalsOf, pivotsOf, rowAfterSteps};
 ghost use Rattle.model.specs.Head.{panelOf};
-ghost use Rattle.whole.specs.Whole.{below, wholePanelsOf};
+ghost use Rattle.whole.specs.Whole.{below, deferredRows, wholePanelsOf};
 ghost use Rattle.eliminate.specs.Eliminate.{inPanel};
-ghost use Rattle.tail.specs.Tail.{pivotsOf, StepsPre};
-ghost use Rattle.deferred.specs.Deferred.{deferred};
+ghost use Rattle.tail.specs.Tail.{StepsPre};
 ghost use Rattle.bunch_kaufman.specs.Slices.{state};
 ghost use Rattle.bunch_kaufman.specs.Answers.{progress};
-ghost use Rattle.bunch_kaufman.specs.Terms.{NotedTo, RanTo};
+ghost use Rattle.bunch_kaufman.specs.Terms.{LimitPre, NotedTo, RanTo};
 ghost use Rattle.panels.specs.Turn.{between, turnOf};
-ghost use Rattle.panels.specs.Run.{runOf, RunLeaves, RunPre, TurnPre, TurnHolds, AfterPre};
+ghost use Rattle.panels.specs.Run.{runOf, RunLeaves, RunPre, TurnPre, DiagonalsHold, TurnHolds};
 use bunch_kaufman::Ran;
+use model::Frame;
 use model::Mode;
+use model::Settings;
 
 // Where the panel that begins at kb ends.
 fn panel_end(kb: usize, nb: usize, ncol: usize) -> usize
@@ -38,48 +39,43 @@ fn steps(
     work: &mut [f64],
     d: &mut [f64],
     sub: &mut [f64],
-    amounts: &mut [f64],
     blocks: &mut [u8],
-    lifts: &mut [u8],
-    order: &mut [usize],
     partners: &mut [usize],
-    nrow: usize,
-    ncol: usize,
-    nb: usize,
-    kb: usize,
-    ke: usize,
+    lifts: &mut [u8],
+    amounts: &mut [f64],
+    order: &mut [usize],
+    at: Frame,
     mode: Mode,
     limit: usize,
     before: usize,
 ) -> Ran
-    requires { ⌜ TurnPre nrow ncol nb kb ke mode limit (length (now panel)) (length (now work)) ⌝ }
-    requires { ⌜ TurnHolds nrow ncol (length (now d)) (length (now sub)) (length (now amounts)) (length (now blocks))
-        (length (now lifts)) (length (now order)) (length (now partners)) ⌝ }
-    requires { ⌜ NotedTo kb ke before (bytes (now blocks)) (bytes (now partners)) ⌝ }
-    ensures { λ r. ⌜ progress r ke (state nrow nb kb ke (now (panel .exit)) (take (nb * nb) (now (work .exit)))
-        (now (d .exit)) (now (sub .exit)) (now (amounts .exit)) (now (blocks .exit)) (now (lifts .exit))
-        (now (order .exit)) (now (partners .exit))) ≡ panelOf ke mode limit (ke - kb) kb (state nrow nb kb ke
-        (now (panel .entry)) (take (nb * nb) (now (work .entry))) (now (d .entry)) (now (sub .entry))
-        (now (amounts .entry)) (now (blocks .entry)) (now (lifts .entry)) (now (order .entry)) (now (partners .entry))
-        before) ⌝ }
-    ensures { λ r. ⌜ RanTo kb ke r (bytes (now (blocks .exit))) (bytes (now (partners .exit))) ⌝ }
+    requires { ⌜ TurnPre at (length (now panel)) (length (now work)) ⌝ }
+    requires { ⌜ TurnHolds (at .nrow) (at .ncol) (length (now d)) (length (now sub)) (length (now blocks))
+        (length (now partners)) (length (now lifts)) (length (now amounts)) (length (now order)) ⌝ }
+    requires { ⌜ LimitPre mode limit ⌝ }
+    requires { ⌜ NotedTo (at .kb) (at .ke) before (bytes (now blocks)) (bytes (now partners)) ⌝ }
+    ensures { λ r. ⌜ progress r (at .ke) (state at (now (panel .exit)) (take (at .nb * at .nb) (now (work .exit)))
+        (pivotsOf (now (d .exit)) (now (sub .exit)) (now (blocks .exit)) (now (partners .exit)) (now (lifts .exit))
+        (now (amounts .exit)) (now (order .exit))))
+        ≡ panelOf (at .ke) mode limit (at .ke - at .kb) (at .kb) (state at (now (panel .entry))
+        (take (at .nb * at .nb) (now (work .entry)))
+        (pivotsOf (now (d .entry)) (now (sub .entry)) (now (blocks .entry)) (now (partners .entry))
+        (now (lifts .entry)) (now (amounts .entry)) (now (order .entry))) before) ⌝ }
+    ensures { λ r. ⌜ RanTo (at .kb) (at .ke) r (bytes (now (blocks .exit))) (bytes (now (partners .exit))) ⌝ }
 {
+    let nb = at.nb;
     let square = nb * nb;
     bunch_kaufman::ll_bk_panel_step(
         panel,
         &mut work[0..square],
         d,
         sub,
-        amounts,
         blocks,
-        lifts,
-        order,
         partners,
-        nrow,
-        ncol,
-        nb,
-        kb,
-        ke,
+        lifts,
+        amounts,
+        order,
+        at,
         mode,
         limit,
         before,
@@ -94,33 +90,20 @@ fn rows_below(
     sub: &[f64],
     blocks: &[u8],
     partners: &[usize],
-    nrow: usize,
-    ncol: usize,
-    nb: usize,
-    kb: usize,
-    ke: usize,
+    at: Frame,
 )
-    requires { ⌜ AfterPre nrow ncol nb kb ke (length (now panel)) (length (now work)) (length (now d))
-        (length (now sub)) (length (now blocks)) (length (now partners)) ⌝ }
-    requires { ⌜ StepsPre kb ke (bytes (now blocks)) (bytes (now partners)) ⌝ }
-    ensures { λ _. ⌜ view nrow (now (panel .exit)) ≡ below ke nrow (rowAfterSteps (pivotsOf (now (d .entry))
-        (now (sub .entry)) (now (blocks .entry)) (now (partners .entry))) (inPanel kb ke (view nb
-        (take (nb * nb) (now (work .entry))))) ke (ke - kb) kb) (view nrow (now (panel .entry))) ⌝ }
+    requires { ⌜ TurnPre at (length (now panel)) (length (now work)) ⌝ }
+    requires { ⌜ DiagonalsHold (at .ncol) (length (now d)) (length (now sub)) (length (now blocks))
+        (length (now partners)) ⌝ }
+    requires { ⌜ StepsPre (at .kb) (at .ke) (bytes (now blocks)) (bytes (now partners)) ⌝ }
+    ensures { λ _. ⌜ view (at .nrow) (now (panel .exit)) ≡ below (at .ke) (at .nrow) (rowAfterSteps
+        (diagonalsOf (now (d .entry)) (now (sub .entry)) (now (blocks .entry))) (bytes (now (partners .entry)))
+        (inPanel (at .kb) (at .ke) (view (at .nb) (take (at .nb * at .nb) (now (work .entry)))))
+        (at .ke) (at .ke - at .kb) (at .kb)) (view (at .nrow) (now (panel .entry))) ⌝ }
 {
+    let nb = at.nb;
     let square = nb * nb;
-    tail::apply_bk_panel_trailing(
-        panel,
-        &work[0..square],
-        d,
-        sub,
-        blocks,
-        partners,
-        nrow,
-        ncol,
-        nb,
-        kb,
-        ke,
-    );
+    tail::apply_bk_panel_trailing(panel, &work[0..square], d, sub, blocks, partners, at);
 }
 
 // The later columns, by the panel's L and D. The working buffer holds L·D.
@@ -131,21 +114,23 @@ fn later_columns(
     sub: &[f64],
     blocks: &[u8],
     partners: &[usize],
-    nrow: usize,
-    ncol: usize,
-    nb: usize,
-    kb: usize,
-    ke: usize,
+    at: Frame,
 )
-    requires { ⌜ AfterPre nrow ncol nb kb ke (length (now panel)) (length (now work)) (length (now d))
-        (length (now sub)) (length (now blocks)) (length (now partners)) ⌝ }
-    requires { ⌜ StepsPre kb ke (bytes (now blocks)) (bytes (now partners)) ⌝ }
-    ensures { λ _. ⌜ view nrow (now (panel .exit)) ≡ deferred nrow ncol kb ke (vec (now (d .entry)))
-        (vec (now (sub .entry))) (bytes (now (blocks .entry))) (view nrow (now (panel .entry))) ⌝ }
+    requires { ⌜ TurnPre at (length (now panel)) (length (now work)) ⌝ }
+    requires { ⌜ DiagonalsHold (at .ncol) (length (now d)) (length (now sub)) (length (now blocks))
+        (length (now partners)) ⌝ }
+    requires { ⌜ StepsPre (at .kb) (at .ke) (bytes (now blocks)) (bytes (now partners)) ⌝ }
+    ensures { λ _. ⌜ view (at .nrow) (now (panel .exit)) ≡ deferredRows (at .nrow) (at .ncol)
+        (diagonalsOf (now (d .entry)) (now (sub .entry)) (now (blocks .entry))) (at .kb) (at .ke)
+        (view (at .nrow) (now (panel .entry))) ⌝ }
 {
+    let ke = at.ke;
+    let ncol = at.ncol;
     if ke == ncol {
         return;
     }
+    let nrow = at.nrow;
+    let nb = at.nb;
     let size = nb * nrow;
     deferred::deferred_update(
         panel,
@@ -155,7 +140,7 @@ fn later_columns(
         &mut work[0..size],
         nrow,
         ncol,
-        kb,
+        at.kb,
         ke,
     );
 }
@@ -163,49 +148,43 @@ fn later_columns(
 // One panel: its steps, the rows below it, the later columns.
 fn turn(
     panel: &mut [f64],
+    work: &mut [f64],
     d: &mut [f64],
     sub: &mut [f64],
-    amounts: &mut [f64],
     blocks: &mut [u8],
-    lifts: &mut [u8],
-    order: &mut [usize],
     partners: &mut [usize],
-    work: &mut [f64],
-    nrow: usize,
-    ncol: usize,
-    nb: usize,
-    kb: usize,
-    ke: usize,
+    lifts: &mut [u8],
+    amounts: &mut [f64],
+    order: &mut [usize],
+    at: Frame,
     mode: Mode,
     limit: usize,
     before: usize,
 ) -> Ran
-    requires { ⌜ TurnPre nrow ncol nb kb ke mode limit (length (now panel)) (length (now work)) ⌝ }
-    requires { ⌜ TurnHolds nrow ncol (length (now d)) (length (now sub)) (length (now amounts)) (length (now blocks))
-        (length (now lifts)) (length (now order)) (length (now partners)) ⌝ }
-    requires { ⌜ NotedTo kb ke before (bytes (now blocks)) (bytes (now partners)) ⌝ }
-    ensures { λ r. ⌜ progress r ke (between nrow (now (panel .exit)) (now (d .exit)) (now (sub .exit))
-        (now (amounts .exit)) (now (blocks .exit)) (now (lifts .exit)) (now (order .exit)) (now (partners .exit))) ≡
-        turnOf mode limit nrow ncol kb ke (between nrow (now (panel .entry)) (now (d .entry)) (now (sub .entry))
-        (now (amounts .entry)) (now (blocks .entry)) (now (lifts .entry)) (now (order .entry)) (now (partners .entry))
-        before) ⌝ }
-    ensures { λ r. ⌜ RanTo kb ke r (bytes (now (blocks .exit))) (bytes (now (partners .exit))) ⌝ }
+    requires { ⌜ TurnPre at (length (now panel)) (length (now work)) ⌝ }
+    requires { ⌜ TurnHolds (at .nrow) (at .ncol) (length (now d)) (length (now sub)) (length (now blocks))
+        (length (now partners)) (length (now lifts)) (length (now amounts)) (length (now order)) ⌝ }
+    requires { ⌜ LimitPre mode limit ⌝ }
+    requires { ⌜ NotedTo (at .kb) (at .ke) before (bytes (now blocks)) (bytes (now partners)) ⌝ }
+    ensures { λ r. ⌜ progress r (at .ke) (between (at .nrow) (now (panel .exit))
+        (pivotsOf (now (d .exit)) (now (sub .exit)) (now (blocks .exit)) (now (partners .exit)) (now (lifts .exit))
+        (now (amounts .exit)) (now (order .exit))))
+        ≡ turnOf mode limit (at .nrow) (at .ncol) (at .kb) (at .ke) (between (at .nrow) (now (panel .entry))
+        (pivotsOf (now (d .entry)) (now (sub .entry)) (now (blocks .entry)) (now (partners .entry))
+        (now (lifts .entry)) (now (amounts .entry)) (now (order .entry))) before) ⌝ }
+    ensures { λ r. ⌜ RanTo (at .kb) (at .ke) r (bytes (now (blocks .exit))) (bytes (now (partners .exit))) ⌝ }
 {
     let ran = steps(
         panel,
         work,
         d,
         sub,
-        amounts,
         blocks,
-        lifts,
-        order,
         partners,
-        nrow,
-        ncol,
-        nb,
-        kb,
-        ke,
+        lifts,
+        amounts,
+        order,
+        at,
         mode,
         limit,
         before,
@@ -213,86 +192,67 @@ fn turn(
     let Ran::Done(rounds) = ran else {
         return ran;
     };
-    rows_below(
-        panel,
-        work,
-        d,
-        sub,
-        blocks,
-        partners,
-        nrow,
-        ncol,
-        nb,
-        kb,
-        ke,
-    );
-    later_columns(
-        panel,
-        work,
-        d,
-        sub,
-        blocks,
-        partners,
-        nrow,
-        ncol,
-        nb,
-        kb,
-        ke,
-    );
+    rows_below(panel, work, d, sub, blocks, partners, at);
+    later_columns(panel, work, d, sub, blocks, partners, at);
     Ran::Done(rounds)
 }
 
 // The panels in turn.
-// in: the settings past the entry checks / in and out: the buffers as `begin` of crate finish leaves them; work, any
+// in: the settings past the entry checks, with the width that is used / in and out: the buffers as `begin` of crate
+// finish leaves them; work, any
 // origin: src/numeric/ldlt/bunch_kaufman.rs, fn ll_cdiv_emit
 pub fn panels(
     panel: &mut [f64],
+    work: &mut [f64],
     d: &mut [f64],
     sub: &mut [f64],
-    amounts: &mut [f64],
     blocks: &mut [u8],
-    lifts: &mut [u8],
-    order: &mut [usize],
     partners: &mut [usize],
-    work: &mut [f64],
-    nrow: usize,
-    ncol: usize,
-    nb: usize,
-    mode: Mode,
-    limit: usize,
+    lifts: &mut [u8],
+    amounts: &mut [f64],
+    order: &mut [usize],
+    c: Settings,
 ) -> Ran
-    requires { ⌜ RunPre nrow ncol nb mode limit (length (now panel)) (length (now work)) ⌝ }
-    requires { ⌜ TurnHolds nrow ncol (length (now d)) (length (now sub)) (length (now amounts)) (length (now blocks))
-        (length (now lifts)) (length (now order)) (length (now partners)) ⌝ }
+    requires { ⌜ RunPre c (length (now panel)) (length (now work)) ⌝ }
+    requires { ⌜ TurnHolds (c .nrow) (c .ncol) (length (now d)) (length (now sub)) (length (now blocks))
+        (length (now partners)) (length (now lifts)) (length (now amounts)) (length (now order)) ⌝ }
     requires { ⌜ NotedTo 0 1 0 (bytes (now blocks)) (bytes (now partners)) ⌝ }
-    ensures { λ r. ⌜ runOf r (between nrow (now (panel .exit)) (now (d .exit)) (now (sub .exit)) (now (amounts .exit))
-        (now (blocks .exit)) (now (lifts .exit)) (now (order .exit)) (now (partners .exit))) ≡ wholePanelsOf mode
-        limit nrow ncol nb ncol 0 (between nrow (now (panel .entry)) (now (d .entry)) (now (sub .entry))
-        (now (amounts .entry)) (now (blocks .entry)) (now (lifts .entry)) (now (order .entry)) (now (partners .entry))
-        0) ⌝ }
-    ensures { λ r. ⌜ RunLeaves ncol r (bytes (now (blocks .exit))) (bytes (now (partners .exit))) ⌝ }
+    ensures { λ r. ⌜ runOf r (between (c .nrow) (now (panel .exit))
+        (pivotsOf (now (d .exit)) (now (sub .exit)) (now (blocks .exit)) (now (partners .exit)) (now (lifts .exit))
+        (now (amounts .exit)) (now (order .exit))))
+        ≡ wholePanelsOf (c .mode) (c .limit) (c .nrow) (c .ncol) (c .nb) (c .ncol) 0 (between (c .nrow)
+        (now (panel .entry)) (pivotsOf (now (d .entry)) (now (sub .entry)) (now (blocks .entry))
+        (now (partners .entry)) (now (lifts .entry)) (now (amounts .entry)) (now (order .entry))) 0) ⌝ }
+    ensures { λ r. ⌜ RunLeaves (c .ncol) r (bytes (now (blocks .exit))) (bytes (now (partners .exit))) ⌝ }
 {
+    let nrow = c.nrow;
+    let ncol = c.ncol;
+    let nb = c.nb;
+    let mode = c.mode;
     let mut kb = 0;
     let mut rounds = 0;
     while kb < ncol {
         let ke = panel_end(kb, nb, ncol);
-        let ran = turn(
-            panel,
-            d,
-            sub,
-            amounts,
-            blocks,
-            lifts,
-            order,
-            partners,
-            work,
+        let at = Frame {
             nrow,
             ncol,
             nb,
             kb,
             ke,
+        };
+        let ran = turn(
+            panel,
+            work,
+            d,
+            sub,
+            blocks,
+            partners,
+            lifts,
+            amounts,
+            order,
+            at,
             mode,
-            limit,
+            c.limit,
             rounds,
         );
         let Ran::Done(n) = ran else {

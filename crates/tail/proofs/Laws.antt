@@ -1,4 +1,4 @@
--- A panel's steps on the rows below it: which fields of the record they read, a step or two on the rows' columns from k on, the loop. Assumes nothing.
+-- A panel's steps on the rows below it: a step or two on the rows' columns from k on, the loop. Assumes nothing.
 use Prim.Native.Nat.{ℕ, zero, suc, _+_, _-_, _<_, _≤_}
 use mathlib.Core.Path.{_≡_, refl, sym, _∙_, ap, fun-ext}
 use mathlib.Core.Bool.{Bool, true, false}
@@ -8,7 +8,7 @@ use borrow.Author.Tests.{lt-ltb, le-ltb}
 use lib.Dec.{ltb}
 use lib.Ieee.{Float}
 use Rattle.model.specs.Matrix.{Row, Mat, vec, bytes, within, exchangedPlace}
-use Rattle.model.specs.Step.{Pivots, begins, isBlock, diagonalAt, pastOf, stepAt, firstOf, arrived, rowStepped, rowAfterStep, rowAfterSteps}
+use Rattle.model.specs.Step.{Diagonals, diagonalsOf, begins, isBlock, diagonalAt, pastOf, stepAt, firstOf, arrived, rowStepped, rowAfterStep, rowAfterSteps}
 use Rattle.model.specs.declared.Diagonal.{Diagonal}
 use Rattle.grid.specs.Rules.{columnOf, columnsExchanged}
 use Rattle.grid.proofs.Laws.{test}
@@ -16,31 +16,9 @@ use Rattle.whole.specs.Whole.{below}
 use Rattle.pairs.specs.Pairs.{stepOf, rowAfterBoth}
 use Rattle.pairs.proofs.Column.{last-from}
 use Rattle.pairs.proofs.Sweeps.{place-same}
-use Rattle.tail.specs.Tail.{pivotsOf, fromColumn, rowSteppedTwice, TailPre, HerePre}
+use Rattle.tail.specs.Tail.{fromColumn, rowSteppedTwice, TailPre, HerePre}
 use Rattle.tail.proofs.From.{Since, since-then, since-later, since-exchange, from-exchange, from-then, step-since, from-step, step-same}
 use Rattle.tail.proofs.Asked.{past-more, partner-ahead}
-
--- ---- what a row's steps read of the record
-
--- four fields decide; each of the two records has its own lifts, amounts and order
-module _ (p q : Pivots) (m : Mat) (hd : p .d ≡ q .d) (hs : p .sub ≡ q .sub) (hb : p .blocks ≡ q .blocks) (hp : p .partners ≡ q .partners) where
-  step-alike : (ke k : ℕ) → rowStepped p m ke k ≡ rowStepped q m ke k
-  unfolding rowStepped stepAt arrived firstOf
-  step-alike ke k = rw (hd, hs, hb, hp)
-
-  row-alike : (ke n k : ℕ) (r : Row) → rowAfterSteps p m ke n k r ≡ rowAfterSteps q m ke n k r
-  unfolding rowAfterSteps
-  row-alike ke zero k r = refl
-  row-alike ke (suc n) k r =
-      test (ltb k ke)
-      (λ t. rw t
-      (ap (λ (s : Row → Row). rowAfterSteps p m ke n (pastOf (p .blocks) k) (s r)) (step-alike ke k)
-      ∙ ap (λ (f : ℕ → ℕ). rowAfterSteps p m ke n (pastOf f k) (rowStepped q m ke k r)) hb
-      ∙ row-alike ke n (pastOf (q .blocks) k) (rowStepped q m ke k r)))
-      (λ t. rw t)
-
-  pub steps-alike : (ke n k : ℕ) → rowAfterSteps p m ke n k ≡ rowAfterSteps q m ke n k
-  steps-alike ke n k = fun-ext λ r. row-alike ke n k r
 
 -- ---- rows below, one thing after the other
 
@@ -99,35 +77,35 @@ module _ (M : Mat) (blocks partners : ℕ → ℕ) (rows k : ℕ) (t : Bool) (e 
 
 -- the record's step at l by its pivot
 step-at : (ds ss : List Float) (bs ps : List ℕ) (I : Mat) (l : ℕ)
-    → stepAt (pivotsOf ds ss bs ps) I l ≡ stepOf l (bytes ps l) (diagonalAt (vec ds) (vec ss) (bytes bs) l) (columnOf I l) (columnOf I (l + 1))
-unfolding stepAt pivotsOf diagonalAt columnOf
+    → stepAt (diagonalsOf ds ss bs) (bytes ps) I l ≡ stepOf l (bytes ps l) (diagonalAt (vec ds) (vec ss) (bytes bs) l) (columnOf I l) (columnOf I (l + 1))
+unfolding stepAt diagonalAt columnOf
 step-at ds ss bs ps I l = test (begins (bytes bs) l) (λ t. rw t) (λ t. rw t)
 
 -- it leaves the columns before l
 module _ (ds ss : List Float) (bs ps : List ℕ) (I : Mat) (ke : ℕ) where
-  record-since : (l : ℕ) → l ≤ bytes ps l → Since l (rowAfterStep ke (stepAt (pivotsOf ds ss bs ps) I l))
+  record-since : (l : ℕ) → l ≤ bytes ps l → Since l (rowAfterStep ke (stepAt (diagonalsOf ds ss bs) (bytes ps) I l))
   record-since l h =
       rw (step-at ds ss bs ps I l)
       (step-since l (bytes ps l) ke (columnOf I l) (columnOf I (l + 1)) h (diagonalAt (vec ds) (vec ss) (bytes bs) l))
 
-  pub stepped-since : (k : ℕ) → HerePre ke (bytes bs) (bytes ps) k → Since k (rowStepped (pivotsOf ds ss bs ps) I ke k)
-  unfolding rowStepped pivotsOf
+  pub stepped-since : (k : ℕ) → HerePre ke (bytes bs) (bytes ps) k → Since k (rowStepped (diagonalsOf ds ss bs) (bytes ps) I ke k)
+  unfolding rowStepped
   stepped-since k here =
-      since-then k (arrived (bytes bs) (bytes ps) k) (rowAfterStep ke (stepAt (pivotsOf ds ss bs ps) I k))
+      since-then k (arrived (bytes bs) (bytes ps) k) (rowAfterStep ke (stepAt (diagonalsOf ds ss bs) (bytes ps) I k))
       (arrived-since (bytes bs) (bytes ps) k (here .ahead .first)) (record-since k (partner-ahead ke (bytes bs) (bytes ps) k here))
 
   -- a step that makes no exchange before its own
-  stays-step : (l : ℕ) → firstOf (bytes bs) (bytes ps) l ≡ l → rowStepped (pivotsOf ds ss bs ps) I ke l ≡ rowAfterStep ke (stepAt (pivotsOf ds ss bs ps) I l)
-  unfolding rowStepped arrived pivotsOf
+  stays-step : (l : ℕ) → firstOf (bytes bs) (bytes ps) l ≡ l → rowStepped (diagonalsOf ds ss bs) (bytes ps) I ke l ≡ rowAfterStep ke (stepAt (diagonalsOf ds ss bs) (bytes ps) I l)
+  unfolding rowStepped arrived
   stays-step l e =
-      fun-ext λ r. ap (rowAfterStep ke (stepAt (pivotsOf ds ss bs ps) I l)) (fun-ext λ j. ap r (ap (λ (q : ℕ). exchangedPlace l q j) e ∙ place-same l j))
+      fun-ext λ r. ap (rowAfterStep ke (stepAt (diagonalsOf ds ss bs) (bytes ps) I l)) (fun-ext λ j. ap r (ap (λ (q : ℕ). exchangedPlace l q j) e ∙ place-same l j))
 
   pub both-since : (k l : ℕ) → HerePre ke (bytes bs) (bytes ps) k → HerePre ke (bytes bs) (bytes ps) l → k ≤ l
-      → Since k (rowSteppedTwice (pivotsOf ds ss bs ps) I ke k l)
+      → Since k (rowSteppedTwice (diagonalsOf ds ss bs) (bytes ps) I ke k l)
   unfolding rowSteppedTwice
   both-since k l here there h =
-      since-then k (rowStepped (pivotsOf ds ss bs ps) I ke k) (rowStepped (pivotsOf ds ss bs ps) I ke l) (stepped-since k here)
-      (since-later k l (rowStepped (pivotsOf ds ss bs ps) I ke l) h (stepped-since l there))
+      since-then k (rowStepped (diagonalsOf ds ss bs) (bytes ps) I ke k) (rowStepped (diagonalsOf ds ss bs) (bytes ps) I ke l) (stepped-since k here)
+      (since-later k l (rowStepped (diagonalsOf ds ss bs) (bytes ps) I ke l) h (stepped-since l there))
 
 -- by the multipliers J that were lent from row and column k on
 module _ (I J : Mat) (ke k : ℕ) (kept : (j c : ℕ) → k + j < ke → k + c < ke → J j c ≡ I (k + j) (k + c)) where
@@ -144,23 +122,23 @@ module _ (I J : Mat) (ke k : ℕ) (kept : (j c : ℕ) → k + j < ke → k + c <
   module _ (ds ss : List Float) (bs ps : List ℕ) where
     -- the record's step at l, which is column c
     counted-at : (l q c : ℕ) (x : Diagonal) → k ≤ l → k ≤ bytes ps l → x ≡ diagonalAt (vec ds) (vec ss) (bytes bs) l → q ≡ bytes ps l - k → c ≡ l - k
-        → fromColumn k (rowAfterStep ke (stepAt (pivotsOf ds ss bs ps) I l)) ≡ rowAfterStep (ke - k) (stepOf c q x (columnOf J c) (columnOf J (c + 1)))
+        → fromColumn k (rowAfterStep ke (stepAt (diagonalsOf ds ss bs) (bytes ps) I l)) ≡ rowAfterStep (ke - k) (stepOf c q x (columnOf J c) (columnOf J (c + 1)))
     counted-at l q c x hl hp e d f = rw (step-at ds ss bs ps I l, ← e, counted l (bytes ps l) x hl hp, d, f)
 
     module _ (M E T : Mat) (rows : ℕ) (here : HerePre ke (bytes bs) (bytes ps) k)
         (ee : E ≡ below 0 rows (fromColumn k (arrived (bytes bs) (bytes ps) k)) M) where
       first-counted : (q : ℕ) (x : Diagonal) → x ≡ diagonalAt (vec ds) (vec ss) (bytes bs) k → q ≡ bytes ps k - k → (r : Row)
           → rowAfterStep (ke - k) (stepOf 0 q x (columnOf J 0) (columnOf J 1)) (fromColumn k (arrived (bytes bs) (bytes ps) k) r)
-          ≡ fromColumn k (rowStepped (pivotsOf ds ss bs ps) I ke k) r
-      unfolding rowStepped pivotsOf
+          ≡ fromColumn k (rowStepped (diagonalsOf ds ss bs) (bytes ps) I ke k) r
+      unfolding rowStepped
       first-counted q x e d r =
           let ahead = partner-ahead ke (bytes bs) (bytes ps) k here in
-          sym (from-then k (arrived (bytes bs) (bytes ps) k) (rowAfterStep ke (stepAt (pivotsOf ds ss bs ps) I k)) (record-since ds ss bs ps I ke k ahead) r
+          sym (from-then k (arrived (bytes bs) (bytes ps) k) (rowAfterStep ke (stepAt (diagonalsOf ds ss bs) (bytes ps) I k)) (record-since ds ss bs ps I ke k ahead) r
           ∙ ap (λ (f : Row → Row). f (fromColumn k (arrived (bytes bs) (bytes ps) k) r)) (counted-at k q 0 x (omega arith) ahead e d (omega arith)))
 
       pub step-done : (q : ℕ) (x : Diagonal) → x ≡ diagonalAt (vec ds) (vec ss) (bytes bs) k → q ≡ bytes ps k - k
           → T ≡ below 0 rows (rowAfterStep (ke - k) (stepOf 0 q x (columnOf J 0) (columnOf J 1))) E
-          → T ≡ below 0 rows (fromColumn k (rowStepped (pivotsOf ds ss bs ps) I ke k)) M
+          → T ≡ below 0 rows (fromColumn k (rowStepped (diagonalsOf ds ss bs) (bytes ps) I ke k)) M
       step-done q x e d t =
           t ∙ ap (below 0 rows (rowAfterStep (ke - k) (stepOf 0 q x (columnOf J 0) (columnOf J 1)))) ee ∙ below-then 0 rows _ _ M
           ∙ ap (λ (f : Row → Row). below 0 rows f M) (fun-ext (first-counted q x e d))
@@ -170,70 +148,70 @@ module _ (I J : Mat) (ke k : ℕ) (kept : (j c : ℕ) → k + j < ke → k + c <
           → x ≡ diagonalAt (vec ds) (vec ss) (bytes bs) k → y ≡ diagonalAt (vec ds) (vec ss) (bytes bs) l
           → q ≡ bytes ps k - k → s ≡ bytes ps l - k → c ≡ l - k
           → T ≡ below 0 rows (rowAfterBoth (ke - k) (stepOf 0 q x (columnOf J 0) (columnOf J 1)) (stepOf c s y (columnOf J c) (columnOf J (c + 1)))) E
-          → T ≡ below 0 rows (fromColumn k (rowSteppedTwice (pivotsOf ds ss bs ps) I ke k l)) M
+          → T ≡ below 0 rows (fromColumn k (rowSteppedTwice (diagonalsOf ds ss bs) (bytes ps) I ke k l)) M
       unfolding rowAfterBoth rowSteppedTwice
       pair-done l q s c x y h there still e g d o f t =
           let ahead = partner-ahead ke (bytes bs) (bytes ps) l there in
-          let second = rowStepped (pivotsOf ds ss bs ps) I ke l in
+          let second = rowStepped (diagonalsOf ds ss bs) (bytes ps) I ke l in
           t ∙ ap (below 0 rows _) ee ∙ below-then 0 rows _ _ M
           ∙ ap (λ (z : Row → Row). below 0 rows z M) (fun-ext λ r.
           ap (rowAfterStep (ke - k) (stepOf c s y (columnOf J c) (columnOf J (c + 1)))) (first-counted q x e d r)
-          ∙ ap (λ (z : Row → Row). z (fromColumn k (rowStepped (pivotsOf ds ss bs ps) I ke k) r))
+          ∙ ap (λ (z : Row → Row). z (fromColumn k (rowStepped (diagonalsOf ds ss bs) (bytes ps) I ke k) r))
           (sym (ap (fromColumn k) (stays-step ds ss bs ps I ke l still) ∙ counted-at l s c y h (omega arith) g o f))
-          ∙ sym (from-then k (rowStepped (pivotsOf ds ss bs ps) I ke k) second (since-later k l second h (stepped-since ds ss bs ps I ke l there)) r))
+          ∙ sym (from-then k (rowStepped (diagonalsOf ds ss bs) (bytes ps) I ke k) second (since-later k l second h (stepped-since ds ss bs ps I ke l there)) r))
 
 -- ---- the loop
 
 -- fuel past the columns that are left changes nothing
-steps-fuel : (p : Pivots) (m : Mat) (ke n l k : ℕ) (r : Row) → ke - k ≤ n → ke - k ≤ l → rowAfterSteps p m ke n k r ≡ rowAfterSteps p m ke l k r
+steps-fuel : (D : Diagonals) (q : ℕ → ℕ) (m : Mat) (ke n l k : ℕ) (r : Row) → ke - k ≤ n → ke - k ≤ l → rowAfterSteps D q m ke n k r ≡ rowAfterSteps D q m ke l k r
 unfolding rowAfterSteps
-steps-fuel p m ke zero zero k r h g = refl
-steps-fuel p m ke zero (suc l) k r h g = rw (le-ltb k ke (omega arith))
-steps-fuel p m ke (suc n) zero k r h g = rw (le-ltb k ke (omega arith))
-steps-fuel p m ke (suc n) (suc l) k r h g =
+steps-fuel D q m ke zero zero k r h g = refl
+steps-fuel D q m ke zero (suc l) k r h g = rw (le-ltb k ke (omega arith))
+steps-fuel D q m ke (suc n) zero k r h g = rw (le-ltb k ke (omega arith))
+steps-fuel D q m ke (suc n) (suc l) k r h g =
     test (ltb k ke)
-    (λ t. rw t (steps-fuel p m ke n l (pastOf (p .blocks) k) (rowStepped p m ke k r)
-    (omega (arith, past-more (p .blocks) k)) (omega (arith, past-more (p .blocks) k))))
+    (λ t. rw t (steps-fuel D q m ke n l (pastOf (D .blocks) k) (rowStepped D q m ke k r)
+    (omega (arith, past-more (D .blocks) k)) (omega (arith, past-more (D .blocks) k))))
     (λ t. rw t)
 
 -- one step taken off
-steps-open : (p : Pivots) (m : Mat) (ke k : ℕ) (r : Row) → k < ke
-    → rowAfterSteps p m ke (ke - k) k r ≡ rowAfterSteps p m ke (ke - pastOf (p .blocks) k) (pastOf (p .blocks) k) (rowStepped p m ke k r)
+steps-open : (D : Diagonals) (q : ℕ → ℕ) (m : Mat) (ke k : ℕ) (r : Row) → k < ke
+    → rowAfterSteps D q m ke (ke - k) k r ≡ rowAfterSteps D q m ke (ke - pastOf (D .blocks) k) (pastOf (D .blocks) k) (rowStepped D q m ke k r)
 unfolding rowAfterSteps
-steps-open p m ke k r h =
-    let q : ke - k ≡ suc (ke - (k + 1)) = omega arith in
-    ap (λ (f : ℕ). rowAfterSteps p m ke f k r) q
-    ∙ rw (lt-ltb k ke h) (steps-fuel p m ke (ke - (k + 1)) (ke - pastOf (p .blocks) k) (pastOf (p .blocks) k) (rowStepped p m ke k r)
-    (omega (arith, past-more (p .blocks) k)) (omega arith))
+steps-open D q m ke k r h =
+    let z : ke - k ≡ suc (ke - (k + 1)) = omega arith in
+    ap (λ (f : ℕ). rowAfterSteps D q m ke f k r) z
+    ∙ rw (lt-ltb k ke h) (steps-fuel D q m ke (ke - (k + 1)) (ke - pastOf (D .blocks) k) (pastOf (D .blocks) k) (rowStepped D q m ke k r)
+    (omega (arith, past-more (D .blocks) k)) (omega arith))
 
-steps-more : (p : Pivots) (m M N R : Mat) (n ke k : ℕ) → below ke n (rowAfterSteps p m ke (ke - k) k) M ≡ R → k < ke
-    → N ≡ below ke n (rowStepped p m ke k) M
-    → below ke n (rowAfterSteps p m ke (ke - pastOf (p .blocks) k) (pastOf (p .blocks) k)) N ≡ R
+steps-more : (D : Diagonals) (q : ℕ → ℕ) (m M N R : Mat) (n ke k : ℕ) → below ke n (rowAfterSteps D q m ke (ke - k) k) M ≡ R → k < ke
+    → N ≡ below ke n (rowStepped D q m ke k) M
+    → below ke n (rowAfterSteps D q m ke (ke - pastOf (D .blocks) k) (pastOf (D .blocks) k)) N ≡ R
 unfolding below
-steps-more p m M N R n ke k e h s =
-    rw s (fun-ext λ i. test (within ke n i) (λ t. rw t (sym (steps-open p m ke k (M i) h))) (λ t. rw t)) ∙ e
+steps-more D q m M N R n ke k e h s =
+    rw s (fun-ext λ i. test (within ke n i) (λ t. rw t (sym (steps-open D q m ke k (M i) h))) (λ t. rw t)) ∙ e
 
 -- one step taken off, or two
 module _ (ds ss : List Float) (bs ps : List ℕ) (m M N : Mat) (n ke k l : ℕ) (here : k < ke) (el : l ≡ pastOf (bytes bs) k) where
-  pub turned-step : N ≡ below ke n (rowStepped (pivotsOf ds ss bs ps) m ke k) M
-      → below ke n (rowAfterSteps (pivotsOf ds ss bs ps) m ke (ke - l) l) N ≡ below ke n (rowAfterSteps (pivotsOf ds ss bs ps) m ke (ke - k) k) M
-  unfolding pivotsOf
-  turned-step s = rw el (steps-more (pivotsOf ds ss bs ps) m M N _ n ke k refl here s)
+  pub turned-step : N ≡ below ke n (rowStepped (diagonalsOf ds ss bs) (bytes ps) m ke k) M
+      → below ke n (rowAfterSteps (diagonalsOf ds ss bs) (bytes ps) m ke (ke - l) l) N ≡ below ke n (rowAfterSteps (diagonalsOf ds ss bs) (bytes ps) m ke (ke - k) k) M
+  turned-step s = rw el (steps-more (diagonalsOf ds ss bs) (bytes ps) m M N _ n ke k refl here s)
 
-  pub turned-both : (r : ℕ) → l < ke → r ≡ pastOf (bytes bs) l → N ≡ below ke n (rowSteppedTwice (pivotsOf ds ss bs ps) m ke k l) M
-      → below ke n (rowAfterSteps (pivotsOf ds ss bs ps) m ke (ke - r) r) N ≡ below ke n (rowAfterSteps (pivotsOf ds ss bs ps) m ke (ke - k) k) M
-  unfolding pivotsOf rowSteppedTwice
+  pub turned-both : (r : ℕ) → l < ke → r ≡ pastOf (bytes bs) l → N ≡ below ke n (rowSteppedTwice (diagonalsOf ds ss bs) (bytes ps) m ke k l) M
+      → below ke n (rowAfterSteps (diagonalsOf ds ss bs) (bytes ps) m ke (ke - r) r) N ≡ below ke n (rowAfterSteps (diagonalsOf ds ss bs) (bytes ps) m ke (ke - k) k) M
+  unfolding rowSteppedTwice
   turned-both r h er s =
-      let p = pivotsOf ds ss bs ps in
-      let first = below ke n (rowStepped p m ke k) M in
-      rw er (steps-more p m first N _ n ke l (rw el (steps-more p m M first _ n ke k refl here refl)) h
-      (s ∙ sym (below-then ke n (rowStepped p m ke k) (rowStepped p m ke l) M)))
+      let D = diagonalsOf ds ss bs in
+      let q = bytes ps in
+      let first = below ke n (rowStepped D q m ke k) M in
+      rw er (steps-more D q m first N _ n ke l (rw el (steps-more D q m M first _ n ke k refl here refl)) h
+      (s ∙ sym (below-then ke n (rowStepped D q m ke k) (rowStepped D q m ke l) M)))
 
-pub tail-end : (p : Pivots) (m M R : Mat) (n ke k : ℕ) → ke ≤ k → below ke n (rowAfterSteps p m ke (ke - k) k) M ≡ R → M ≡ R
+pub tail-end : (D : Diagonals) (q : ℕ → ℕ) (m M R : Mat) (n ke k : ℕ) → ke ≤ k → below ke n (rowAfterSteps D q m ke (ke - k) k) M ≡ R → M ≡ R
 unfolding below rowAfterSteps
-tail-end p m M R n ke k h e =
-    let q : ke - k ≡ 0 = omega arith in
-    (fun-ext λ i. test (within ke n i) (λ t. rw (t, q)) (λ t. rw t)) ∙ e
+tail-end D q m M R n ke k h e =
+    let z : ke - k ≡ 0 = omega arith in
+    (fun-ext λ i. test (within ke n i) (λ t. rw (t, z)) (λ t. rw t)) ∙ e
 
 pub turn-less : (ke k r : ℕ) → k < ke → k < r → ke - r < ke - k
 turn-less ke k r h g = omega arith

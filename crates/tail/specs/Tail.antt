@@ -1,26 +1,17 @@
--- The record of pivots as the tail reads it off the arrays, rows by their columns from k on, and what the tail asks. From document 01,
--- 'apply_bk_panel_trailing'. Definitions only. Assumes nothing.
+-- Rows by their columns from k on, two steps in turn, and what the tail asks. From document 01, 'apply_bk_panel_trailing'. Definitions only. Assumes nothing.
 use Prim.Native.Nat.{ℕ, _+_, _-_, _*_, _<_, _≤_}
 use mathlib.Core.Path.{_≡_}
-use mathlib.Core.List.{List}
-use lib.Ieee.{Float}
-use Rattle.model.specs.Scalar.{zeroF}
-use Rattle.model.specs.Matrix.{Row, Mat, vec, bytes}
-use Rattle.model.specs.Step.{Pivots, firstOf, rowStepped}
+use Rattle.model.specs.Matrix.{Row, Mat}
+use Rattle.model.specs.Step.{Diagonals, firstOf, rowStepped}
 use Rattle.model.specs.Kept.{Starts, Ahead, Recorded}
-
--- d, subdiagonal, block bytes and partners by column; a row's steps read nothing else of the record (`steps-alike` of proofs/Laws.antt)
-unfoldable pub pivotsOf : List Float → List Float → List ℕ → List ℕ → Pivots
-pivotsOf d sub blocks partners =
-    record { d = vec d; sub = vec sub; amounts = λ i. zeroF; blocks = bytes blocks; lifts = λ i. 0; order = λ i. i; partners = bytes partners }
 
 -- what f makes of a row, its columns counted from k on
 unfoldable pub fromColumn : ℕ → (Row → Row) → Row → Row
 fromColumn k f r = λ j. f (λ c. r (c - k)) (k + j)
 
 -- a row after the step at k and after the one at l
-unfoldable pub rowSteppedTwice : Pivots → Mat → ℕ → ℕ → ℕ → Row → Row
-rowSteppedTwice p mult ke k l r = rowStepped p mult ke l (rowStepped p mult ke k r)
+unfoldable pub rowSteppedTwice : Diagonals → (partners : ℕ → ℕ) → Mat → ℕ → ℕ → ℕ → Row → Row
+rowSteppedTwice D partners mult ke k l r = rowStepped D partners mult ke l (rowStepped D partners mult ke k r)
 
 -- ---- what the functions ask
 

@@ -7,8 +7,8 @@ use diagonal::diagonal_at;
 use diagonal::past;
 use grid::columns;
 use model::Elim;
+use model::Frame;
 use model::LocalRow;
-use pairs::Frame;
 use pairs::below_pair;
 use pairs::below_step;
 ghost use mathlib.Core.Path.{_≡_};
@@ -16,11 +16,11 @@ ghost use Prim.Native.Nat.{_+_, _-_, _<_, _≤_};
 ghost use lib.Dec.{eqb};
 ghost use lib.ListN.{length};
 ghost use Rattle.model.specs.Matrix.{view, bytes};
-ghost use Rattle.model.specs.Step.{pastOf, firstOf, arrived, rowStepped, rowAfterSteps};
+ghost use Rattle.model.specs.Step.{diagonalsOf, pastOf, firstOf, arrived, rowStepped, rowAfterSteps};
 ghost use Rattle.model.specs.Kept.{Starts};
 ghost use Rattle.whole.specs.Whole.{below};
 ghost use Rattle.eliminate.specs.Eliminate.{inPanel};
-ghost use Rattle.tail.specs.Tail.{pivotsOf, fromColumn, rowSteppedTwice};
+ghost use Rattle.tail.specs.Tail.{fromColumn, rowSteppedTwice};
 ghost use Rattle.tail.specs.Tail.{TailPre, StepsPre, HerePre, LentPre, ReadPre};
 
 // What stands at k in the list of partners: at a pivot's first column the row exchanged with its last column, at a
@@ -79,32 +79,34 @@ fn tail_step(
     sub: &[f64],
     blocks: &[u8],
     partners: &[usize],
-    nrow: usize,
-    nb: usize,
-    kb: usize,
-    ke: usize,
+    at: Frame,
     k: Elim,
 )
-    requires { ⌜ LentPre nrow ke (k .0) (length (now part)) ⌝ }
-    requires { ⌜ ReadPre nb kb ke (k .0) (length (now mult)) (length (now d)) (length (now sub)) (length (now blocks))
-        (length (now partners)) ⌝ }
-    requires { ⌜ HerePre ke (bytes (now blocks)) (bytes (now partners)) (k .0) ⌝ }
-    ensures { λ _. ⌜ view nrow (now (part .exit))
-        ≡ below 0 (nrow - ke) (fromColumn (k .0) (rowStepped
-        (pivotsOf (now (d .entry)) (now (sub .entry)) (now (blocks .entry)) (now (partners .entry)))
-        (inPanel kb ke (view nb (now (mult .entry)))) ke (k .0))) (view nrow (now (part .entry))) ⌝ }
+    requires { ⌜ LentPre (at .nrow) (at .ke) (k .0) (length (now part)) ⌝ }
+    requires { ⌜ ReadPre (at .nb) (at .kb) (at .ke) (k .0) (length (now mult)) (length (now d)) (length (now sub))
+        (length (now blocks)) (length (now partners)) ⌝ }
+    requires { ⌜ HerePre (at .ke) (bytes (now blocks)) (bytes (now partners)) (k .0) ⌝ }
+    ensures { λ _. ⌜ view (at .nrow) (now (part .exit))
+        ≡ below 0 (at .nrow - at .ke) (fromColumn (k .0) (rowStepped
+        (diagonalsOf (now (d .entry)) (now (sub .entry)) (now (blocks .entry))) (bytes (now (partners .entry)))
+        (inPanel (at .kb) (at .ke) (view (at .nb) (now (mult .entry)))) (at .ke) (k .0)))
+        (view (at .nrow) (now (part .entry))) ⌝ }
 {
+    let nrow = at.nrow;
+    let nb = at.nb;
+    let kb = at.kb;
+    let ke = at.ke;
     arrive(part, blocks, partners, nrow, ke, k);
     let pivot = diagonal_at(d, sub, blocks, k);
     let kp = partner(partners, k);
-    let at = Frame {
+    let lent = pairs::Frame {
         nrow,
         rows: nrow - ke,
         nb,
         columns: ke - k.0,
     };
     let start = (k.0 - kb) + (k.0 - kb) * nb;
-    below_step(part, &mult[start..], at, column_from(k, kp), pivot);
+    below_step(part, &mult[start..], lent, column_from(k, kp), pivot);
 }
 
 // The steps at k and, right after it, at l, which makes no exchange before its own, on the rows from ke down. The part
@@ -116,32 +118,34 @@ fn tail_pair(
     sub: &[f64],
     blocks: &[u8],
     partners: &[usize],
-    nrow: usize,
-    nb: usize,
-    kb: usize,
-    ke: usize,
+    at: Frame,
     k: Elim,
     l: Elim,
 )
-    requires { ⌜ LentPre nrow ke (k .0) (length (now part)) ⌝ }
-    requires { ⌜ ReadPre nb kb ke (k .0) (length (now mult)) (length (now d)) (length (now sub)) (length (now blocks))
-        (length (now partners)) ⌝ }
-    requires { ⌜ HerePre ke (bytes (now blocks)) (bytes (now partners)) (k .0) ⌝ }
-    requires { ⌜ HerePre ke (bytes (now blocks)) (bytes (now partners)) (l .0) ⌝ }
-    requires { ⌜ (l .0 ≡ pastOf (bytes (now blocks)) (k .0)) × (l .0 < ke) ⌝ }
+    requires { ⌜ LentPre (at .nrow) (at .ke) (k .0) (length (now part)) ⌝ }
+    requires { ⌜ ReadPre (at .nb) (at .kb) (at .ke) (k .0) (length (now mult)) (length (now d)) (length (now sub))
+        (length (now blocks)) (length (now partners)) ⌝ }
+    requires { ⌜ HerePre (at .ke) (bytes (now blocks)) (bytes (now partners)) (k .0) ⌝ }
+    requires { ⌜ HerePre (at .ke) (bytes (now blocks)) (bytes (now partners)) (l .0) ⌝ }
+    requires { ⌜ (l .0 ≡ pastOf (bytes (now blocks)) (k .0)) × (l .0 < at .ke) ⌝ }
     requires { ⌜ firstOf (bytes (now blocks)) (bytes (now partners)) (l .0) ≡ l .0 ⌝ }
-    ensures { λ _. ⌜ view nrow (now (part .exit))
-        ≡ below 0 (nrow - ke) (fromColumn (k .0) (rowSteppedTwice
-        (pivotsOf (now (d .entry)) (now (sub .entry)) (now (blocks .entry)) (now (partners .entry)))
-        (inPanel kb ke (view nb (now (mult .entry)))) ke (k .0) (l .0))) (view nrow (now (part .entry))) ⌝ }
+    ensures { λ _. ⌜ view (at .nrow) (now (part .exit))
+        ≡ below 0 (at .nrow - at .ke) (fromColumn (k .0) (rowSteppedTwice
+        (diagonalsOf (now (d .entry)) (now (sub .entry)) (now (blocks .entry))) (bytes (now (partners .entry)))
+        (inPanel (at .kb) (at .ke) (view (at .nb) (now (mult .entry)))) (at .ke) (k .0) (l .0)))
+        (view (at .nrow) (now (part .entry))) ⌝ }
 {
+    let nrow = at.nrow;
+    let nb = at.nb;
+    let kb = at.kb;
+    let ke = at.ke;
     arrive(part, blocks, partners, nrow, ke, k);
     let x = diagonal_at(d, sub, blocks, k);
     let y = diagonal_at(d, sub, blocks, l);
     let kp = partner(partners, k);
     let kq = partner(partners, l);
     let last = past(blocks, l) - 1;
-    let at = Frame {
+    let lent = pairs::Frame {
         nrow,
         rows: nrow - ke,
         nb,
@@ -151,7 +155,7 @@ fn tail_pair(
     below_pair(
         part,
         &mult[start..],
-        at,
+        lent,
         l.0 - k.0,
         last - k.0,
         column_from(k, kp),
@@ -170,25 +174,25 @@ fn turn(
     sub: &[f64],
     blocks: &[u8],
     partners: &[usize],
-    nrow: usize,
-    ncol: usize,
-    nb: usize,
-    kb: usize,
-    ke: usize,
+    at: Frame,
     k: Elim,
 ) -> usize
-    requires { ⌜ TailPre nrow ncol nb kb ke (length (now panel)) (length (now mult)) (length (now d))
-        (length (now sub)) (length (now blocks)) (length (now partners)) ⌝ }
-    requires { ⌜ StepsPre kb ke (bytes (now blocks)) (bytes (now partners)) ⌝ }
-    requires { ⌜ (kb ≤ k .0) × ((k .0 < ke) × Starts (bytes (now blocks)) (k .0)) ⌝ }
-    ensures { λ r. ⌜ below ke nrow (rowAfterSteps
-        (pivotsOf (now (d .entry)) (now (sub .entry)) (now (blocks .entry)) (now (partners .entry)))
-        (inPanel kb ke (view nb (now (mult .entry)))) ke (ke - r) r) (view nrow (now (panel .exit)))
-        ≡ below ke nrow (rowAfterSteps
-        (pivotsOf (now (d .entry)) (now (sub .entry)) (now (blocks .entry)) (now (partners .entry)))
-        (inPanel kb ke (view nb (now (mult .entry)))) ke (ke - k .0) (k .0)) (view nrow (now (panel .entry))) ⌝ }
+    requires { ⌜ TailPre (at .nrow) (at .ncol) (at .nb) (at .kb) (at .ke) (length (now panel)) (length (now mult))
+        (length (now d)) (length (now sub)) (length (now blocks)) (length (now partners)) ⌝ }
+    requires { ⌜ StepsPre (at .kb) (at .ke) (bytes (now blocks)) (bytes (now partners)) ⌝ }
+    requires { ⌜ (at .kb ≤ k .0) × ((k .0 < at .ke) × Starts (bytes (now blocks)) (k .0)) ⌝ }
+    ensures { λ r. ⌜ below (at .ke) (at .nrow) (rowAfterSteps
+        (diagonalsOf (now (d .entry)) (now (sub .entry)) (now (blocks .entry))) (bytes (now (partners .entry)))
+        (inPanel (at .kb) (at .ke) (view (at .nb) (now (mult .entry)))) (at .ke) (at .ke - r) r)
+        (view (at .nrow) (now (panel .exit)))
+        ≡ below (at .ke) (at .nrow) (rowAfterSteps
+        (diagonalsOf (now (d .entry)) (now (sub .entry)) (now (blocks .entry))) (bytes (now (partners .entry)))
+        (inPanel (at .kb) (at .ke) (view (at .nb) (now (mult .entry)))) (at .ke) (at .ke - k .0) (k .0))
+        (view (at .nrow) (now (panel .entry))) ⌝ }
     ensures { λ r. ⌜ (k .0 < r) × Starts (bytes (now (blocks .entry))) r ⌝ }
 {
+    let nrow = at.nrow;
+    let ke = at.ke;
     let start = ke + k.0 * nrow;
     let l = past(blocks, k);
     if l < ke {
@@ -200,29 +204,14 @@ fn turn(
                 sub,
                 blocks,
                 partners,
-                nrow,
-                nb,
-                kb,
-                ke,
+                at,
                 k,
                 Elim(l),
             );
             return past(blocks, Elim(l));
         }
     }
-    tail_step(
-        &mut panel[start..],
-        mult,
-        d,
-        sub,
-        blocks,
-        partners,
-        nrow,
-        nb,
-        kb,
-        ke,
-        k,
-    );
+    tail_step(&mut panel[start..], mult, d, sub, blocks, partners, at, k);
     l
 }
 
@@ -236,35 +225,20 @@ pub fn apply_bk_panel_trailing(
     sub: &[f64],
     blocks: &[u8],
     partners: &[usize],
-    nrow: usize,
-    ncol: usize,
-    nb: usize,
-    kb: usize,
-    ke: usize,
+    at: Frame,
 )
-    requires { ⌜ TailPre nrow ncol nb kb ke (length (now panel)) (length (now mult)) (length (now d))
-        (length (now sub)) (length (now blocks)) (length (now partners)) ⌝ }
-    requires { ⌜ StepsPre kb ke (bytes (now blocks)) (bytes (now partners)) ⌝ }
-    ensures { λ _. ⌜ view nrow (now (panel .exit))
-        ≡ below ke nrow (rowAfterSteps
-        (pivotsOf (now (d .entry)) (now (sub .entry)) (now (blocks .entry)) (now (partners .entry)))
-        (inPanel kb ke (view nb (now (mult .entry)))) ke (ke - kb) kb) (view nrow (now (panel .entry))) ⌝ }
+    requires { ⌜ TailPre (at .nrow) (at .ncol) (at .nb) (at .kb) (at .ke) (length (now panel)) (length (now mult))
+        (length (now d)) (length (now sub)) (length (now blocks)) (length (now partners)) ⌝ }
+    requires { ⌜ StepsPre (at .kb) (at .ke) (bytes (now blocks)) (bytes (now partners)) ⌝ }
+    ensures { λ _. ⌜ view (at .nrow) (now (panel .exit))
+        ≡ below (at .ke) (at .nrow) (rowAfterSteps
+        (diagonalsOf (now (d .entry)) (now (sub .entry)) (now (blocks .entry))) (bytes (now (partners .entry)))
+        (inPanel (at .kb) (at .ke) (view (at .nb) (now (mult .entry)))) (at .ke) (at .ke - at .kb) (at .kb))
+        (view (at .nrow) (now (panel .entry))) ⌝ }
 {
-    let mut k = kb;
+    let ke = at.ke;
+    let mut k = at.kb;
     while k < ke {
-        k = turn(
-            panel,
-            mult,
-            d,
-            sub,
-            blocks,
-            partners,
-            nrow,
-            ncol,
-            nb,
-            kb,
-            ke,
-            Elim(k),
-        );
+        k = turn(panel, mult, d, sub, blocks, partners, at, Elim(k));
     }
 }

@@ -2,16 +2,17 @@
 -- `places` has, for each row of the descendant from the first landing on, its row in the target. Definitions only. Assumes nothing.
 use mathlib.Core.Path.{_≡_}
 use mathlib.Core.Bool.{cond, _&&_}
-use mathlib.Core.List.{List, []}
+use mathlib.Core.List.{List}
 use Prim.Native.Nat.{ℕ, zero, suc, _+_, _-_, _*_, _<_, _≤_}
 use lib.Dec.{eqb}
 use lib.ListN.{length}
 use lib.Ieee.{Float}
 use Rattle.model.specs.Scalar.{_⊖_, _⊗_, zeroF}
 use Rattle.model.specs.Matrix.{Row, Mat, bytes}
+use Rattle.model.specs.Step.{diagonalsOf}
 use Rattle.model.specs.Panel.{timesD, sumFrom}
 use Rattle.model.specs.Inertia.{checkBytes}
-use Rattle.model.specs.Update.{Descendant, pivotsOf, updateAcc}
+use Rattle.model.specs.Update.{Descendant, updateAcc}
 use Rattle.model.specs.Answer.{sound}
 use Rattle.grid.specs.Grid.{In}
 use Rattle.update.specs.Rows.{landsOn}
@@ -19,7 +20,7 @@ use Rattle.update.specs.Call.{descendantOf, NumbersPre}
 
 -- 'each landing row c forms v': D times a row; of the descendant only d, subdiagonal and block bytes play a part
 unfoldable pub weighed : List Float → List Float → List ℕ → Row → Row
-weighed d sub blocks = timesD (pivotsOf (descendantOf 0 0 [] d sub blocks []))
+weighed d sub blocks = timesD (diagonalsOf d sub blocks)
 
 -- acc of each row of a, 'summed from +0.0 in column order' over n columns
 unfoldable pub sums : Mat → Row → ℕ → Row

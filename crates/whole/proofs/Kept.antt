@@ -11,7 +11,7 @@ use Rattle.model.specs.Factor.{start}
 use Rattle.model.specs.declared.Mode.{Mode}
 use Rattle.model.proofs.Cases.{test}
 use Rattle.whole.specs.Whole.{wholeClosed, wholePassed, WholeRun, stoppedAt, ended, wholeContinued, wholePanelsOf}
-use Rattle.whole.proofs.Steps.{Went, Kept, Untouched, Inside, inside-more, start-inside, panel-keeps, panel-inside}
+use Rattle.whole.proofs.Steps.{Went, Kept, Untouched, PivotsInside, inside-more, start-inside, panel-keeps, panel-inside}
 use Rattle.whole.proofs.Rows.{panel-past}
 use Rattle.whole.proofs.Passed.{wholeNext, whole-row, whole-before, whole-past}
 
@@ -30,7 +30,7 @@ ended-then P Q h (stoppedAt n p) x = tt
 ended-then P Q h (ended t) x = h t x
 
 module _ (mode : Mode) (limit nrow ncol nb : ℕ) (hn : ncol ≤ nrow) (hb : 1 ≤ nb) where
-  passed-keeps : (kb ke : ℕ) (t : State) → Inside ke (t .pivots) → ke ≤ ncol → Kept nrow t (wholeNext nrow ncol kb ke t)
+  passed-keeps : (kb ke : ℕ) (t : State) → PivotsInside ke (t .pivots) → ke ≤ ncol → Kept nrow t (wholeNext nrow ncol kb ke t)
   unfolding wholeClosed
   passed-keeps kb ke t w hk i j u =
       test (ltb i ke)
@@ -38,29 +38,29 @@ module _ (mode : Mode) (limit nrow ncol nb : ℕ) (hn : ncol ≤ nrow) (hb : 1 �
       (λ x. test (ltb i nrow)
       (λ y. ap (λ (r : Row). r j) (whole-row nrow ncol kb ke t i (ltb-false i ke x) (ltb-true i nrow y))
       ∙ (⊎-elim
-      (λ h. let l : ke ≤ i = ltb-false i ke x in panel-past (wholeClosed nrow kb ke t) (min (i + 1) ncol) (t .a i) j w (omega arith) (omega arith))
+      (λ h. let l : ke ≤ i = ltb-false i ke x in panel-past (wholeClosed nrow kb ke t) w (min (i + 1) ncol) (t .a i) j (omega arith) (omega arith))
       (λ h. let l : i < nrow = ltb-true i nrow y in let n : ⊥ = omega arith in absurd n) u))
       (λ y. ap (λ (r : Row). r j) (whole-past nrow ncol kb ke t i (ltb-false i nrow y))))
 
-  run-keeps : (n kb : ℕ) (s : State) → Inside (kb + 1) (s .pivots) → Ended (Kept nrow s) (wholePanelsOf mode limit nrow ncol nb n kb s)
+  run-keeps : (n kb : ℕ) (s : State) → PivotsInside (kb + 1) (s .pivots) → Ended (Kept nrow s) (wholePanelsOf mode limit nrow ncol nb n kb s)
   unfolding wholePanelsOf wholePassed
   run-keeps zero kb s w = λ i j u. refl
   run-keeps (suc n) kb s w =
       let ke = min (kb + nb) ncol in
       test (ltb kb ncol)
       (λ x. let h : kb < ncol = ltb-true kb ncol x in
-      rw x (continued-ended (λ z. Inside ke (z .pivots)) (Kept ke s) (Kept nrow s)
+      rw x (continued-ended (λ z. PivotsInside ke (z .pivots)) (Kept ke s) (Kept nrow s)
       (λ z. wholePanelsOf mode limit nrow ncol nb n ke (wholeNext nrow ncol kb ke z))
       (λ z v p. ended-then (Kept nrow (wholeNext nrow ncol kb ke z)) (Kept nrow s)
       (λ y q i j u. q i j u ∙ passed-keeps kb ke z v (omega arith) i j u ∙ p i j (⊎-elim (λ l. inl l) (λ l. inr (omega arith)) u))
       (wholePanelsOf mode limit nrow ncol nb n ke (wholeNext nrow ncol kb ke z))
-      (run-keeps n ke (wholeNext nrow ncol kb ke z) (inside-more ke (ke + 1) (z .pivots) (omega arith) v)))
+      (run-keeps n ke (wholeNext nrow ncol kb ke z) (inside-more ke (ke + 1) _ _ (omega arith) v)))
       (panelOf ke mode limit (ke - kb) kb s)
-      (panel-inside ke mode limit (ke - kb) kb s (inside-more (kb + 1) ke (s .pivots) (omega arith) w))
+      (panel-inside ke mode limit (ke - kb) kb s (inside-more (kb + 1) ke _ _ (omega arith) w))
       (panel-keeps ke mode limit (ke - kb) kb s)))
       (λ x. rw x (λ i j u. refl))
 
-  pub run-kept : (n kb : ℕ) (s t : State) → Inside (kb + 1) (s .pivots) → wholePanelsOf mode limit nrow ncol nb n kb s ≡ ended t → Kept nrow s t
+  pub run-kept : (n kb : ℕ) (s t : State) → PivotsInside (kb + 1) (s .pivots) → wholePanelsOf mode limit nrow ncol nb n kb s ≡ ended t → Kept nrow s t
   run-kept n kb s t w e = subst (λ (r : WholeRun). Ended (Kept nrow s) r) e (run-keeps n kb s w)
 
 -- the whole call

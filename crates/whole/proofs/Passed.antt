@@ -12,7 +12,7 @@ use Rattle.model.specs.Head.{State, blank, closed, passed}
 use Rattle.model.proofs.Cases.{test}
 use Rattle.whole.specs.Whole.{below, wholeClosed, deferredRows, wholePassed, cutState}
 use Rattle.whole.proofs.Masked.{within-in, within-before, within-past, head-at, head-alike}
-use Rattle.whole.proofs.Steps.{Inside}
+use Rattle.whole.proofs.Steps.{PivotsInside}
 use Rattle.whole.proofs.Rows.{row-at, head-row, steps-cut, deferred-past, deferred-alike, panel-cut}
 
 -- the state at the start of the next panel, over the whole panel and over the head
@@ -56,9 +56,9 @@ withHead t b = record { a = b; mult = t .mult; pivots = t .pivots; rounds = t .r
 
 -- a row after the steps of columns kb to ke
 abbrev through : ℕ → ℕ → State → Row → Row
-through kb ke t r = rowAfterSteps (t .pivots) (t .mult) ke (ke - kb) kb r
+through kb ke t r = rowAfterSteps (t .pivots .diagonals) (t .pivots .partners) (t .mult) ke (ke - kb) kb r
 
-module _ (nrow ncol kb ke : ℕ) (t : State) (b : Mat) (w : Inside ke (t .pivots)) (hk : ke ≤ ncol) (hn : ncol ≤ nrow)
+module _ (nrow ncol kb ke : ℕ) (t : State) (b : Mat) (w : PivotsInside ke (t .pivots)) (hk : ke ≤ ncol) (hn : ncol ≤ nrow)
     (e : headOf ncol (t .a) ≡ headOf ncol b) where
   -- the head's rows before the panel
   row-alike : (i : ℕ) → i < ncol → rowOf (i + 1) (t .a i) ≡ rowOf (i + 1) (b i)
@@ -67,7 +67,7 @@ module _ (nrow ncol kb ke : ℕ) (t : State) (b : Mat) (w : Inside ke (t .pivots
   -- and after its steps, in its columns
   through-cut : (i k : ℕ) (r : Row) → ke ≤ i → k < ke → through kb ke t (rowOf (i + 1) r) k ≡ through kb ke t r k
   through-cut i k r h x =
-      ap (λ (s : Row). s k) (steps-cut (t .pivots) (t .mult) ke w (ke - kb) kb (i + 1) r (omega arith)) ∙ row-at (i + 1) (through kb ke t r) k (omega arith)
+      ap (λ (s : Row). s k) (steps-cut (t .pivots .diagonals) (t .pivots .partners) (t .mult) ke w (ke - kb) kb (i + 1) r (omega arith)) ∙ row-at (i + 1) (through kb ke t r) k (omega arith)
 
   below-alike : (i k : ℕ) → ke ≤ i → i < ncol → k < ke → wholeClosed nrow kb ke t .below i k ≡ through kb ke t (b i) k
   unfolding wholeClosed below
@@ -83,10 +83,11 @@ module _ (nrow ncol kb ke : ℕ) (t : State) (b : Mat) (w : Inside ke (t .pivots
       let p = wholeClosed nrow kb ke t in
       let q = closed kb ke (withHead t b) in
       let s = through kb ke t (rowOf end r) in
-      sym (panel-cut p end r w h)
+      sym (panel-cut p w end r h)
       ∙ (fun-ext λ j. test (ltb j end)
-      (λ x. deferred-alike p (q .below) end s s j w h (ltb-true j end x) (λ c y. refl) (λ c k y z v. below-alike c k y (omega arith) v))
-      (λ x. deferred-past p end s j (ltb-false j end x) ∙ sym (deferred-past q end s j (ltb-false j end x))))
+      (λ x. deferred-alike (t .pivots .diagonals) kb ke (w .pair) (p .below) (q .below) end s s j h (ltb-true j end x) (λ c y. refl) (λ c k y z v. below-alike c k y (omega arith) v))
+      (λ x. deferred-past (t .pivots .diagonals) kb ke (p .below) end s j (ltb-false j end x)
+      ∙ sym (deferred-past (t .pivots .diagonals) kb ke (q .below) end s j (ltb-false j end x))))
 
   -- a tail row
   pub tail-passed : (i : ℕ) → ncol ≤ i → i < nrow
@@ -105,7 +106,7 @@ module _ (nrow ncol kb ke : ℕ) (t : State) (b : Mat) (w : Inside ke (t .pivots
       ap (λ (r : Row). r j) (whole-row nrow ncol kb ke t i k (omega arith) ∙ ap (λ (end : ℕ). rowAfterPanel p end (t .a i)) (omega arith))
       ∙ sym (row-at (i + 1) (rowAfterPanel p (i + 1) (t .a i)) j (omega arith))
       ∙ ap (λ (r : Row). r j) (panel-alike (i + 1) (t .a i) (omega arith) (omega arith) ∙ ap (λ (r : Row). rowAfterPanel q (i + 1) r) (row-alike i l)
-      ∙ panel-cut q (i + 1) (b i) w (omega arith))
+      ∙ panel-cut q w (i + 1) (b i) (omega arith))
       ∙ row-at (i + 1) (rowAfterPanel q (i + 1) (b i)) j (omega arith)
       ∙ ap (λ (r : Row). r j) (sym (later-row kb ke (withHead t b) i k))
 

@@ -9,6 +9,7 @@ use borrow.Author.Tests.{ltb-true, ltb-false}
 use lib.Dec.{ltb}
 use Rattle.model.specs.Scalar.{isFinite}
 use Rattle.model.specs.Matrix.{Row, Mat, headOf, rowOf}
+use Rattle.model.specs.Step.{Diagonals}
 use Rattle.model.specs.Panel.{Panel, tailRowOf}
 use Rattle.model.specs.Head.{State, Run, refused, done}
 use Rattle.model.specs.Factor.{start, headRunOf, everyFrom, columnSound, resultCheck, fails, judged, judgedRun, headAnswerOf, factorRowOf, markOf, factorEntry}
@@ -28,15 +29,15 @@ unfolding everyFrom
 every-alike f g zero i h = refl
 every-alike f g (suc n) i h = rw (h i (omega arith) (omega arith), every-alike f g n (i + 1) (λ j x y. h j (omega arith) (omega arith)))
 
-column-masked : (c : ℕ) (s : State) (k : ℕ) → columnSound c (cutState c s) k ≡ columnSound c s k
-unfolding columnSound cutState
-column-masked c s k =
-    rw (every-alike (λ i. isFinite (headOf c (s .a) i k)) (λ i. isFinite (s .a i k)) (c - k) k (λ i x y. ap isFinite (head-at c (s .a) i k x (omega arith))))
+column-masked : (c : ℕ) (D : Diagonals) (a : Mat) (k : ℕ) → columnSound c D (headOf c a) k ≡ columnSound c D a k
+unfolding columnSound
+column-masked c D a k =
+    rw (every-alike (λ i. isFinite (headOf c a i k)) (λ i. isFinite (a i k)) (c - k) k (λ i x y. ap isFinite (head-at c a i k x (omega arith))))
 
-check-masked : (c : ℕ) (s : State) (n k : ℕ) → resultCheck c (cutState c s) n k ≡ resultCheck c s n k
+check-masked : (c : ℕ) (D : Diagonals) (a : Mat) (n k : ℕ) → resultCheck c D (headOf c a) n k ≡ resultCheck c D a n k
 unfolding resultCheck
-check-masked c s zero k = refl
-check-masked c s (suc n) k = rw (column-masked c s k, check-masked c s n (k + 1))
+check-masked c D a zero k = refl
+check-masked c D a (suc n) k = rw (column-masked c D a k, check-masked c D a n (k + 1))
 
 mark-masked : (c : ℕ) (r : Row) → markOf c (rowOf c r) ≡ markOf c r
 unfolding markOf
@@ -92,11 +93,15 @@ module _ (mode : Mode) (limit nrow ncol nb : ℕ) (a : Mat) (t : State) (w : Rea
   unfolding cutState
   reached-rounds = ap (λ (s : State). s .rounds) (w .same)
 
-  reached-check : resultCheck ncol t ncol 0 ≡ resultCheck ncol (w .state) ncol 0
-  reached-check = sym (check-masked ncol t ncol 0) ∙ ap (λ (s : State). resultCheck ncol s ncol 0) (w .same) ∙ check-masked ncol (w .state) ncol 0
+  reached-check : resultCheck ncol (t .pivots .diagonals) (t .a) ncol 0 ≡ resultCheck ncol (w .state .pivots .diagonals) (w .state .a) ncol 0
+  unfolding cutState
+  reached-check =
+      sym (check-masked ncol (t .pivots .diagonals) (t .a) ncol 0)
+      ∙ ap (λ (s : State). resultCheck ncol (s .pivots .diagonals) (s .a) ncol 0) (w .same)
+      ∙ check-masked ncol (w .state .pivots .diagonals) (w .state .a) ncol 0
 
   -- the head's answer: the result check's refusal, or that it stands
-  pub reached-answer : headAnswerOf mode limit ncol nb a ≡ judged (resultCheck ncol t ncol 0) (w .state) (w .panels)
+  pub reached-answer : headAnswerOf mode limit ncol nb a ≡ judged (resultCheck ncol (t .pivots .diagonals) (t .a) ncol 0) (w .state) (w .panels)
   unfolding headAnswerOf
   reached-answer = ap (judgedRun ncol) (w .run) ∙ ap (λ (c : Check). judged c (w .state) (w .panels)) (sym reached-check)
 

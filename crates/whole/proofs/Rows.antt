@@ -8,7 +8,7 @@ use lib.Dec.{ltb}
 use lib.Ieee.{Float}
 use Rattle.model.specs.Scalar.{_⊗_, zeroF}
 use Rattle.model.specs.Matrix.{Row, Mat, headOf, rowOf, exchangedPlace}
-use Rattle.model.specs.Step.{Step, one, two, rowAfterStep, Pivots, begins, pastOf, stepAt, firstOf, arrived, rowStepped, rowAfterSteps}
+use Rattle.model.specs.Step.{Step, one, two, rowAfterStep, Diagonals, begins, pastOf, stepAt, firstOf, arrived, rowStepped, rowAfterSteps}
 use Rattle.model.specs.Panel.{Panel, timesD, sumFrom, accOf, rowDeferred, rowAfterPanel}
 use Rattle.model.proofs.Cases.{test}
 use Rattle.whole.proofs.Masked.{ranged, within-past, head-at, head-up, place-under, one-alike, two-alike, one-past, two-past}
@@ -46,11 +46,11 @@ abbrev Before : ℕ → Step → Type 0
 Before ke (one k kp d m) = (k < ke) × (kp < ke)
 Before ke (two k kp b m1 m2) = (k + 1 < ke) × (kp < ke)
 
-step-before : (ke : ℕ) (p : Pivots) (m : Mat) (k : ℕ) → Inside ke p → k < ke → Before ke (stepAt p m k)
+step-before : (ke : ℕ) (D : Diagonals) (q : ℕ → ℕ) (m : Mat) (k : ℕ) → Inside ke (D .blocks) q → k < ke → Before ke (stepAt D q m k)
 unfolding stepAt
-step-before ke p m k w h =
-    test (begins (p .blocks) k)
-    (λ t. rw t (w .pair k (eqb-true (p .blocks k) 1 t), w .partner k))
+step-before ke D q m k w h =
+    test (begins (D .blocks) k)
+    (λ t. rw t (w .pair k (eqb-true (D .blocks k) 1 t), w .partner k))
     (λ t. rw t (h, w .partner k))
 
 step-past : (ke : ℕ) (s : Step) (r : Row) (j : ℕ) → Before ke s → ke ≤ j → rowAfterStep ke s r j ≡ r j
@@ -85,51 +85,51 @@ step-cut ke e s r w h =
     (λ j l. step-past ke s (rowOf e r) j w (omega arith) ∙ row-past e r j l)
 
 -- a step with the exchange before it
-first-before : (ke : ℕ) (p : Pivots) (k : ℕ) → Inside ke p → k < ke → firstOf (p .blocks) (p .partners) k < ke
+first-before : (ke : ℕ) (f q : ℕ → ℕ) (k : ℕ) → Inside ke f q → k < ke → firstOf f q k < ke
 unfolding firstOf
-first-before ke p k w h = test (begins (p .blocks) k) (λ t. rw t (w .partner (k + 1))) (λ t. rw t h)
+first-before ke f q k w h = test (begins f k) (λ t. rw t (w .partner (k + 1))) (λ t. rw t h)
 
-arrived-past : (ke : ℕ) (p : Pivots) (k : ℕ) (r : Row) (j : ℕ) → Inside ke p → k < ke → ke ≤ j → arrived (p .blocks) (p .partners) k r j ≡ r j
+arrived-past : (ke : ℕ) (f q : ℕ → ℕ) (k : ℕ) (r : Row) (j : ℕ) → Inside ke f q → k < ke → ke ≤ j → arrived f q k r j ≡ r j
 unfolding arrived
-arrived-past ke p k r j w h l = ap r (place-past k (firstOf (p .blocks) (p .partners) k) ke j h (first-before ke p k w h) l)
+arrived-past ke f q k r j w h l = ap r (place-past k (firstOf f q k) ke j h (first-before ke f q k w h) l)
 
-arrived-cut : (ke e : ℕ) (p : Pivots) (k : ℕ) (r : Row) → Inside ke p → k < ke → ke ≤ e → arrived (p .blocks) (p .partners) k (rowOf e r) ≡ rowOf e (arrived (p .blocks) (p .partners) k r)
+arrived-cut : (ke e : ℕ) (f q : ℕ → ℕ) (k : ℕ) (r : Row) → Inside ke f q → k < ke → ke ≤ e → arrived f q k (rowOf e r) ≡ rowOf e (arrived f q k r)
 unfolding arrived
-arrived-cut ke e p k r w h l =
-    let q = first-before ke p k w h in
-    is-row e (arrived (p .blocks) (p .partners) k r) (arrived (p .blocks) (p .partners) k (rowOf e r))
-    (λ j x. row-at e r (exchangedPlace k (firstOf (p .blocks) (p .partners) k) j) (place-under k (firstOf (p .blocks) (p .partners) k) e j (omega arith) (omega arith) x))
-    (λ j x. ap (rowOf e r) (place-past k (firstOf (p .blocks) (p .partners) k) ke j h q (omega arith)) ∙ row-past e r j x)
+arrived-cut ke e f q k r w h l =
+    let b = first-before ke f q k w h in
+    is-row e (arrived f q k r) (arrived f q k (rowOf e r))
+    (λ j x. row-at e r (exchangedPlace k (firstOf f q k) j) (place-under k (firstOf f q k) e j (omega arith) (omega arith) x))
+    (λ j x. ap (rowOf e r) (place-past k (firstOf f q k) ke j h b (omega arith)) ∙ row-past e r j x)
 
-stepped-past : (ke : ℕ) (p : Pivots) (m : Mat) (k : ℕ) (r : Row) (j : ℕ) → Inside ke p → k < ke → ke ≤ j → rowStepped p m ke k r j ≡ r j
-unfolding rowStepped
-stepped-past ke p m k r j w h l = step-past ke (stepAt p m k) (arrived (p .blocks) (p .partners) k r) j (step-before ke p m k w h) l ∙ arrived-past ke p k r j w h l
+module _ (D : Diagonals) (q : ℕ → ℕ) (m : Mat) (ke : ℕ) (w : Inside ke (D .blocks) q) where
+  stepped-past : (k : ℕ) (r : Row) (j : ℕ) → k < ke → ke ≤ j → rowStepped D q m ke k r j ≡ r j
+  unfolding rowStepped
+  stepped-past k r j h l =
+      step-past ke (stepAt D q m k) (arrived (D .blocks) q k r) j (step-before ke D q m k w h) l ∙ arrived-past ke (D .blocks) q k r j w h l
 
-stepped-cut : (ke e : ℕ) (p : Pivots) (m : Mat) (k : ℕ) (r : Row) → Inside ke p → k < ke → ke ≤ e
-    → rowStepped p m ke k (rowOf e r) ≡ rowOf e (rowStepped p m ke k r)
-unfolding rowStepped
-stepped-cut ke e p m k r w h l =
-    ap (rowAfterStep ke (stepAt p m k)) (arrived-cut ke e p k r w h l) ∙ step-cut ke e (stepAt p m k) (arrived (p .blocks) (p .partners) k r) (step-before ke p m k w h) l
+  stepped-cut : (k e : ℕ) (r : Row) → k < ke → ke ≤ e → rowStepped D q m ke k (rowOf e r) ≡ rowOf e (rowStepped D q m ke k r)
+  unfolding rowStepped
+  stepped-cut k e r h l =
+      ap (rowAfterStep ke (stepAt D q m k)) (arrived-cut ke e (D .blocks) q k r w h l)
+      ∙ step-cut ke e (stepAt D q m k) (arrived (D .blocks) q k r) (step-before ke D q m k w h) l
 
--- ---- the panel's steps in turn
+  -- ---- the panel's steps in turn
 
-module _ (p : Pivots) (m : Mat) (ke : ℕ) (w : Inside ke p) where
   -- columns from ke on stay
-  pub steps-past : (n k : ℕ) (r : Row) (j : ℕ) → ke ≤ j → rowAfterSteps p m ke n k r j ≡ r j
+  pub steps-past : (n k : ℕ) (r : Row) (j : ℕ) → ke ≤ j → rowAfterSteps D q m ke n k r j ≡ r j
   unfolding rowAfterSteps
   steps-past zero k r j h = refl
   steps-past (suc n) k r j h =
       test (ltb k ke)
-      (λ t. rw t (steps-past n (pastOf (p .blocks) k) (rowStepped p m ke k r) j h ∙ stepped-past ke p m k r j w (ltb-true k ke t) h))
+      (λ t. rw t (steps-past n (pastOf (D .blocks) k) (rowStepped D q m ke k r) j h ∙ stepped-past k r j (ltb-true k ke t) h))
       (λ t. rw t)
 
-  pub steps-cut : (n k e : ℕ) (r : Row) → ke ≤ e → rowAfterSteps p m ke n k (rowOf e r) ≡ rowOf e (rowAfterSteps p m ke n k r)
+  pub steps-cut : (n k e : ℕ) (r : Row) → ke ≤ e → rowAfterSteps D q m ke n k (rowOf e r) ≡ rowOf e (rowAfterSteps D q m ke n k r)
   unfolding rowAfterSteps
   steps-cut zero k e r h = refl
   steps-cut (suc n) k e r h =
       test (ltb k ke)
-      (λ t. rw (t, stepped-cut ke e p m k r w (ltb-true k ke t) h)
-      (steps-cut n (pastOf (p .blocks) k) e (rowStepped p m ke k r) h))
+      (λ t. rw (t, stepped-cut k e r (ltb-true k ke t) h) (steps-cut n (pastOf (D .blocks) k) e (rowStepped D q m ke k r) h))
       (λ t. rw t)
 
 -- ---- the later-panel rule
@@ -139,55 +139,60 @@ unfolding sumFrom
 sum-alike f g c zero acc h = refl
 sum-alike f g c (suc n) acc h = rw (h c (omega arith) (omega arith)) (sum-alike f g (c + 1) n _ (λ k x y. h k (omega arith) (omega arith)))
 
--- L·D before ke sees no column from ke on
-timesD-alike : (ke : ℕ) (p : Pivots) (r s : Row) (c : ℕ) → Inside ke p → c < ke → ((b : ℕ) → b < ke → r b ≡ s b) → timesD p r c ≡ timesD p s c
-unfolding timesD
-timesD-alike ke p r s c w h f =
-    test (begins (p .blocks) c)
-    (λ t. rw (t, f c h, f (c + 1) (w .pair c (eqb-true (p .blocks c) 1 t))))
-    (λ t. rw (t, f c h, f (c - 1) (omega arith)))
+module _ (D : Diagonals) (kb ke : ℕ) (pair : (j : ℕ) → D .blocks j ≡ 1 → j + 1 < ke) where
+  -- L·D before ke sees no column from ke on
+  timesD-alike : (r s : Row) (c : ℕ) → c < ke → ((b : ℕ) → b < ke → r b ≡ s b) → timesD D r c ≡ timesD D s c
+  unfolding timesD
+  timesD-alike r s c h f =
+      test (begins (D .blocks) c)
+      (λ t. rw (t, f c h, f (c + 1) (pair c (eqb-true (D .blocks c) 1 t))))
+      (λ t. rw (t, f c h, f (c - 1) (omega arith)))
 
--- acc is a sum over the panel's columns
-acc-alike : (p : Panel) (l q m n : Row) → Inside (p .ke) (p .pivots) → ((b : ℕ) → b < p .ke → l b ≡ q b) → ((b : ℕ) → b < p .ke → m b ≡ n b)
-    → accOf p l m ≡ accOf p q n
-acc-alike p l q m n w f g =
-    sum-alike (λ k. timesD (p .pivots) l k ⊗ m k) (λ k. timesD (p .pivots) q k ⊗ n k) (p .kb) (p .ke - p .kb) zeroF
-    (λ k x y. let h : k < p .ke = omega arith in rw (timesD-alike (p .ke) (p .pivots) l q k w h f, g k h))
+  -- acc is a sum over the panel's columns
+  acc-alike : (l q m n : Row) → ((b : ℕ) → b < ke → l b ≡ q b) → ((b : ℕ) → b < ke → m b ≡ n b) → accOf D kb ke l m ≡ accOf D kb ke q n
+  acc-alike l q m n f g =
+      sum-alike (λ k. timesD D l k ⊗ m k) (λ k. timesD D q k ⊗ n k) kb (ke - kb) zeroF
+      (λ k x y. let h : k < ke = omega arith in rw (timesD-alike l q k h f, g k h))
 
 -- columns from `end` on stay
-pub deferred-past : (p : Panel) (end : ℕ) (l : Row) (j : ℕ) → end ≤ j → rowDeferred p end l j ≡ l j
+pub deferred-past : (D : Diagonals) (kb ke : ℕ) (a : Mat) (end : ℕ) (l : Row) (j : ℕ) → end ≤ j → rowDeferred D kb ke a end l j ≡ l j
 unfolding rowDeferred
-deferred-past p end l j h = rw (within-past (p .ke) end j h)
+deferred-past D kb ke a end l j h = rw (within-past ke end j h)
 
--- at a column before `end` it sees the row before `end`, and of the rows below those before `end` in the panel's columns
-pub deferred-alike : (p : Panel) (b : Mat) (end : ℕ) (l q : Row) (j : ℕ) → Inside (p .ke) (p .pivots) → p .ke ≤ end → j < end
-    → ((c : ℕ) → c < end → l c ≡ q c) → ((c k : ℕ) → p .ke ≤ c → c < end → k < p .ke → p .below c k ≡ b c k)
-    → rowDeferred p end l j ≡ rowDeferred (record { kb = p .kb; ke = p .ke; pivots = p .pivots; mult = p .mult; below = b }) end q j
-unfolding rowDeferred
-deferred-alike p b end l q j w h e f g =
-    rw (f j e) (ranged (p .ke) end j
-    (λ x y t. rw (t, acc-alike p l q (p .below j) (b j) w (λ c z. f c (omega arith)) (λ k z. g j k x y z)))
-    (λ t. rw t))
+module _ (D : Diagonals) (kb ke : ℕ) (pair : (j : ℕ) → D .blocks j ≡ 1 → j + 1 < ke) where
+  -- at a column before `end` it sees the row before `end`, and of the rows below those before `end` in the panel's columns
+  pub deferred-alike : (a b : Mat) (end : ℕ) (l q : Row) (j : ℕ) → ke ≤ end → j < end
+      → ((c : ℕ) → c < end → l c ≡ q c) → ((c k : ℕ) → ke ≤ c → c < end → k < ke → a c k ≡ b c k)
+      → rowDeferred D kb ke a end l j ≡ rowDeferred D kb ke b end q j
+  unfolding rowDeferred
+  deferred-alike a b end l q j h e f g =
+      rw (f j e) (ranged ke end j
+      (λ x y t. rw (t, acc-alike D kb ke pair l q (a j) (b j) (λ c z. f c (omega arith)) (λ k z. g j k x y z)))
+      (λ t. rw t))
 
-pub deferred-cut : (p : Panel) (end : ℕ) (l : Row) → Inside (p .ke) (p .pivots) → p .ke ≤ end
-    → rowDeferred p end (rowOf end l) ≡ rowOf end (rowDeferred p end l)
-deferred-cut p end l w h =
-    is-row end (rowDeferred p end l) (rowDeferred p end (rowOf end l))
-    (λ j e. deferred-alike p (p .below) end (rowOf end l) l j w h e (λ c z. row-at end l c z) (λ c k x y z. refl))
-    (λ j e. deferred-past p end (rowOf end l) j e ∙ row-past end l j e)
+  pub deferred-cut : (a : Mat) (end : ℕ) (l : Row) → ke ≤ end → rowDeferred D kb ke a end (rowOf end l) ≡ rowOf end (rowDeferred D kb ke a end l)
+  deferred-cut a end l h =
+      is-row end (rowDeferred D kb ke a end l) (rowDeferred D kb ke a end (rowOf end l))
+      (λ j e. deferred-alike a a end (rowOf end l) l j h e (λ c z. row-at end l c z) (λ c k x y z. refl))
+      (λ j e. deferred-past D kb ke a end (rowOf end l) j e ∙ row-past end l j e)
 
 -- ---- the panel whole
 
-pub panel-cut : (p : Panel) (end : ℕ) (r : Row) → Inside (p .ke) (p .pivots) → p .ke ≤ end
-    → rowAfterPanel p end (rowOf end r) ≡ rowOf end (rowAfterPanel p end r)
-unfolding rowAfterPanel
-panel-cut p end r w h =
-    ap (λ (l : Row). rowDeferred p end l) (steps-cut (p .pivots) (p .mult) (p .ke) w (p .ke - p .kb) (p .kb) end r h)
-    ∙ deferred-cut p end (rowAfterSteps (p .pivots) (p .mult) (p .ke) (p .ke - p .kb) (p .kb) r) w h
+module _ (p : Panel) (w : Inside (p .ke) (p .diagonals .blocks) (p .partners)) where
+  -- the steps of a row, before the later-panel rule
+  abbrev stepped : Row → Row
+  stepped r = rowAfterSteps (p .diagonals) (p .partners) (p .mult) (p .ke) (p .ke - p .kb) (p .kb) r
 
--- columns past the panel and from `end` on stay
-pub panel-past : (p : Panel) (end : ℕ) (r : Row) (j : ℕ) → Inside (p .ke) (p .pivots) → p .ke ≤ j → end ≤ j → rowAfterPanel p end r j ≡ r j
-unfolding rowAfterPanel
-panel-past p end r j w h l =
-    deferred-past p end (rowAfterSteps (p .pivots) (p .mult) (p .ke) (p .ke - p .kb) (p .kb) r) j l
-    ∙ steps-past (p .pivots) (p .mult) (p .ke) w (p .ke - p .kb) (p .kb) r j h
+  pub panel-cut : (end : ℕ) (r : Row) → p .ke ≤ end → rowAfterPanel p end (rowOf end r) ≡ rowOf end (rowAfterPanel p end r)
+  unfolding rowAfterPanel
+  panel-cut end r h =
+      ap (λ (l : Row). rowDeferred (p .diagonals) (p .kb) (p .ke) (p .below) end l)
+      (steps-cut (p .diagonals) (p .partners) (p .mult) (p .ke) w (p .ke - p .kb) (p .kb) end r h)
+      ∙ deferred-cut (p .diagonals) (p .kb) (p .ke) (w .pair) (p .below) end (stepped r) h
+
+  -- columns past the panel and from `end` on stay
+  pub panel-past : (end : ℕ) (r : Row) (j : ℕ) → p .ke ≤ j → end ≤ j → rowAfterPanel p end r j ≡ r j
+  unfolding rowAfterPanel
+  panel-past end r j h l =
+      deferred-past (p .diagonals) (p .kb) (p .ke) (p .below) end (stepped r) j l
+      ∙ steps-past (p .diagonals) (p .partners) (p .mult) (p .ke) w (p .ke - p .kb) (p .kb) r j h

@@ -14,7 +14,7 @@ use Rattle.model.specs.declared.Mode.{Mode}
 use Rattle.model.proofs.Cases.{test}
 use Rattle.whole.specs.Whole.{wholePassed, WholeRun, wholeContinued, wholePanelsOf, cutState, cutProgress, stood, tailRows, cutRun, finished}
 use Rattle.whole.proofs.Masked.{ranged, head-twice}
-use Rattle.whole.proofs.Steps.{Went, Kept, Inside, inside-more, start-inside, panel-masked, panel-keeps, panel-inside}
+use Rattle.whole.proofs.Steps.{Went, Kept, PivotsInside, inside-more, start-inside, panel-masked, panel-keeps, panel-inside}
 use Rattle.whole.proofs.Passed.{wholeNext, headNext, withHead, tail-passed, state-passed}
 
 -- ---- after a panel's steps
@@ -54,7 +54,7 @@ cut-twice c s = λ i. record { a = head-twice c (s .a) i; mult = s .mult; pivots
 
 module _ (mode : Mode) (limit nrow ncol nb : ℕ) (hn : ncol ≤ nrow) (hb : 1 ≤ nb) where
   -- with a panel in front the tail rows go through it first
-  panel-first : (kb ke : ℕ) (s t : State) (b : Mat) → Inside ke (t .pivots) → ke ≤ ncol → headOf ncol (t .a) ≡ headOf ncol b → Kept ke s t → (r : Run)
+  panel-first : (kb ke : ℕ) (s t : State) (b : Mat) → PivotsInside ke (t .pivots) → ke ≤ ncol → headOf ncol (t .a) ≡ headOf ncol b → Kept ke s t → (r : Run)
       → finished nrow ncol (wholeNext nrow ncol kb ke t .a) r ≡ finished nrow ncol (s .a) (withPanel (closed kb ke (withHead t b)) r)
   unfolding tailRowOf
   panel-first kb ke s t b w hk e p (refused n q) = refl
@@ -67,10 +67,10 @@ module _ (mode : Mode) (limit nrow ncol nb : ℕ) (hn : ncol ≤ nrow) (hb : 1 �
 
   -- what two runs over n panels from kb on have in common
   abbrev Alike : ℕ → ℕ → Type 0
-  Alike n kb = (s u : State) → cutState ncol s ≡ cutState ncol u → Inside (kb + 1) (s .pivots)
+  Alike n kb = (s u : State) → cutState ncol s ≡ cutState ncol u → PivotsInside (kb + 1) (s .pivots)
       → cutRun nrow ncol (wholePanelsOf mode limit nrow ncol nb n kb s) ≡ finished nrow ncol (s .a) (panelsOf mode limit ncol nb n kb u)
 
-  panel-then : (n kb ke : ℕ) → Alike n ke → ke ≤ ncol → (s t u : State) → cutState ncol t ≡ cutState ncol u → Inside ke (t .pivots) → Kept ke s t
+  panel-then : (n kb ke : ℕ) → Alike n ke → ke ≤ ncol → (s t u : State) → cutState ncol t ≡ cutState ncol u → PivotsInside ke (t .pivots) → Kept ke s t
       → cutRun nrow ncol (wholePanelsOf mode limit nrow ncol nb n ke (wholeNext nrow ncol kb ke t))
       ≡ finished nrow ncol (s .a) (withPanel (closed kb ke u) (panelsOf mode limit ncol nb n ke (headNext kb ke u)))
   unfolding wholePassed
@@ -80,7 +80,7 @@ module _ (mode : Mode) (limit nrow ncol nb : ℕ) (hn : ncol ≤ nrow) (hb : 1 �
       subst (λ (x : State). cutRun nrow ncol (wholePanelsOf mode limit nrow ncol nb n ke (wholeNext nrow ncol kb ke t))
       ≡ finished nrow ncol (s .a) (withPanel (closed kb ke x) (panelsOf mode limit ncol nb n ke (headNext kb ke x)))) (only-head ncol t u e)
       (rest (wholeNext nrow ncol kb ke t) (headNext kb ke v) (state-passed nrow ncol kb ke t (u .a) w hk hn h)
-      (inside-more ke (ke + 1) (t .pivots) (omega arith) w)
+      (inside-more ke (ke + 1) _ _ (omega arith) w)
       ∙ panel-first kb ke s t (u .a) w hk h p (panelsOf mode limit ncol nb n ke (headNext kb ke v)))
 
   pub run-alike : (n kb : ℕ) → Alike n kb
@@ -90,18 +90,18 @@ module _ (mode : Mode) (limit nrow ncol nb : ℕ) (hn : ncol ≤ nrow) (hb : 1 �
       let ke = min (kb + nb) ncol in
       test (ltb kb ncol)
       (λ t. let h : kb < ncol = ltb-true kb ncol t in
-      rw t (continued-alike nrow ncol (s .a) (λ z. Inside ke (z .pivots)) (Kept ke s)
+      rw t (continued-alike nrow ncol (s .a) (λ z. PivotsInside ke (z .pivots)) (Kept ke s)
       (λ z. wholePanelsOf mode limit nrow ncol nb n ke (wholeNext nrow ncol kb ke z))
       (λ z. withPanel (closed kb ke z) (panelsOf mode limit ncol nb n ke (headNext kb ke z)))
       (panel-then n kb ke (run-alike n ke) (omega arith) s) (panelOf ke mode limit (ke - kb) kb s) (panelOf ke mode limit (ke - kb) kb u)
       (sym (panel-masked ncol ke mode limit (ke - kb) kb s (omega arith)) ∙ ap (λ (z : State). panelOf ke mode limit (ke - kb) kb z) e
       ∙ panel-masked ncol ke mode limit (ke - kb) kb u (omega arith))
-      (panel-inside ke mode limit (ke - kb) kb s (inside-more (kb + 1) ke (s .pivots) (omega arith) w))
+      (panel-inside ke mode limit (ke - kb) kb s (inside-more (kb + 1) ke _ _ (omega arith) w))
       (panel-keeps ke mode limit (ke - kb) kb s)))
       (λ t. rw t (ap (λ (z : State). stood z (tailRows nrow ncol (λ r. r) (s .a))) e))
 
   -- the run of the head, as the state before it shows it
-  pub run-masked : (n kb : ℕ) (s : State) → Inside (kb + 1) (s .pivots)
+  pub run-masked : (n kb : ℕ) (s : State) → PivotsInside (kb + 1) (s .pivots)
       → cutRun nrow ncol (wholePanelsOf mode limit nrow ncol nb n kb s) ≡ finished nrow ncol (s .a) (panelsOf mode limit ncol nb n kb (cutState ncol s))
   run-masked n kb s w = run-alike n kb s (cutState ncol s) (sym (cut-twice ncol s)) w
 

@@ -131,15 +131,19 @@ panel-keeps ke mode limit n k s =
 -- ---- what is noted
 
 -- every partner and every block stands before ke
-pub record Inside (ke : ℕ) (p : Pivots) : Type 0 where
-  pub partner : (j : ℕ) → p .partners j < ke
-  pub pair : (j : ℕ) → p .blocks j ≡ 1 → j + 1 < ke
+pub record Inside (ke : ℕ) (blocks partners : ℕ → ℕ) : Type 0 where
+  pub partner : (j : ℕ) → partners j < ke
+  pub pair : (j : ℕ) → blocks j ≡ 1 → j + 1 < ke
 
-pub inside-more : (ke kf : ℕ) (p : Pivots) → ke ≤ kf → Inside ke p → Inside kf p
-inside-more ke kf p h w = record { partner = λ j. omega (arith, w .partner j); pair = λ j e. omega (arith, w .pair j e) }
+-- of a record of pivots
+abbrev pub PivotsInside : ℕ → Pivots → Type 0
+PivotsInside ke p = Inside ke (p .diagonals .blocks) (p .partners)
+
+pub inside-more : (ke kf : ℕ) (f q : ℕ → ℕ) → ke ≤ kf → Inside ke f q → Inside kf f q
+inside-more ke kf f q h w = record { partner = λ j. omega (arith, w .partner j); pair = λ j e. omega (arith, w .pair j e) }
 
 -- with nothing noted
-pub start-inside : (ncol : ℕ) (a : Mat) → Inside 1 (start ncol a .pivots)
+pub start-inside : (ncol : ℕ) (a : Mat) → PivotsInside 1 (start ncol a .pivots)
 unfolding start
 start-inside ncol a = record { partner = λ j. omega arith; pair = λ j e. let z : _≡_ {A = ℕ} 0 1 = e in omega arith }
 
@@ -151,7 +155,7 @@ last-wide : (k : ℕ) (b : Bool) → b ≡ true → lastOf k b ≡ k + 1
 unfolding lastOf
 last-wide k b e = rw e
 
-noted-inside : (ke limit k : ℕ) (p : Pivots) (v : Pivot) → GoodPivot ke limit k v → Inside ke p → Inside ke (noted p k (lastOf k (isBlock (v .diagonal))) v)
+noted-inside : (ke limit k : ℕ) (p : Pivots) (v : Pivot) → GoodPivot ke limit k v → PivotsInside ke p → PivotsInside ke (noted p k (lastOf k (isBlock (v .diagonal))) v)
 unfolding noted put
 noted-inside ke limit k p v g w =
     record {
@@ -164,8 +168,8 @@ noted-inside ke limit k p v g w =
           (λ u. rw u (w .pair j))));
     }
 
-pub panel-inside : (ke : ℕ) (mode : Mode) (limit n k : ℕ) (s : State) → Inside ke (s .pivots) → Went (λ t. Inside ke (t .pivots)) (panelOf ke mode limit n k s)
+pub panel-inside : (ke : ℕ) (mode : Mode) (limit n k : ℕ) (s : State) → PivotsInside ke (s .pivots) → Went (λ t. PivotsInside ke (t .pivots)) (panelOf ke mode limit n k s)
 panel-inside ke mode limit n k s w =
-    panel-went ke mode limit (λ t. Inside ke (t .pivots))
+    panel-went ke mode limit (λ t. PivotsInside ke (t .pivots))
     (λ t k v a m hk e p. let g : GoodPivot ke limit k v = subst (λ (o : Tried). Good ke limit k o) e (try-good ke (t .a) (t .mult) mode limit k hk) in
     noted-inside ke limit k (t .pivots) v g p) n k s w

@@ -5,7 +5,7 @@ use Prim.Native.Nat.{ℕ, zero, suc, _+_, _-_, min}
 use lib.Dec.{ltb}
 use Rattle.model.specs.Scalar.{zeroF}
 use Rattle.model.specs.Matrix.{Row, Mat, headOf, rowOf, within}
-use Rattle.model.specs.Step.{rowAfterSteps}
+use Rattle.model.specs.Step.{Diagonals, rowAfterSteps}
 use Rattle.model.specs.Panel.{Panel, rowDeferred, tailRowOf}
 use Rattle.model.specs.Head.{State, Tried, refusedAt, took, Progress, stopped, going, panelOf, Run, refused, done, blank}
 use Rattle.model.specs.declared.Mode.{Mode}
@@ -19,14 +19,24 @@ below lo hi f a = λ i. cond (within lo hi i) (f (a i)) (a i)
 -- the finished panel, with all rows from ke on after its steps
 unfoldable pub wholeClosed : ℕ → ℕ → ℕ → State → Panel
 wholeClosed nrow kb ke s =
-    record { kb = kb; ke = ke; pivots = s .pivots; mult = s .mult; below = below ke nrow (rowAfterSteps (s .pivots) (s .mult) ke (ke - kb) kb) (s .a) }
+    let D = s .pivots .diagonals in
+    let partners = s .pivots .partners in
+    record {
+      kb = kb;
+      ke = ke;
+      diagonals = D;
+      partners = partners;
+      mult = s .mult;
+      below = below ke nrow (rowAfterSteps D partners (s .mult) ke (ke - kb) kb) (s .a);
+    }
 
--- the later-panel rule on all rows from ke on: a head row up to its own column, a tail row up to ncol
-unfoldable pub deferredRows : ℕ → ℕ → Panel → Mat → Mat
-deferredRows nrow ncol p a = λ i. cond (within (p .ke) nrow i) (rowDeferred p (min (i + 1) ncol) (a i)) (a i)
+-- the later-panel rule on all rows from ke on, of which a holds L in columns kb to ke: a head row up to its own column, a tail row up to ncol
+unfoldable pub deferredRows : ℕ → ℕ → Diagonals → (kb ke : ℕ) → Mat → Mat
+deferredRows nrow ncol D kb ke a = λ i. cond (within ke nrow i) (rowDeferred D kb ke a (min (i + 1) ncol) (a i)) (a i)
 
 unfoldable pub wholePassed : ℕ → ℕ → Panel → State → State
-wholePassed nrow ncol p s = record { a = deferredRows nrow ncol p (p .below); mult = blank; pivots = s .pivots; rounds = s .rounds }
+wholePassed nrow ncol p s =
+    record { a = deferredRows nrow ncol (p .diagonals) (p .kb) (p .ke) (p .below); mult = blank; pivots = s .pivots; rounds = s .rounds }
 
 -- ---- panels in turn
 

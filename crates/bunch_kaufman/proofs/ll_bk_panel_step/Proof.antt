@@ -4,6 +4,7 @@ use Prim.Native.Nat.{_≤_, _*_, _-_}
 use mathlib.Core.Path.{_≡_, _∙_}
 use lib.ListN.{length}
 use borrow.Author.Needs.{needs}
+use Rattle.model.specs.Step.{pivotsOf}
 use Rattle.model.specs.Head.{panelOf}
 use Rattle.bunch_kaufman.specs.Slices.{state}
 use Rattle.bunch_kaufman.proofs.Steps.{panel-step, panel-stop, panel-end, step-pre, note-pre, rounds-fit, next-fits, next-from, next-in, next-few}
@@ -12,19 +13,20 @@ use Rattle.bunch_kaufman.proofs.ll_bk_panel_step.Statement.{statement}
 use Rattle.bunch_kaufman.proofs.ll_bk_panel_step.Tie as tie
 
 abbrev Inv-loop : tie.InvT-loop
-Inv-loop panel₀ mult₀ d₀ sub₀ amounts₀ blocks₀ lifts₀ order₀ partners₀ nrow ncol nb kb ke mode limit before k₀ rounds₀
-    panel mult d sub amounts blocks lifts order partners k rounds =
-    (ke ≤ 128) × (kb ≤ k) × (k ≤ ke) × (rounds ≤ 64 * k)
+Inv-loop panel₀ mult₀ d₀ sub₀ blocks₀ partners₀ lifts₀ amounts₀ order₀ at mode limit before ke k₀ rounds₀
+    panel mult d sub blocks partners lifts amounts order k rounds =
+    (at .ke ≤ 128) × (at .kb ≤ k) × (k ≤ at .ke) × (rounds ≤ 64 * k)
     × (length panel ≡ length panel₀) × (length mult ≡ length mult₀) × (length d ≡ length d₀) × (length sub ≡ length sub₀)
-    × (length amounts ≡ length amounts₀) × (length blocks ≡ length blocks₀) × (length lifts ≡ length lifts₀)
-    × (length order ≡ length order₀) × (length partners ≡ length partners₀)
-    × (panelOf ke mode limit (ke - k) k (state nrow nb kb ke panel mult d sub amounts blocks lifts order partners rounds)
-    ≡ panelOf ke mode limit (ke - kb) kb (state nrow nb kb ke panel₀ mult₀ d₀ sub₀ amounts₀ blocks₀ lifts₀ order₀ partners₀ before))
+    × (length blocks ≡ length blocks₀) × (length partners ≡ length partners₀) × (length lifts ≡ length lifts₀)
+    × (length amounts ≡ length amounts₀) × (length order ≡ length order₀)
+    × (panelOf (at .ke) mode limit (at .ke - k) k (state at panel mult (pivotsOf d sub blocks partners lifts amounts order) rounds)
+    ≡ panelOf (at .ke) mode limit (at .ke - at .kb) (at .kb)
+    (state at panel₀ mult₀ (pivotsOf d₀ sub₀ blocks₀ partners₀ lifts₀ amounts₀ order₀) before))
 
 abbrev μ-loop : tie.MeasureT-loop
-μ-loop panel₀ mult₀ d₀ sub₀ amounts₀ blocks₀ lifts₀ order₀ partners₀ nrow ncol nb kb ke mode limit before k₀ rounds₀
-    panel mult d sub amounts blocks lifts order partners k rounds =
-    ke - k
+μ-loop panel₀ mult₀ d₀ sub₀ blocks₀ partners₀ lifts₀ amounts₀ order₀ at mode limit before ke k₀ rounds₀
+    panel mult d sub blocks partners lifts amounts order k rounds =
+    at .ke - k
 
 loop-holds : tie.Need-loop-holds Inv-loop μ-loop
 loop-holds c = search needs

@@ -4,6 +4,7 @@ use Prim.Native.Nat.{min, max}
 use lib.ListN.{length}
 use borrow.Author.Needs.{needs}
 use Rattle.model.specs.Matrix.{view}
+use Rattle.model.specs.Step.{pivotsOf}
 use Rattle.model.specs.Factor.{Buffers, start}
 use Rattle.whole.specs.Whole.{WholeRun}
 use Rattle.finish.specs.Buffers.{buffersOf}
@@ -48,8 +49,9 @@ lent c =
 abbrev made : tie.After-panels → WholeRun
 made p =
     let l = p .panels .last in
-    runOf (p .panels .result) (between (entry (begun (sized p) .before) .args .c .nrow) (l .0) (l .1 .0) (l .1 .1 .0) (l .1 .1 .1 .0)
-    (l .1 .1 .1 .1 .0) (l .1 .1 .1 .1 .1 .0) (l .1 .1 .1 .1 .1 .1 .0) (l .1 .1 .1 .1 .1 .1 .1 .0))
+    runOf (p .panels .result) (between (entry (begun (sized p) .before) .args .c .nrow) (l .0)
+    (pivotsOf (l .1 .1 .0) (l .1 .1 .1 .0) (l .1 .1 .1 .1 .0) (l .1 .1 .1 .1 .1 .0) (l .1 .1 .1 .1 .1 .1 .0) (l .1 .1 .1 .1 .1 .1 .1 .0)
+    (l .1 .1 .1 .1 .1 .1 .1 .1 .0)))
 
 -- ---- the needs
 
@@ -71,8 +73,8 @@ panels-requires c κs =
     let a = e .args in (
       run-pre (a .c) (a .input .now) (lent e) _ _ _ (e .pre) (w .width .ensures) (kept .1 .0) refl,
       (
-        holds-pre (a .c) (a .input .now) (lent e) _ _ _ _ _ _ _ (e .pre) (kept .1 .1 .0) (kept .1 .1 .1 .0) (kept .1 .1 .1 .1 .1 .1 .0)
-            (kept .1 .1 .1 .1 .0) (kept .1 .1 .1 .1 .1 .0) (kept .1 .1 .1 .1 .1 .1 .1 .0) refl,
+        holds-pre (a .c) (a .input .now) (lent e) _ _ _ _ _ _ _ (e .pre) (kept .1 .1 .0) (kept .1 .1 .1 .0) (kept .1 .1 .1 .1 .0) refl
+            (kept .1 .1 .1 .1 .1 .0) (kept .1 .1 .1 .1 .1 .1 .0) (kept .1 .1 .1 .1 .1 .1 .1 .0),
         noted-none (length (b .begin .last .1 .1 .1 .1 .0)) _ _ (b .begin .ensures .blocks) refl,
       ),
     )
@@ -111,7 +113,7 @@ returns c =
     let a = e .args in
     let s = a .c in
     record {
-      partners = p .panels .last .1 .1 .1 .1 .1 .1 .1 .0;
+      partners = p .panels .last .1 .1 .1 .1 .1 .0;
       run = run-is (s .mode) (s .limit) (s .nrow) (s .ncol) (sized p .width .result) (min (s .nb) (max (s .ncol) 1)) (made p) _
           (start (s .ncol) (view (s .nrow) (a .input .now))) (sized p .width .ensures)
           (start-is s (a .input .now) (lent e) (l .1 .0) (l .1 .1 .0) (l .1 .1 .1 .0) (l .1 .1 .1 .1 .1 .1 .0) (l .1 .1 .1 .1 .0)

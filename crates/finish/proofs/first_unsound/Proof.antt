@@ -3,17 +3,17 @@
 use Prim.Native.Nat.{_≤_, _-_}
 use mathlib.Core.Path.{_≡_}
 use borrow.Author.Needs.{needs}
-use Rattle.model.specs.Matrix.{view, vec, bytes, headOf}
+use Rattle.model.specs.Matrix.{view}
+use Rattle.model.specs.Step.{diagonalsOf}
 use Rattle.model.specs.Factor.{resultCheck}
-use Rattle.finish.specs.Result.{emitted}
 use Rattle.finish.proofs.Result.{result-none, result-step, result-found, result-end}
 use Rattle.finish.proofs.first_unsound.Statement.{statement}
 use Rattle.finish.proofs.first_unsound.Tie as tie
 
 abbrev Inv-loop : tie.InvT-loop
 Inv-loop panel d sub blocks nrow ncol finite k₀ k =
-    (k ≤ ncol) × (resultCheck ncol (emitted (view nrow panel) (vec d) (vec sub) (bytes blocks)) (ncol - k) k
-    ≡ resultCheck ncol (emitted (headOf ncol (view nrow panel)) (vec d) (vec sub) (bytes blocks)) ncol 0)
+    (k ≤ ncol) × (resultCheck ncol (diagonalsOf d sub blocks) (view nrow panel) (ncol - k) k
+    ≡ resultCheck ncol (diagonalsOf d sub blocks) (view nrow panel) ncol 0)
 
 abbrev μ-loop : tie.MeasureT-loop
 μ-loop panel d sub blocks nrow ncol finite k₀ k = ncol - k

@@ -6,7 +6,7 @@ use Rattle.panels.proofs.later_columns.Statement.{statement}
 use Rattle.panels.proofs.later_columns.Tie as tie
 
 returns : tie.Need-returns
-returns c = deferred-none _ _ _ _ _ _ _ _ (c .if1 .taken)
+returns c = deferred-none _ _ _ _ _ _ (c .if1 .taken)
 
 mul-size : tie.Need-mul-size
 mul-size c = search needs
@@ -23,7 +23,7 @@ part-deferred-update-end c = search needs
 deferred-update-requires : tie.Need-deferred-update-requires
 deferred-update-requires c κs =
     let pre = c .before .before .before .before .before .before .before .before .before .pre in
-    deferred-pre _ _ _ _ _ _ _ _ _ _ _ _ _ _ (pre .0) refl refl (pre .1)
+    deferred-pre _ _ _ _ _ _ _ _ (pre .0) (pre .1 .0) (pre .1 .1)
 
 same-length : tie.Need-same-length
 same-length c = search needs

@@ -5,6 +5,7 @@ use mathlib.Core.Path.{_≡_, refl, _∙_}
 use lib.ListN.{length}
 use borrow.Author.Needs.{needs}
 use Rattle.model.specs.Matrix.{bytes}
+use Rattle.model.specs.Step.{pivotsOf}
 use Rattle.model.specs.Head.{State}
 use Rattle.whole.specs.Whole.{WholeRun, wholePanelsOf}
 use Rattle.panels.specs.Turn.{between}
@@ -15,26 +16,28 @@ use Rattle.panels.proofs.panels.Statement.{statement}
 use Rattle.panels.proofs.panels.Tie as tie
 
 abbrev Inv-loop : tie.InvT-loop
-Inv-loop panel₀ d₀ sub₀ amounts₀ blocks₀ lifts₀ order₀ partners₀ work₀ nrow ncol nb mode limit kb₀ rounds₀
-    panel d sub amounts blocks lifts order partners work kb rounds =
-    (kb ≤ ncol)
+Inv-loop panel₀ work₀ d₀ sub₀ blocks₀ partners₀ lifts₀ amounts₀ order₀ c nrow ncol nb mode kb₀ rounds₀
+    panel work d sub blocks partners lifts amounts order kb rounds =
+    (kb ≤ c .ncol)
     × (length panel ≡ length panel₀)
+    × (length work ≡ length work₀)
     × (length d ≡ length d₀)
     × (length sub ≡ length sub₀)
-    × (length amounts ≡ length amounts₀)
     × (length blocks ≡ length blocks₀)
-    × (length lifts ≡ length lifts₀)
-    × (length order ≡ length order₀)
     × (length partners ≡ length partners₀)
-    × (length work ≡ length work₀)
-    × (wholePanelsOf mode limit nrow ncol nb (ncol - kb) kb (between nrow panel d sub amounts blocks lifts order partners rounds)
-    ≡ wholePanelsOf mode limit nrow ncol nb ncol 0 (between nrow panel₀ d₀ sub₀ amounts₀ blocks₀ lifts₀ order₀ partners₀ 0))
+    × (length lifts ≡ length lifts₀)
+    × (length amounts ≡ length amounts₀)
+    × (length order ≡ length order₀)
+    × (wholePanelsOf (c .mode) (c .limit) (c .nrow) (c .ncol) (c .nb) (c .ncol - kb) kb
+    (between (c .nrow) panel (pivotsOf d sub blocks partners lifts amounts order) rounds)
+    ≡ wholePanelsOf (c .mode) (c .limit) (c .nrow) (c .ncol) (c .nb) (c .ncol) 0
+    (between (c .nrow) panel₀ (pivotsOf d₀ sub₀ blocks₀ partners₀ lifts₀ amounts₀ order₀) 0))
     × NotedTo kb (kb + 1) rounds (bytes blocks) (bytes partners)
 
 abbrev μ-loop : tie.MeasureT-loop
-μ-loop panel₀ d₀ sub₀ amounts₀ blocks₀ lifts₀ order₀ partners₀ work₀ nrow ncol nb mode limit kb₀ rounds₀
-    panel d sub amounts blocks lifts order partners work kb rounds =
-    ncol - kb
+μ-loop panel₀ work₀ d₀ sub₀ blocks₀ partners₀ lifts₀ amounts₀ order₀ c nrow ncol nb mode kb₀ rounds₀
+    panel work d sub blocks partners lifts amounts order kb rounds =
+    c .ncol - kb
 
 -- ---- the places that a need looks back to
 
@@ -64,33 +67,35 @@ turned c =
 
 -- at the entry, and the run from there
 abbrev given : tie.Start Inv-loop μ-loop → State
-given c =
-    let a = c .args in
-    between (a .nrow) (a .panel .now) (a .d .now) (a .sub .now) (a .amounts .now) (a .blocks .now) (a .lifts .now) (a .order .now)
-    (a .partners .now) 0
+given s =
+    let a = s .args in
+    between (a .c .nrow) (a .panel .now)
+    (pivotsOf (a .d .now) (a .sub .now) (a .blocks .now) (a .partners .now) (a .lifts .now) (a .amounts .now) (a .order .now)) 0
 
 abbrev whole : tie.Start Inv-loop μ-loop → WholeRun
-whole c = let a = c .args in wholePanelsOf (a .mode) (a .limit) (a .nrow) (a .ncol) (a .nb) (a .ncol) 0 (given c)
+whole s = let c = s .args .c in wholePanelsOf (c .mode) (c .limit) (c .nrow) (c .ncol) (c .nb) (c .ncol) 0 (given s)
 
 -- at the loop's head
 abbrev held : tie.At-loop Inv-loop μ-loop → State
 held c =
     let l = c .loop in
-    between (entry c .args .nrow) (l .panel) (l .d) (l .sub) (l .amounts) (l .blocks) (l .lifts) (l .order) (l .partners) (l .rounds)
+    between (entry c .args .c .nrow) (l .panel)
+    (pivotsOf (l .d) (l .sub) (l .blocks) (l .partners) (l .lifts) (l .amounts) (l .order)) (l .rounds)
 
 -- after `turn`, by the rounds
 abbrev left : tie.After-turn Inv-loop μ-loop → ℕ → State
 left c =
     let l = c .turn .last in
-    between (entry (looped (bounded c)) .args .nrow) (l .0) (l .1 .0) (l .1 .1 .0) (l .1 .1 .1 .0) (l .1 .1 .1 .1 .0) (l .1 .1 .1 .1 .1 .0)
-    (l .1 .1 .1 .1 .1 .1 .0) (l .1 .1 .1 .1 .1 .1 .1 .0)
+    between (entry (looped (bounded c)) .args .c .nrow) (l .0)
+    (pivotsOf (l .1 .1 .0) (l .1 .1 .1 .0) (l .1 .1 .1 .1 .0) (l .1 .1 .1 .1 .1 .0) (l .1 .1 .1 .1 .1 .1 .0) (l .1 .1 .1 .1 .1 .1 .1 .0)
+    (l .1 .1 .1 .1 .1 .1 .1 .1 .0))
 
 -- its block bytes and exchange partners
 abbrev blocks-left : tie.After-turn Inv-loop μ-loop → ℕ → ℕ
 blocks-left c = bytes (c .turn .last .1 .1 .1 .1 .0)
 
 abbrev partners-left : tie.After-turn Inv-loop μ-loop → ℕ → ℕ
-partners-left c = bytes (c .turn .last .1 .1 .1 .1 .1 .1 .1 .0)
+partners-left c = bytes (c .turn .last .1 .1 .1 .1 .1 .0)
 
 -- ---- the needs
 
@@ -108,7 +113,7 @@ loop-holds c =
       refl,
       refl,
       refl,
-      run-begin (a .mode) (a .limit) (a .nrow) (a .ncol) (a .nb) (given start),
+      run-begin (a .c .mode) (a .c .limit) (a .c .nrow) (a .c .ncol) (a .c .nb) (given start),
       start .pre .1 .1,
     )
 
@@ -121,10 +126,10 @@ turn-requires c κs =
     let test = p .before .loop-test .taken in
     let inv = looped p .loop .inv in
     let pre = entry (looped p) .pre in (
-      turn-pre _ _ _ _ _ _ _ _ _ _ _ (pre .0) (inv .1) (inv .9) test (p .panel-end .ensures),
+      turn-pre _ _ _ _ _ _ _ (pre .0) (inv .1) (inv .2) test (p .panel-end .ensures),
       (
-        holds-same _ _ _ _ _ _ _ _ _ _ _ _ _ _ _ _ (pre .1 .0) (inv .2) (inv .3) (inv .4) (inv .5) (inv .6) (inv .7) (inv .8),
-        noted-more _ _ _ _ _ _ (inv .11) (begun _ _ _ _ (pre .0 .some) test (p .panel-end .ensures)),
+        holds-same _ _ _ _ _ _ _ _ _ _ _ _ _ _ _ _ (pre .1 .0) (inv .3) (inv .4) (inv .5) (inv .6) (inv .7) (inv .8) (inv .9),
+        (pre .0 .rounds, noted-more _ _ _ _ _ _ (inv .11) (begun _ _ _ _ (pre .0 .some) test (p .panel-end .ensures))),
       ),
     )
 
@@ -169,9 +174,9 @@ returns c =
     let start = entry (looped p) in
     let a = start .args in
     let told = c .enum-told .given .1 in (
-      run-stop (a .mode) (a .limit) (a .nrow) (a .ncol) (a .nb) (start .pre .0 .some) (l .kb) (p .panel-end .result) (held (looped p)) (left t)
+      run-stop (a .c .mode) (a .c .limit) (a .c .nrow) (a .c .ncol) (a .c .nb) (start .pre .0 .some) (l .kb) (p .panel-end .result) (held (looped p)) (left t)
           (left t) (t .turn .result) _ (whole start) (l .inv .10) (p .before .loop-test .taken) (p .panel-end .ensures) (t .turn .ensures .0) told,
-      stopped-leaves (l .kb) (p .panel-end .result) (a .ncol) (t .turn .result) _ (blocks-left t) (partners-left t) (t .turn .ensures .1) told,
+      stopped-leaves (l .kb) (p .panel-end .result) (a .c .ncol) (t .turn .result) _ (blocks-left t) (partners-left t) (t .turn .ensures .1) told,
     )
 
 loop-less : tie.Need-loop-less Inv-loop μ-loop
@@ -199,7 +204,7 @@ loop-again c =
       kept .1 .1 .1 .1 .1 .1 .0 ∙ inv .7,
       kept .1 .1 .1 .1 .1 .1 .1 .0 ∙ inv .8,
       kept .1 .1 .1 .1 .1 .1 .1 .1 .0 ∙ inv .9,
-      run-more (a .mode) (a .limit) (a .nrow) (a .ncol) (a .nb) (start .pre .0 .some) (l .kb) (p .panel-end .result) _ (held (looped p)) (left t)
+      run-more (a .c .mode) (a .c .limit) (a .c .nrow) (a .c .ncol) (a .c .nb) (start .pre .0 .some) (l .kb) (p .panel-end .result) _ (held (looped p)) (left t)
           (t .turn .result) (whole start) (inv .10) (p .before .loop-test .taken) (p .panel-end .ensures) (t .turn .ensures .0) told,
       done-leaves (l .kb) (p .panel-end .result) _ (t .turn .result) (blocks-left t) (partners-left t) (t .turn .ensures .1) told,
     )
@@ -237,7 +242,7 @@ returns-2 c =
     let start = entry head in
     let a = start .args in
     let inv = head .loop .inv in (
-      run-done (a .mode) (a .limit) (a .nrow) (a .ncol) (a .nb) (start .pre .0 .some) (head .loop .kb) (held head) (whole start) (inv .10)
+      run-done (a .c .mode) (a .c .limit) (a .c .nrow) (a .c .ncol) (a .c .nb) (start .pre .0 .some) (head .loop .kb) (held head) (whole start) (inv .10)
           (c .loop-test .left),
       end-leaves _ _ _ _ _ (inv .11) (c .loop-test .left) (inv .0),
     )

@@ -20,13 +20,13 @@ part-apply-bk-panel-trailing-end c = search needs
 apply-bk-panel-trailing-requires : tie.Need-apply-bk-panel-trailing-requires
 apply-bk-panel-trailing-requires c κs =
     let pre = c .before .before .before .before .before .before .before .before .pre in
-    (tail-pre _ _ _ _ _ _ _ _ _ _ _ _ (pre .0) refl, pre .1)
+    (tail-pre _ _ _ _ _ _ _ (pre .0) (pre .1 .0), pre .1 .1)
 
 same-length : tie.Need-same-length
 same-length c = search needs
 
 returns : tie.Need-returns
-returns c = c .before .before .apply-bk-panel-trailing .ensures ∙ rows-part _ _ _ _ _ _ _ _ _
+returns c = c .before .before .apply-bk-panel-trailing .ensures ∙ rows-part _ _ _ _ _ _ _ _ _ _
 
 pub rows-below-spec : {M : Type 1} → statement M
 rows-below-spec =

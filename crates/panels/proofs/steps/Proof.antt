@@ -6,6 +6,7 @@ use lib.ListN.{length, take}
 use lib.Ieee.{Float}
 use borrow.Rule.Slice.PartMut.{putMid}
 use borrow.Author.Needs.{needs}
+use Rattle.model.specs.Step.{pivotsOf}
 use Rattle.panels.proofs.Work.{panel-pre, holds-ke, square-room, part-length, back-is, steps-is}
 use Rattle.panels.proofs.steps.Statement.{statement}
 use Rattle.panels.proofs.steps.Tie as tie
@@ -23,7 +24,7 @@ entry c =
 
 -- the number of the multipliers, the working buffer as it is lent, and as it is given back
 abbrev square : tie.After-ll-bk-panel-step → ℕ
-square s = entry s .args .nb * entry s .args .nb
+square s = entry s .args .at .nb * entry s .args .at .nb
 
 abbrev lent : tie.After-ll-bk-panel-step → List Float
 lent s = entry s .args .work .now
@@ -48,8 +49,8 @@ ll-bk-panel-step-requires c κs =
     let start =
     c .before .before .before .before .before .before .before .before .before .before .before .before .before .before .before .before .before .before in
     let pre = start .pre in (
-      panel-pre _ _ _ _ _ _ _ _ _ _ (pre .0) refl,
-      (holds-ke _ _ _ _ _ _ _ _ _ _ _ _ _ _ _ _ (pre .0) (pre .1 .0), (pre .0 .run .rounds, pre .1 .1)),
+      panel-pre _ _ (start .args .work .now) (pre .0),
+      (holds-ke _ _ _ _ _ _ _ _ _ _ (pre .0) (pre .1 .0), (pre .1 .1 .0, pre .1 .1 .1)),
     )
 
 same-length : tie.Need-same-length
@@ -82,7 +83,7 @@ same-length-9 c = search needs
 -- the multipliers are given back as the steps left them
 returned : (s : tie.After-ll-bk-panel-step) → take (square s) (back s) ≡ s .ll-bk-panel-step .last .1 .0
 returned s =
-    let fits : square s ≤ length (lent s) = square-room _ _ _ _ _ _ _ _ _ (lent s) (entry s .pre .0) refl in
+    let fits : square s ≤ length (lent s) = square-room _ _ (lent s) (entry s .pre .0) in
     back-is (square s) (lent s) (s .ll-bk-panel-step .last .1 .0) (s .ll-bk-panel-step .kept .1 .0 ∙ part-length (square s) (lent s) fits)
 
 returns : tie.Need-returns
@@ -90,11 +91,10 @@ returns c =
     let s = called c in
     let a = entry s .args in
     let l = s .ll-bk-panel-step .last in (
-      steps-is (a .mode) (a .limit) (a .nrow) (a .nb) (a .kb) (a .ke) (a .before) (s .ll-bk-panel-step .result)
-          (a .panel .now) (l .0) (a .d .now) (l .1 .1 .0) (a .sub .now) (l .1 .1 .1 .0) (a .amounts .now) (l .1 .1 .1 .1 .0)
-          (lent s) (l .1 .0) (take (square s) (back s))
-          (a .blocks .now) (l .1 .1 .1 .1 .1 .0) (a .lifts .now) (l .1 .1 .1 .1 .1 .1 .0)
-          (a .order .now) (l .1 .1 .1 .1 .1 .1 .1 .0) (a .partners .now) (l .1 .1 .1 .1 .1 .1 .1 .1 .0)
+      steps-is (a .mode) (a .limit) (a .at) (a .before) (s .ll-bk-panel-step .result) (a .panel .now) (l .0) (lent s) (l .1 .0) (take (square s) (back s))
+          (pivotsOf (a .d .now) (a .sub .now) (a .blocks .now) (a .partners .now) (a .lifts .now) (a .amounts .now) (a .order .now))
+          (pivotsOf (l .1 .1 .0) (l .1 .1 .1 .0) (l .1 .1 .1 .1 .0) (l .1 .1 .1 .1 .1 .0) (l .1 .1 .1 .1 .1 .1 .0) (l .1 .1 .1 .1 .1 .1 .1 .0)
+          (l .1 .1 .1 .1 .1 .1 .1 .1 .0))
           (s .ll-bk-panel-step .ensures .0) (returned s),
       s .ll-bk-panel-step .ensures .1,
     )

@@ -6,13 +6,14 @@ use lib.ListN.{length, take}
 use lib.Ieee.{Float}
 use borrow.Author.Needs.{needs}
 use Rattle.model.specs.Matrix.{bytes}
+use Rattle.model.specs.Step.{Pivots, pivotsOf}
 use Rattle.model.specs.Head.{State, blank}
 use Rattle.tail.specs.Tail.{StepsPre}
 use Rattle.bunch_kaufman.specs.Slices.{state}
 use Rattle.panels.specs.Turn.{between, turnOf}
-use Rattle.panels.specs.Run.{AfterPre}
+use Rattle.panels.specs.Run.{TurnPre, DiagonalsHold}
 use Rattle.panels.proofs.Multipliers.{turn-any}
-use Rattle.panels.proofs.Work.{after-pre, steps-pre, turn-stopped, turn-done, leaves-done}
+use Rattle.panels.proofs.Work.{sizes-kept, diagonals-kept, steps-pre, turn-stopped, turn-done, leaves-done}
 use Rattle.panels.proofs.turn.Statement.{statement}
 use Rattle.panels.proofs.turn.Tie as tie
 
@@ -52,85 +53,70 @@ first c = stepped (went (lowered (updated c)))
 
 -- ---- what the buffers hold
 
--- after `steps`, one by one
+-- after `steps`: the working buffer, the record of pivots, its block bytes and partners
 abbrev work-left : tie.After-steps → List Float
 work-left s = s .steps .last .1 .0
 
-abbrev d-left : tie.After-steps → List Float
-d-left s = s .steps .last .1 .1 .0
-
-abbrev sub-left : tie.After-steps → List Float
-sub-left s = s .steps .last .1 .1 .1 .0
-
-abbrev amounts-left : tie.After-steps → List Float
-amounts-left s = s .steps .last .1 .1 .1 .1 .0
-
 abbrev blocks-left : tie.After-steps → List ℕ
-blocks-left s = s .steps .last .1 .1 .1 .1 .1 .0
-
-abbrev lifts-left : tie.After-steps → List ℕ
-lifts-left s = s .steps .last .1 .1 .1 .1 .1 .1 .0
-
-abbrev order-left : tie.After-steps → List ℕ
-order-left s = s .steps .last .1 .1 .1 .1 .1 .1 .1 .0
+blocks-left s = s .steps .last .1 .1 .1 .1 .0
 
 abbrev partners-left : tie.After-steps → List ℕ
-partners-left s = s .steps .last .1 .1 .1 .1 .1 .1 .1 .1 .0
+partners-left s = s .steps .last .1 .1 .1 .1 .1 .0
+
+abbrev pivots-left : tie.After-steps → Pivots
+pivots-left s =
+    let l = s .steps .last in
+    pivotsOf (l .1 .1 .0) (l .1 .1 .1 .0) (blocks-left s) (partners-left s) (l .1 .1 .1 .1 .1 .1 .0) (l .1 .1 .1 .1 .1 .1 .1 .0)
+    (l .1 .1 .1 .1 .1 .1 .1 .1 .0)
 
 -- the multipliers that the steps kept
 abbrev kept-part : tie.After-steps → List Float
-kept-part s = take (entry s .args .nb * entry s .args .nb) (work-left s)
+kept-part s = take (entry s .args .at .nb * entry s .args .at .nb) (work-left s)
 
--- the state at the entry, with the multipliers that happen to stand in the working buffer
-abbrev given : tie.Start → State
-given c =
+-- the record at the entry, and the state with the multipliers that happen to stand in the working buffer
+abbrev noted-before : tie.Start → Pivots
+noted-before c =
     let a = c .args in
-    state (a .nrow) (a .nb) (a .kb) (a .ke) (a .panel .now) (take (a .nb * a .nb) (a .work .now)) (a .d .now) (a .sub .now) (a .amounts .now)
-    (a .blocks .now) (a .lifts .now) (a .order .now) (a .partners .now) (a .before)
+    pivotsOf (a .d .now) (a .sub .now) (a .blocks .now) (a .partners .now) (a .lifts .now) (a .amounts .now) (a .order .now)
+
+abbrev given : tie.Start → State
+given c = let a = c .args in state (a .at) (a .panel .now) (take (a .at .nb * a .at .nb) (a .work .now)) (noted-before c) (a .before)
 
 -- the same with no multiplier
 abbrev cleared : tie.Start → State
-cleared c =
-    let a = c .args in
-    between (a .nrow) (a .panel .now) (a .d .now) (a .sub .now) (a .amounts .now) (a .blocks .now) (a .lifts .now) (a .order .now)
-    (a .partners .now) (a .before)
+cleared c = let a = c .args in between (a .at .nrow) (a .panel .now) (noted-before c) (a .before)
 
 -- the state that the steps leave, by the rounds
 abbrev reached : tie.After-steps → ℕ → State
-reached s =
-    let a = entry s .args in
-    state (a .nrow) (a .nb) (a .kb) (a .ke) (s .steps .last .0) (kept-part s) (d-left s) (sub-left s) (amounts-left s) (blocks-left s)
-    (lifts-left s) (order-left s) (partners-left s)
+reached s = state (entry s .args .at) (s .steps .last .0) (kept-part s) (pivots-left s)
 
 -- the same with no multiplier
 abbrev shown : tie.After-steps → ℕ → State
-shown s =
-    between (entry s .args .nrow) (s .steps .last .0) (d-left s) (sub-left s) (amounts-left s) (blocks-left s) (lifts-left s) (order-left s)
-    (partners-left s)
+shown s = between (entry s .args .at .nrow) (s .steps .last .0) (pivots-left s)
 
 -- ---- what `rows_below` and `later_columns` ask, once the steps were taken
 
-sizes : (s : tie.After-steps) (len : ℕ) → len ≡ length (entry s .args .panel .now)
-    → AfterPre (entry s .args .nrow) (entry s .args .ncol) (entry s .args .nb) (entry s .args .kb) (entry s .args .ke) len
-    (length (work-left s)) (length (d-left s)) (length (sub-left s)) (length (blocks-left s)) (length (partners-left s))
-sizes s len e =
-    let a = entry s .args in
-    let kept = s .steps .kept in
-    after-pre (a .nrow) (a .ncol) (a .nb) (a .kb) (a .ke) (a .mode) (a .limit) (length (a .panel .now)) (length (a .work .now))
-    (length (a .d .now)) (length (a .sub .now)) (length (a .amounts .now)) (length (a .blocks .now)) (length (a .lifts .now))
-    (length (a .order .now)) (length (a .partners .now)) len (length (work-left s)) (length (d-left s)) (length (sub-left s))
-    (length (blocks-left s)) (length (partners-left s)) (entry s .pre .0) (entry s .pre .1 .0) e
-    (kept .1 .0) (kept .1 .1 .0) (kept .1 .1 .1 .0) (kept .1 .1 .1 .1 .1 .0) (kept .1 .1 .1 .1 .1 .1 .1 .1 .0)
+sizes : (s : tie.After-steps) (len : ℕ) → len ≡ length (entry s .args .panel .now) → TurnPre (entry s .args .at) len (length (work-left s))
+sizes s len e = sizes-kept _ _ _ _ _ (entry s .pre .0) e (s .steps .kept .1 .0)
 
-noted : (g : tie.After-ran) → StepsPre (entry (stepped g) .args .kb) (entry (stepped g) .args .ke) (bytes (blocks-left (stepped g))) (bytes (partners-left (stepped g)))
+diagonals : (s : tie.After-steps) → DiagonalsHold (entry s .args .at .ncol) (length (s .steps .last .1 .1 .0)) (length (s .steps .last .1 .1 .1 .0))
+    (length (blocks-left s)) (length (partners-left s))
+diagonals s =
+    let kept = s .steps .kept in
+    diagonals-kept _ _ _ _ _ _ _ _ _ (entry s .pre .1 .0 .diagonals) (kept .1 .1 .0) (kept .1 .1 .1 .0) (kept .1 .1 .1 .1 .0) (kept .1 .1 .1 .1 .1 .0)
+
+noted : (g : tie.After-ran) → StepsPre (entry (stepped g) .args .at .kb) (entry (stepped g) .args .at .ke) (bytes (blocks-left (stepped g)))
+    (bytes (partners-left (stepped g)))
 noted g =
     let s = stepped g in
-    steps-pre (entry s .args .kb) (entry s .args .ke) _ (s .steps .result) (bytes (blocks-left s)) (bytes (partners-left s)) (s .steps .ensures .1) (g .ran .given .1)
+    steps-pre (entry s .args .at .kb) (entry s .args .at .ke) _ (s .steps .result) (bytes (blocks-left s)) (bytes (partners-left s)) (s .steps .ensures .1)
+    (g .ran .given .1)
 
 -- those multipliers are not read
-forgotten : (c : tie.Start) → turnOf (c .args .mode) (c .args .limit) (c .args .nrow) (c .args .ncol) (c .args .kb) (c .args .ke) (given c)
-    ≡ turnOf (c .args .mode) (c .args .limit) (c .args .nrow) (c .args .ncol) (c .args .kb) (c .args .ke) (cleared c)
-forgotten c = turn-any (c .args .mode) (c .args .limit) (c .args .nrow) (c .args .ncol) (c .args .kb) (c .args .ke) (given c) blank
+forgotten : (c : tie.Start) → let at = c .args .at in
+    turnOf (c .args .mode) (c .args .limit) (at .nrow) (at .ncol) (at .kb) (at .ke) (given c)
+    ≡ turnOf (c .args .mode) (c .args .limit) (at .nrow) (at .ncol) (at .kb) (at .ke) (cleared c)
+forgotten c = let at = c .args .at in turn-any (c .args .mode) (c .args .limit) (at .nrow) (at .ncol) (at .kb) (at .ke) (given c) blank
 
 -- ---- the needs
 
@@ -174,7 +160,7 @@ returns : tie.Need-returns
 returns c =
     let s = refused c in
     let a = entry s .args in (
-      turn-stopped (a .mode) (a .limit) (a .nrow) (a .ncol) (a .kb) (a .ke) (s .steps .result) _ (reached s) (shown s) (given (entry s))
+      turn-stopped (a .mode) (a .limit) (a .at .nrow) (a .at .ncol) (a .at .kb) (a .at .ke) (s .steps .result) _ (reached s) (shown s) (given (entry s))
           (s .steps .ensures .0) (c .enum-told .given .1)
           ∙ forgotten (entry s),
       s .steps .ensures .1,
@@ -183,13 +169,13 @@ returns c =
 rows-below-requires : tie.Need-rows-below-requires
 rows-below-requires c κs =
     let g = c .before .before .before .before .before .before .before in
-    (sizes (stepped g) _ (stepped g .steps .kept .0), noted g)
+    (sizes (stepped g) _ (stepped g .steps .kept .0), (diagonals (stepped g), noted g))
 
 later-columns-requires : tie.Need-later-columns-requires
 later-columns-requires c κs =
     let r = c .before .before .before .before .before .before .before .before in
     let g = went r in
-    (sizes (stepped g) _ (r .rows-below .kept .0 ∙ stepped g .steps .kept .0), noted g)
+    (sizes (stepped g) _ (r .rows-below .kept .0 ∙ stepped g .steps .kept .0), (diagonals (stepped g), noted g))
 
 same-length-10 : tie.Need-same-length-10
 same-length-10 c =
@@ -197,13 +183,13 @@ same-length-10 c =
     l .later-columns .kept .0 ∙ lowered l .rows-below .kept .0 ∙ first c .steps .kept .0
 
 same-length-11 : tie.Need-same-length-11
-same-length-11 c = first c .steps .kept .1 .1 .0
+same-length-11 c = updated c .later-columns .kept .1 .0 ∙ first c .steps .kept .1 .0
 
 same-length-12 : tie.Need-same-length-12
-same-length-12 c = first c .steps .kept .1 .1 .1 .0
+same-length-12 c = first c .steps .kept .1 .1 .0
 
 same-length-13 : tie.Need-same-length-13
-same-length-13 c = search needs
+same-length-13 c = first c .steps .kept .1 .1 .1 .0
 
 same-length-14 : tie.Need-same-length-14
 same-length-14 c = search needs
@@ -218,7 +204,7 @@ same-length-17 : tie.Need-same-length-17
 same-length-17 c = search needs
 
 same-length-18 : tie.Need-same-length-18
-same-length-18 c = updated c .later-columns .kept .1 .0 ∙ first c .steps .kept .1 .0
+same-length-18 c = search needs
 
 returns-2 : tie.Need-returns-2
 returns-2 c =
@@ -227,12 +213,10 @@ returns-2 c =
     let told = went r .ran .given .1 in
     let s = first c in
     let a = entry s .args in (
-      turn-done (a .mode) (a .limit) (a .nrow) (a .ncol) (a .nb) (a .kb) (a .ke) _ (s .steps .result) (s .steps .last .0)
-          (r .rows-below .last .0) (l .later-columns .last .0) (d-left s) (sub-left s) (amounts-left s) (kept-part s) (blocks-left s)
-          (lifts-left s) (order-left s) (partners-left s) (given (entry s)) (s .steps .ensures .0) told (r .rows-below .ensures)
-          (l .later-columns .ensures)
+      turn-done (a .mode) (a .limit) (a .at) _ (s .steps .result) (s .steps .last .0) (r .rows-below .last .0) (l .later-columns .last .0) (kept-part s)
+          (pivots-left s) (given (entry s)) (s .steps .ensures .0) told (r .rows-below .ensures) (l .later-columns .ensures)
           ∙ forgotten (entry s),
-      leaves-done (a .kb) (a .ke) _ (s .steps .result) (bytes (blocks-left s)) (bytes (partners-left s)) (s .steps .ensures .1) told,
+      leaves-done (a .at .kb) (a .at .ke) _ (s .steps .result) (bytes (blocks-left s)) (bytes (partners-left s)) (s .steps .ensures .1) told,
     )
 
 pub turn-spec : {M : Type 1} → statement M

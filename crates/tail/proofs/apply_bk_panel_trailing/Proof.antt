@@ -5,23 +5,23 @@ use mathlib.Core.Path.{_≡_, refl, _∙_}
 use lib.ListN.{length}
 use borrow.Author.Needs.{needs}
 use Rattle.model.specs.Matrix.{view, bytes}
-use Rattle.model.specs.Step.{rowAfterSteps}
+use Rattle.model.specs.Step.{diagonalsOf, rowAfterSteps}
 use Rattle.model.specs.Kept.{Starts}
 use Rattle.whole.specs.Whole.{below}
 use Rattle.eliminate.specs.Eliminate.{inPanel}
-use Rattle.tail.specs.Tail.{pivotsOf}
 use Rattle.tail.proofs.Laws.{tail-end, turn-less, turn-from, sizes-kept}
 use Rattle.tail.proofs.apply_bk_panel_trailing.Statement.{statement}
 use Rattle.tail.proofs.apply_bk_panel_trailing.Tie as tie
 
 abbrev Inv-loop : tie.InvT-loop
-Inv-loop panel₀ mult d sub blocks partners nrow ncol nb kb ke k₀ panel k =
-    (kb ≤ k) × Starts (bytes blocks) k × (length panel ≡ length panel₀)
-    × (below ke nrow (rowAfterSteps (pivotsOf d sub blocks partners) (inPanel kb ke (view nb mult)) ke (ke - k) k) (view nrow panel)
-    ≡ below ke nrow (rowAfterSteps (pivotsOf d sub blocks partners) (inPanel kb ke (view nb mult)) ke (ke - kb) kb) (view nrow panel₀))
+Inv-loop panel₀ mult d sub blocks partners at ke k₀ panel k =
+    let I = inPanel (at .kb) (at .ke) (view (at .nb) mult) in
+    (at .kb ≤ k) × Starts (bytes blocks) k × (length panel ≡ length panel₀)
+    × (below (at .ke) (at .nrow) (rowAfterSteps (diagonalsOf d sub blocks) (bytes partners) I (at .ke) (at .ke - k) k) (view (at .nrow) panel)
+    ≡ below (at .ke) (at .nrow) (rowAfterSteps (diagonalsOf d sub blocks) (bytes partners) I (at .ke) (at .ke - at .kb) (at .kb)) (view (at .nrow) panel₀))
 
 abbrev μ-loop : tie.MeasureT-loop
-μ-loop panel₀ mult d sub blocks partners nrow ncol nb kb ke k₀ panel k = ke - k
+μ-loop panel₀ mult d sub blocks partners at ke k₀ panel k = at .ke - k
 
 loop-holds : tie.Need-loop-holds Inv-loop μ-loop
 loop-holds c = (search needs, c .before .before .before .before .before .before .pre .1 .start, refl, refl)

@@ -4,7 +4,8 @@ use Prim.Native.Nat.{_-_, _≤_}
 use mathlib.Core.Path.{_≡_}
 use lib.ListN.{length}
 use borrow.Author.Needs.{needs}
-use Rattle.model.specs.Matrix.{view, vec, bytes}
+use Rattle.model.specs.Matrix.{view}
+use Rattle.model.specs.Step.{diagonalsOf}
 use Rattle.deferred.specs.Products.{withProducts}
 use Rattle.deferred.proofs.Product.{products-none, products-pre, products-step, products-end}
 use Rattle.deferred.proofs.products.products.Statement.{statement}
@@ -13,7 +14,7 @@ use Rattle.deferred.proofs.products.products.Tie as tie
 abbrev Inv-loop : tie.InvT-loop
 Inv-loop g₀ panel d sub blocks nrow kb ke k₀ g k =
     (kb ≤ k) × (k ≤ ke) × (length g ≡ length g₀)
-    × (view nrow g ≡ withProducts (view nrow g₀) (vec d) (vec sub) (bytes blocks) (view nrow panel) kb ke nrow (k - kb))
+    × (view nrow g ≡ withProducts (view nrow g₀) (diagonalsOf d sub blocks) (view nrow panel) kb ke nrow (k - kb))
 
 abbrev μ-loop : tie.MeasureT-loop
 μ-loop g₀ panel d sub blocks nrow kb ke k₀ g k = ke - k
