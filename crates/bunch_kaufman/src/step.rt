@@ -15,6 +15,7 @@ use super::Taken;
 use model::Block;
 use model::Diagonal;
 use model::Elim;
+use model::Frame;
 use model::LocalRow;
 use model::Mode;
 use model::Pivot;
@@ -58,7 +59,19 @@ fn single(
         return Taken::Refused(Refusal::ZeroPivot(k));
     };
     exchange::exchange_if(panel, nrow, ncol, LocalRow(k.0), kp, ke);
-    eliminate::head_one(panel, mult, nrow, ncol, nb, kb, ke, k, d);
+    eliminate::head_one(
+        panel,
+        mult,
+        Frame {
+            nrow,
+            ncol,
+            nb,
+            kb,
+            ke,
+        },
+        k,
+        d,
+    );
     Taken::Took(Pivot {
         p: LocalRow(k.0),
         kp,
@@ -100,7 +113,19 @@ fn pair(
             amount,
             rounds,
         } => {
-            eliminate::head_two(panel, mult, nrow, ncol, nb, kb, ke, k, block);
+            eliminate::head_two(
+                panel,
+                mult,
+                Frame {
+                    nrow,
+                    ncol,
+                    nb,
+                    kb,
+                    ke,
+                },
+                k,
+                block,
+            );
             Taken::Took(Pivot {
                 p,
                 kp,

@@ -2,6 +2,7 @@
 // column c − kb. What is kept is for the rows below the panel. A reader may rely on the contracts: no other number of
 // the buffer changes within the panel.
 use grid::kernels;
+use model::Frame;
 ghost use mathlib.Core.Path.{_≡_};
 ghost use lib.ListN.{length};
 ghost use Rattle.model.specs.Matrix.{view, withColumn};
@@ -9,23 +10,17 @@ ghost use Rattle.grid.specs.Rules.{columnOf, times, combined};
 ghost use Rattle.eliminate.specs.Eliminate.{inPanel, KeepPre, SourcePre};
 
 // Rows lo up to ke of column c become those of the panel times r.
-pub fn keep_one(
-    mult: &mut [f64],
-    panel: &[f64],
-    nrow: usize,
-    nb: usize,
-    kb: usize,
-    ke: usize,
-    c: usize,
-    lo: usize,
-    r: f64,
-)
-    requires { ⌜ KeepPre nb kb ke c lo (length (now mult)) ⌝ }
-    requires { ⌜ SourcePre nrow ke c (length (now panel)) ⌝ }
-    ensures { λ _. ⌜ inPanel kb ke (view nb (now (mult .exit)))
-        ≡ withColumn (inPanel kb ke (view nb (now (mult .entry)))) c lo ke
-        (times (columnOf (view nrow (now (panel .entry))) c) r) ⌝ }
+pub fn keep_one(mult: &mut [f64], panel: &[f64], at: Frame, c: usize, lo: usize, r: f64)
+    requires { ⌜ KeepPre (at .nb) (at .kb) (at .ke) c lo (length (now mult)) ⌝ }
+    requires { ⌜ SourcePre (at .nrow) (at .ke) c (length (now panel)) ⌝ }
+    ensures { λ _. ⌜ inPanel (at .kb) (at .ke) (view (at .nb) (now (mult .exit)))
+        ≡ withColumn (inPanel (at .kb) (at .ke) (view (at .nb) (now (mult .entry)))) c lo (at .ke)
+        (times (columnOf (view (at .nrow) (now (panel .entry))) c) r) ⌝ }
 {
+    let nrow = at.nrow;
+    let nb = at.nb;
+    let kb = at.kb;
+    let ke = at.ke;
     let top = lo - kb;
     let end = ke - kb;
     let a = top + (c - kb) * nb;
@@ -39,10 +34,7 @@ pub fn keep_one(
 pub fn keep_two(
     mult: &mut [f64],
     panel: &[f64],
-    nrow: usize,
-    nb: usize,
-    kb: usize,
-    ke: usize,
+    at: Frame,
     c: usize,
     t: usize,
     lo: usize,
@@ -50,13 +42,18 @@ pub fn keep_two(
     q: f64,
     r: f64,
 )
-    requires { ⌜ KeepPre nb kb ke c lo (length (now mult)) ⌝ }
-    requires { ⌜ SourcePre nrow ke c (length (now panel)) ⌝ }
-    requires { ⌜ SourcePre nrow ke t (length (now panel)) ⌝ }
-    ensures { λ _. ⌜ inPanel kb ke (view nb (now (mult .exit)))
-        ≡ withColumn (inPanel kb ke (view nb (now (mult .entry)))) c lo ke
-        (combined (columnOf (view nrow (now (panel .entry))) c) (columnOf (view nrow (now (panel .entry))) t) p q r) ⌝ }
+    requires { ⌜ KeepPre (at .nb) (at .kb) (at .ke) c lo (length (now mult)) ⌝ }
+    requires { ⌜ SourcePre (at .nrow) (at .ke) c (length (now panel)) ⌝ }
+    requires { ⌜ SourcePre (at .nrow) (at .ke) t (length (now panel)) ⌝ }
+    ensures { λ _. ⌜ inPanel (at .kb) (at .ke) (view (at .nb) (now (mult .exit)))
+        ≡ withColumn (inPanel (at .kb) (at .ke) (view (at .nb) (now (mult .entry)))) c lo (at .ke)
+        (combined (columnOf (view (at .nrow) (now (panel .entry))) c)
+        (columnOf (view (at .nrow) (now (panel .entry))) t) p q r) ⌝ }
 {
+    let nrow = at.nrow;
+    let nb = at.nb;
+    let kb = at.kb;
+    let ke = at.ke;
     let top = lo - kb;
     let end = ke - kb;
     let a = top + (c - kb) * nb;

@@ -5,6 +5,7 @@
 use grid::columns;
 use model::Block;
 use model::Elim;
+use model::Frame;
 use scalar::reciprocal;
 ghost use mathlib.Core.Path.{_≡_};
 ghost use Prim.Native.Nat.{_+_};
@@ -18,121 +19,77 @@ mod kept;
 mod sweeps;
 
 // The sweep after a 1x1 at k, then column k itself, in rows lo up to hi.
-fn apply_one(
-    panel: &mut [f64],
-    mult: &[f64],
-    nrow: usize,
-    ncol: usize,
-    nb: usize,
-    kb: usize,
-    ke: usize,
-    k: usize,
-    lo: usize,
-    hi: usize,
-    d: f64,
-)
-    requires { ⌜ SweepPre nrow ncol nb kb ke k k lo hi (length (now panel)) (length (now mult)) ⌝ }
-    ensures { λ _. ⌜ view nrow (now (panel .exit))
-        ≡ appliedOne (view nrow (now (panel .entry))) (columnOf (inPanel kb ke (view nb (now (mult .entry)))) k)
-        k ke lo hi d ⌝ }
+fn apply_one(panel: &mut [f64], mult: &[f64], at: Frame, k: usize, lo: usize, hi: usize, d: f64)
+    requires { ⌜ SweepPre (at .nrow) (at .ncol) (at .nb) (at .kb) (at .ke) k k lo hi (length (now panel))
+        (length (now mult)) ⌝ }
+    ensures { λ _. ⌜ view (at .nrow) (now (panel .exit))
+        ≡ appliedOne (view (at .nrow) (now (panel .entry)))
+        (columnOf (inPanel (at .kb) (at .ke) (view (at .nb) (now (mult .entry)))) k) k (at .ke) lo hi d ⌝ }
 {
-    sweeps::sweep_one(panel, mult, nrow, ncol, nb, kb, ke, k, lo, hi);
-    columns::scale(panel, nrow, k, lo, hi, reciprocal(d));
+    sweeps::sweep_one(panel, mult, at, k, lo, hi);
+    columns::scale(panel, at.nrow, k, lo, hi, reciprocal(d));
 }
 
 // The sweep after a block at k and k + 1, then its two columns, in rows lo up to hi.
-fn apply_two(
-    panel: &mut [f64],
-    mult: &[f64],
-    nrow: usize,
-    ncol: usize,
-    nb: usize,
-    kb: usize,
-    ke: usize,
-    k: usize,
-    lo: usize,
-    hi: usize,
-    b: Block,
-)
-    requires { ⌜ SweepPre nrow ncol nb kb ke k (k + 1) lo hi (length (now panel)) (length (now mult)) ⌝ }
-    ensures { λ _. ⌜ view nrow (now (panel .exit))
-        ≡ appliedTwo (view nrow (now (panel .entry))) (columnOf (inPanel kb ke (view nb (now (mult .entry)))) k)
-        (columnOf (inPanel kb ke (view nb (now (mult .entry)))) (k + 1)) k ke lo hi b ⌝ }
+fn apply_two(panel: &mut [f64], mult: &[f64], at: Frame, k: usize, lo: usize, hi: usize, b: Block)
+    requires { ⌜ SweepPre (at .nrow) (at .ncol) (at .nb) (at .kb) (at .ke) k (k + 1) lo hi (length (now panel))
+        (length (now mult)) ⌝ }
+    ensures { λ _. ⌜ view (at .nrow) (now (panel .exit))
+        ≡ appliedTwo (view (at .nrow) (now (panel .entry)))
+        (columnOf (inPanel (at .kb) (at .ke) (view (at .nb) (now (mult .entry)))) k)
+        (columnOf (inPanel (at .kb) (at .ke) (view (at .nb) (now (mult .entry)))) (k + 1)) k (at .ke) lo hi b ⌝ }
 {
-    sweeps::sweep_two(panel, mult, nrow, ncol, nb, kb, ke, k, lo, hi);
+    sweeps::sweep_two(panel, mult, at, k, lo, hi);
     let r = reciprocal(b.det);
-    columns::combine(panel, nrow, k, lo, hi, b.d11, b.d21, b.d22, r);
+    columns::combine(panel, at.nrow, k, lo, hi, b.d11, b.d21, b.d22, r);
 }
 
 // Rows k + 1 up to ke after a 1x1 pivot d at k, each up to its own column, and d on the diagonal; their multipliers are
 // kept in column k of mult.
 // in: d the pivot, lifted where the mode asks it / in and out: panel, mult
 // origin: src/numeric/ldlt/bunch_kaufman.rs, fn ll_bk_panel_step
-pub fn head_one(
-    panel: &mut [f64],
-    mult: &mut [f64],
-    nrow: usize,
-    ncol: usize,
-    nb: usize,
-    kb: usize,
-    ke: usize,
-    k: Elim,
-    d: f64,
-)
-    requires { ⌜ OnePre nrow ncol nb kb ke (k .0) (length (now panel)) (length (now mult)) ⌝ }
-    ensures rows { λ _. ⌜ view nrow (now (panel .exit)) ≡ headOne ke (k .0) d (view nrow (now (panel .entry))) ⌝ }
-    ensures kept { λ _. ⌜ inPanel kb ke (view nb (now (mult .exit)))
-        ≡ keptOne ke (k .0) d (view nrow (now (panel .entry))) (inPanel kb ke (view nb (now (mult .entry)))) ⌝ }
+pub fn head_one(panel: &mut [f64], mult: &mut [f64], at: Frame, k: Elim, d: f64)
+    requires { ⌜ OnePre (at .nrow) (at .ncol) (at .nb) (at .kb) (at .ke) (k .0) (length (now panel))
+        (length (now mult)) ⌝ }
+    ensures rows { λ _. ⌜ view (at .nrow) (now (panel .exit))
+        ≡ headOne (at .ke) (k .0) d (view (at .nrow) (now (panel .entry))) ⌝ }
+    ensures kept { λ _. ⌜ inPanel (at .kb) (at .ke) (view (at .nb) (now (mult .exit)))
+        ≡ keptOne (at .ke) (k .0) d (view (at .nrow) (now (panel .entry)))
+        (inPanel (at .kb) (at .ke) (view (at .nb) (now (mult .entry)))) ⌝ }
 {
-    let at = k.0;
-    kept::keep_one(mult, panel, nrow, nb, kb, ke, at, at + 1, reciprocal(d));
-    apply_one(panel, mult, nrow, ncol, nb, kb, ke, at, at + 1, ke, d);
-    grid::put(panel, nrow, at, at, d);
+    let here = k.0;
+    kept::keep_one(mult, panel, at, here, here + 1, reciprocal(d));
+    apply_one(panel, mult, at, here, here + 1, at.ke, d);
+    grid::put(panel, at.nrow, here, here, d);
 }
 
 // The multipliers of rows k + 2 up to ke, kept in columns k and k + 1 of mult.
-fn keep_block(
-    mult: &mut [f64],
-    panel: &[f64],
-    nrow: usize,
-    ncol: usize,
-    nb: usize,
-    kb: usize,
-    ke: usize,
-    k: usize,
-    b: Block,
-)
-    requires { ⌜ TwoPre nrow ncol nb kb ke k (length (now panel)) (length (now mult)) ⌝ }
-    ensures { λ _. ⌜ inPanel kb ke (view nb (now (mult .exit)))
-        ≡ keptTwo ke k b (view nrow (now (panel .entry))) (inPanel kb ke (view nb (now (mult .entry)))) ⌝ }
+fn keep_block(mult: &mut [f64], panel: &[f64], at: Frame, k: usize, b: Block)
+    requires { ⌜ TwoPre (at .nrow) (at .ncol) (at .nb) (at .kb) (at .ke) k (length (now panel)) (length (now mult)) ⌝ }
+    ensures { λ _. ⌜ inPanel (at .kb) (at .ke) (view (at .nb) (now (mult .exit)))
+        ≡ keptTwo (at .ke) k b (view (at .nrow) (now (panel .entry)))
+        (inPanel (at .kb) (at .ke) (view (at .nb) (now (mult .entry)))) ⌝ }
 {
     let lo = k + 2;
     let r = reciprocal(b.det);
-    kept::keep_two(mult, panel, nrow, nb, kb, ke, k, k + 1, lo, b.d22, b.d21, r);
-    kept::keep_two(mult, panel, nrow, nb, kb, ke, k + 1, k, lo, b.d11, b.d21, r);
+    kept::keep_two(mult, panel, at, k, k + 1, lo, b.d22, b.d21, r);
+    kept::keep_two(mult, panel, at, k + 1, k, lo, b.d11, b.d21, r);
 }
 
 // Rows k + 2 up to ke after a block at k and k + 1, each up to its own column; their multipliers are kept in columns k
 // and k + 1 of mult. The panel keeps the block's own numbers.
 // in: b the block, lifted where the mode asks it / in and out: panel, mult
 // origin: src/numeric/ldlt/bunch_kaufman.rs, fn ll_bk_panel_step
-pub fn head_two(
-    panel: &mut [f64],
-    mult: &mut [f64],
-    nrow: usize,
-    ncol: usize,
-    nb: usize,
-    kb: usize,
-    ke: usize,
-    k: Elim,
-    b: Block,
-)
-    requires { ⌜ TwoPre nrow ncol nb kb ke (k .0) (length (now panel)) (length (now mult)) ⌝ }
-    ensures rows { λ _. ⌜ view nrow (now (panel .exit)) ≡ headTwo ke (k .0) b (view nrow (now (panel .entry))) ⌝ }
-    ensures kept { λ _. ⌜ inPanel kb ke (view nb (now (mult .exit)))
-        ≡ keptTwo ke (k .0) b (view nrow (now (panel .entry))) (inPanel kb ke (view nb (now (mult .entry)))) ⌝ }
+pub fn head_two(panel: &mut [f64], mult: &mut [f64], at: Frame, k: Elim, b: Block)
+    requires { ⌜ TwoPre (at .nrow) (at .ncol) (at .nb) (at .kb) (at .ke) (k .0) (length (now panel))
+        (length (now mult)) ⌝ }
+    ensures rows { λ _. ⌜ view (at .nrow) (now (panel .exit))
+        ≡ headTwo (at .ke) (k .0) b (view (at .nrow) (now (panel .entry))) ⌝ }
+    ensures kept { λ _. ⌜ inPanel (at .kb) (at .ke) (view (at .nb) (now (mult .exit)))
+        ≡ keptTwo (at .ke) (k .0) b (view (at .nrow) (now (panel .entry)))
+        (inPanel (at .kb) (at .ke) (view (at .nb) (now (mult .entry)))) ⌝ }
 {
-    let at = k.0;
-    keep_block(mult, panel, nrow, ncol, nb, kb, ke, at, b);
-    apply_two(panel, mult, nrow, ncol, nb, kb, ke, at, at + 2, ke, b);
+    let here = k.0;
+    keep_block(mult, panel, at, here, b);
+    apply_two(panel, mult, at, here, here + 2, at.ke, b);
 }

@@ -13,7 +13,7 @@ use borrow.Rule.Slice.PartMut.{midOf, putMid}
 use lib.Ieee.{Float, nan, eq, ne}
 use Rattle.model.specs.Scalar.{zeroF}
 use Rattle.model.specs.Matrix.{Row, Mat, view, vec, putAt, withColumn, withPart}
-use Rattle.grid.specs.Rules.{columnOf, behind, ahead, zeroed, lessTimes, lessTimesIf, lessTwo, lessThree, lessFour, lessEach, plusTimes, plusFour}
+use Rattle.grid.specs.Rules.{columnOf, behind, ahead, zeroed, lessTimes, lessTimesIf, lessTwo, lessThree, lessFour, plusTimes}
 use Rattle.grid.specs.Rules.{times, combined, columnsExchanged, AheadPre, MoreAheadPre, LaterPre, RowsPre}
 use Rattle.grid.proofs.Laws.{test, cmp, no, vec-put, vec-part, view-set, view-at}
 
@@ -112,38 +112,6 @@ pub scale-lent : (n : ℕ) (xs ys : List Float) (j lo hi : ℕ) (r : Float) → 
     → view n (columnBack n xs j lo hi ys) ≡ withColumn (view n xs) j lo hi (times (columnOf (view n xs) j) r)
 unfolding times columnOf
 scale-lent n xs ys j lo hi r room u h ly e = column-lent n xs ys j lo hi _ _ _ room u h ly e (λ t l. rw (column-at n xs j lo hi t h l))
-
-pub less-each-lent : (n : ℕ) (xs ys zs : List Float) (j lo hi : ℕ) → n + j * n ≤ length xs → lo ≤ hi → hi ≤ n
-    → length ys ≡ length (columnPart n xs j lo hi)
-    → vec ys ≡ withPart (vec (columnPart n xs j lo hi)) 0 (hi - lo) (lessEach (vec (columnPart n xs j lo hi)) (vec (part zs lo hi)))
-    → view n (columnBack n xs j lo hi ys) ≡ withColumn (view n xs) j lo hi (lessEach (columnOf (view n xs) j) (vec zs))
-unfolding lessEach columnOf
-less-each-lent n xs ys zs j lo hi room u h ly e =
-    column-lent n xs ys j lo hi _ _ _ (omega arith) u h ly e (λ t l. rw (column-at n xs j lo hi t h l, vec-part lo hi zs t l))
-
--- columns j to j + 3, whose parts begin n apart
-pub plus-four-lent : (n : ℕ) (xs ys zs : List Float) (j lo hi : ℕ) (l0 l1 l2 l3 : Float) → lo ≤ hi → hi ≤ n → hi ≤ length xs
-    → length ys ≡ length (part xs lo hi)
-    → vec ys ≡ withPart (vec (part xs lo hi)) 0 (hi - lo) (plusFour (vec (part xs lo hi)) (vec (columnPart n zs j lo hi))
-    (vec (midOf (lo + j * n + n) (hi + j * n + n - (lo + j * n + n)) zs))
-    (vec (midOf (lo + j * n + n + n) (hi + j * n + n + n - (lo + j * n + n + n)) zs))
-    (vec (midOf (lo + j * n + n + n + n) (hi + j * n + n + n + n - (lo + j * n + n + n + n)) zs)) l0 l1 l2 l3)
-    → vec (back xs lo hi ys)
-    ≡ withPart (vec xs) lo hi
-    (plusFour (vec xs) (columnOf (view n zs) j) (columnOf (view n zs) (j + 1)) (columnOf (view n zs) (j + 2)) (columnOf (view n zs) (j + 3)) l0 l1 l2 l3)
-unfolding plusFour columnOf
-plus-four-lent n xs ys zs j lo hi l0 l1 l2 l3 u h g ly e =
-    part-lent xs ys lo hi _ _ _ u g ly e
-    (λ t l. rw (
-      vec-part lo hi xs t l,
-      column-at n zs j lo hi t h l,
-      later-at 1 (lo + j * n + n) (hi + j * n + n) t l (omega (arith, add-mul j 1 n)) (omega (arith, add-mul j 1 n)),
-      later-at 2 (lo + j * n + n + n) (hi + j * n + n + n) t l (omega (arith, add-mul j 2 n)) (omega (arith, add-mul j 2 n)),
-      later-at 3 (lo + j * n + n + n + n) (hi + j * n + n + n + n) t l (omega (arith, add-mul j 3 n)) (omega (arith, add-mul j 3 n)),
-    ))
-  where
-    later-at : (c a b t : ℕ) → t < hi - lo → a ≡ lo + (j + c) * n → b ≡ hi + (j + c) * n → vec (midOf a (b - a) zs) t ≡ view n zs (lo + t) (j + c)
-    later-at c a b t l p q = rw (p, q) (column-at n zs (j + c) lo hi t h l)
 
 pub zero-lent : (xs ys : List Float) (lo hi : ℕ) → lo ≤ hi → hi ≤ length xs → ys ≡ replicate (length (part xs lo hi)) zeroF
     → vec (back xs lo hi ys) ≡ withPart (vec xs) lo hi zeroed

@@ -80,13 +80,6 @@ pub record ThreePre (n x s t : ℕ) : Type 0 where
   pub first : n ≤ s
   pub second : n ≤ t
 
-pub record FivePre (n x s t u v : ℕ) : Type 0 where
-  pub out : n ≤ x
-  pub first : n ≤ s
-  pub second : n ≤ t
-  pub third : n ≤ u
-  pub fourth : n ≤ v
-
 -- and of one slice: n numbers from q on, past its first n
 pub record AheadPre (n q x : ℕ) : Type 0 where
   pub apart : n ≤ q
@@ -108,13 +101,6 @@ pub record PartPre (lo hi len : ℕ) : Type 0 where
 
 pub record ColumnPre (n j lo hi len slen : ℕ) : Type 0 where
   pub col : n + j * n ≤ len
-  pub up : lo ≤ hi
-  pub rows : hi ≤ n
-  pub places : hi ≤ slen
-
--- columns j to j + 3 are there
-pub record ColumnFourPre (n j lo hi len slen : ℕ) : Type 0 where
-  pub cols : j * n + 4 * n ≤ len
   pub up : lo ≤ hi
   pub rows : hi ≤ n
   pub places : hi ≤ slen

@@ -1,14 +1,17 @@
 // Rows lo up to hi of columns of a column-major panel, lent to a kernel as a part of the panel. A vector that goes with
 // them holds number i for row i. A reader may rely on the contracts: nothing else of the panel or of the vector
 // changes.
+use super::FourMultipliers;
+use super::ThreeMultipliers;
+use super::TwoMultipliers;
 use super::kernels;
 ghost use mathlib.Core.Path.{_≡_};
 ghost use Prim.Native.Nat.{_+_};
 ghost use lib.ListN.{length};
 ghost use Rattle.model.specs.Matrix.{view, vec, withColumn, withPart};
 ghost use Rattle.grid.specs.Rules.{columnOf, zeroed, lessTimes, lessTimesIf, lessTwo, lessThree, lessFour};
-ghost use Rattle.grid.specs.Rules.{lessEach, plusTimes, plusFour, times, combined, columnsExchanged};
-ghost use Rattle.grid.specs.Rules.{PartPre, ColumnPre, ColumnFourPre, LaterPre, RowsPre, ExchangePre};
+ghost use Rattle.grid.specs.Rules.{plusTimes, times, combined, columnsExchanged};
+ghost use Rattle.grid.specs.Rules.{PartPre, ColumnPre, LaterPre, RowsPre, ExchangePre};
 
 // Numbers lo up to hi of x become +0.0.
 pub fn zero(x: &mut [f64], lo: usize, hi: usize)
@@ -28,48 +31,6 @@ pub fn plus(x: &mut [f64], panel: &[f64], nrow: usize, j: usize, lo: usize, hi: 
     let a = lo + j * nrow;
     let b = hi + j * nrow;
     kernels::plus(&mut x[lo..hi], &panel[a..b], hi - lo, l);
-}
-
-// Numbers lo up to hi of x gain those rows of columns j to j + 3, each times its own number, in their order.
-pub fn plus_four(
-    x: &mut [f64],
-    panel: &[f64],
-    nrow: usize,
-    j: usize,
-    lo: usize,
-    hi: usize,
-    l0: f64,
-    l1: f64,
-    l2: f64,
-    l3: f64,
-)
-    requires { ⌜ ColumnFourPre nrow j lo hi (length (now panel)) (length (now x)) ⌝ }
-    ensures { λ _. ⌜ vec (now (x .exit))
-        ≡ withPart (vec (now (x .entry))) lo hi
-        (plusFour (vec (now (x .entry))) (columnOf (view nrow (now (panel .entry))) j)
-        (columnOf (view nrow (now (panel .entry))) (j + 1)) (columnOf (view nrow (now (panel .entry))) (j + 2))
-        (columnOf (view nrow (now (panel .entry))) (j + 3)) l0 l1 l2 l3) ⌝ }
-{
-    let a0 = lo + j * nrow;
-    let b0 = hi + j * nrow;
-    let a1 = a0 + nrow;
-    let b1 = b0 + nrow;
-    let a2 = a1 + nrow;
-    let b2 = b1 + nrow;
-    let a3 = a2 + nrow;
-    let b3 = b2 + nrow;
-    kernels::plus_four(
-        &mut x[lo..hi],
-        &panel[a0..b0],
-        &panel[a1..b1],
-        &panel[a2..b2],
-        &panel[a3..b3],
-        hi - lo,
-        l0,
-        l1,
-        l2,
-        l3,
-    );
 }
 
 // Rows lo up to hi of column j become r times as large.
@@ -110,18 +71,6 @@ pub fn combine(
     kernels::combine_own(&mut panel[a..b], nrow, hi - lo, d11, d21, d22, r);
 }
 
-// Rows lo up to hi of column j lose s.
-pub fn less_each(panel: &mut [f64], nrow: usize, j: usize, lo: usize, hi: usize, s: &[f64])
-    requires { ⌜ ColumnPre nrow j lo hi (length (now panel)) (length (now s)) ⌝ }
-    ensures { λ _. ⌜ view nrow (now (panel .exit))
-        ≡ withColumn (view nrow (now (panel .entry))) j lo hi
-        (lessEach (columnOf (view nrow (now (panel .entry))) j) (vec (now (s .entry)))) ⌝ }
-{
-    let a = lo + j * nrow;
-    let b = hi + j * nrow;
-    kernels::less_each(&mut panel[a..b], &s[lo..hi], hi - lo);
-}
-
 // Rows lo up to hi of column j lose those of column k, which stands before it, times m. What is lent begins with them:
 // the part of the panel from lo + k·nrow on.
 fn less(panel: &mut [f64], nrow: usize, k: usize, j: usize, lo: usize, hi: usize, m: f64)
@@ -148,8 +97,7 @@ pub fn less_if(panel: &mut [f64], nrow: usize, k: usize, j: usize, lo: usize, hi
     }
 }
 
-// Rows lo up to hi of column j lose those of column k times m1, then those of column k + 1 times m2. Both stand before
-// it, and so do the columns of the next two functions.
+// Rows lo up to hi of column j lose those of columns k and k + 1, which stand before it, times its multipliers.
 pub fn less_two(
     panel: &mut [f64],
     nrow: usize,
@@ -157,22 +105,21 @@ pub fn less_two(
     j: usize,
     lo: usize,
     hi: usize,
-    m1: f64,
-    m2: f64,
+    m: TwoMultipliers,
 )
     requires { ⌜ LaterPre nrow (k + 1) j lo hi (length (now panel)) ⌝ }
     ensures { λ _. ⌜ view nrow (now (panel .exit))
         ≡ withColumn (view nrow (now (panel .entry))) j lo hi
         (lessTwo (columnOf (view nrow (now (panel .entry))) j) (columnOf (view nrow (now (panel .entry))) k)
-        (columnOf (view nrow (now (panel .entry))) (k + 1)) m1 m2) ⌝ }
+        (columnOf (view nrow (now (panel .entry))) (k + 1)) (m .0) (m .1)) ⌝ }
 {
     let a = lo + k * nrow;
     let x = lo + j * nrow;
     let e = hi + j * nrow;
-    kernels::less_two_ahead(&mut panel[a..e], nrow, x - a, hi - lo, m1, m2);
+    kernels::less_two_ahead(&mut panel[a..e], nrow, x - a, hi - lo, m.0, m.1);
 }
 
-// Then those of column k + 2 times m3.
+// Of columns k to k + 2.
 pub fn less_three(
     panel: &mut [f64],
     nrow: usize,
@@ -180,24 +127,22 @@ pub fn less_three(
     j: usize,
     lo: usize,
     hi: usize,
-    m1: f64,
-    m2: f64,
-    m3: f64,
+    m: ThreeMultipliers,
 )
     requires { ⌜ LaterPre nrow (k + 2) j lo hi (length (now panel)) ⌝ }
     ensures { λ _. ⌜ view nrow (now (panel .exit))
         ≡ withColumn (view nrow (now (panel .entry))) j lo hi
         (lessThree (columnOf (view nrow (now (panel .entry))) j) (columnOf (view nrow (now (panel .entry))) k)
         (columnOf (view nrow (now (panel .entry))) (k + 1)) (columnOf (view nrow (now (panel .entry))) (k + 2))
-        m1 m2 m3) ⌝ }
+        (m .0) (m .1) (m .2)) ⌝ }
 {
     let a = lo + k * nrow;
     let x = lo + j * nrow;
     let e = hi + j * nrow;
-    kernels::less_three_ahead(&mut panel[a..e], nrow, x - a, hi - lo, m1, m2, m3);
+    kernels::less_three_ahead(&mut panel[a..e], nrow, x - a, hi - lo, m.0, m.1, m.2);
 }
 
-// Then those of column k + 3 times m4.
+// Of columns k to k + 3.
 pub fn less_four(
     panel: &mut [f64],
     nrow: usize,
@@ -205,22 +150,19 @@ pub fn less_four(
     j: usize,
     lo: usize,
     hi: usize,
-    m1: f64,
-    m2: f64,
-    m3: f64,
-    m4: f64,
+    m: FourMultipliers,
 )
     requires { ⌜ LaterPre nrow (k + 3) j lo hi (length (now panel)) ⌝ }
     ensures { λ _. ⌜ view nrow (now (panel .exit))
         ≡ withColumn (view nrow (now (panel .entry))) j lo hi
         (lessFour (columnOf (view nrow (now (panel .entry))) j) (columnOf (view nrow (now (panel .entry))) k)
         (columnOf (view nrow (now (panel .entry))) (k + 1)) (columnOf (view nrow (now (panel .entry))) (k + 2))
-        (columnOf (view nrow (now (panel .entry))) (k + 3)) m1 m2 m3 m4) ⌝ }
+        (columnOf (view nrow (now (panel .entry))) (k + 3)) (m .0) (m .1) (m .2) (m .3)) ⌝ }
 {
     let a = lo + k * nrow;
     let x = lo + j * nrow;
     let e = hi + j * nrow;
-    kernels::less_four_ahead(&mut panel[a..e], nrow, x - a, hi - lo, m1, m2, m3, m4);
+    kernels::less_four_ahead(&mut panel[a..e], nrow, x - a, hi - lo, m.0, m.1, m.2, m.3);
 }
 
 // Rows lo up to hi of columns p and q, one for the other; nothing where they are the same column.

@@ -6,9 +6,9 @@ ghost use Prim.Native.Nat.{_+_, _-_, _≤_};
 ghost use lib.ListN.{length, replicate};
 ghost use Rattle.model.specs.Scalar.{zeroF};
 ghost use Rattle.model.specs.Matrix.{vec, withPart};
-ghost use Rattle.grid.specs.Rules.{lessTimes, lessTwo, lessThree, lessFour, lessEach, plusTimes, plusFour, times};
+ghost use Rattle.grid.specs.Rules.{lessTimes, lessTwo, lessThree, lessFour, lessEach, plusTimes, times};
 ghost use Rattle.grid.specs.Rules.{combined, blended, behind, ahead};
-ghost use Rattle.grid.specs.Rules.{TwoPre, ThreePre, FivePre, AheadPre, MoreAheadPre};
+ghost use Rattle.grid.specs.Rules.{TwoPre, ThreePre, AheadPre, MoreAheadPre};
 
 // All numbers become +0.0.
 pub fn zero(x: &mut [f64])
@@ -131,30 +131,6 @@ pub fn plus(x: &mut [f64], g: &[f64], n: usize, l: f64)
 {
     for i in 0..n {
         x[i] = x[i] + g[i] * l;
-    }
-}
-
-// (((x + g0·l0) + g1·l1) + g2·l2) + g3·l3: four terms of a sum in one pass, in their order.
-pub fn plus_four(
-    x: &mut [f64],
-    g0: &[f64],
-    g1: &[f64],
-    g2: &[f64],
-    g3: &[f64],
-    n: usize,
-    l0: f64,
-    l1: f64,
-    l2: f64,
-    l3: f64,
-)
-    requires { ⌜ FivePre n (length (now x)) (length (now g0)) (length (now g1)) (length (now g2)) (length (now g3)) ⌝ }
-    ensures { λ _. ⌜ vec (now (x .exit))
-        ≡ withPart (vec (now (x .entry))) 0 n
-        (plusFour (vec (now (x .entry))) (vec (now (g0 .entry))) (vec (now (g1 .entry))) (vec (now (g2 .entry)))
-        (vec (now (g3 .entry))) l0 l1 l2 l3) ⌝ }
-{
-    for i in 0..n {
-        x[i] = x[i] + g0[i] * l0 + g1[i] * l1 + g2[i] * l2 + g3[i] * l3;
     }
 }
 

@@ -1,5 +1,5 @@
 // A column-major panel: one number read and written here, slice kernels in kernels.rt, parts of columns lent to them in
-// columns.rt.
+// columns.rt; and the multipliers that a column goes by, where it loses several others in one pass.
 ghost use mathlib.Core.Path.{_≡_};
 ghost use lib.ListN.{length};
 ghost use Rattle.model.specs.Matrix.{view, putAt};
@@ -7,6 +7,13 @@ ghost use Rattle.grid.specs.Grid.{In};
 
 pub mod columns;
 pub mod kernels;
+
+// A column's own multipliers of two columns, in the order in which it loses them; of three; of four.
+pub struct TwoMultipliers(pub f64, pub f64);
+
+pub struct ThreeMultipliers(pub f64, pub f64, pub f64);
+
+pub struct FourMultipliers(pub f64, pub f64, pub f64, pub f64);
 
 // The number at row i, column j.
 pub fn get(panel: &[f64], nrow: usize, i: usize, j: usize) -> f64

@@ -25,8 +25,8 @@ pub struct Settings {
     pub limit: usize,
 }
 
-// The panel at work: the node's rows and columns, the width by which the multipliers are laid out, and the panel's own
-// columns, kb to ke.
+// The panel at work: the node's rows and columns, the width by which its multipliers are laid out, and the panel's own
+// columns, kb up to ke.
 pub struct Frame {
     pub nrow: usize,
     pub ncol: usize,

@@ -13,7 +13,7 @@ use Rattle.grid.specs.Rules.{columnOf, lessTimes, lessTwo, lessThree}
 use Rattle.grid.proofs.Laws.{withColumn-other}
 use Rattle.several.specs.Several.{pick, columnsBy, fourColumns, twoColumns, ColumnsPre}
 use Rattle.pairs.specs.Pairs.{lessAt, steppedTwice, strip, sweptBoth, neitherZero, PairPre}
-use Rattle.pairs.specs.declared.Frame.{Frame}
+use Rattle.pairs.specs.declared.Part.{Part}
 use Rattle.pairs.proofs.Column.{last-from, block-last, single-last}
 use Rattle.pairs.proofs.Sweeps.{placed, column-in, less-same, strip-before, both-none, both-step, both-end}
 
@@ -106,7 +106,7 @@ both-more block1 block2 M P Q I f kq k l j next lo hi e g h u v p q =
 
 -- ---- by the kinds
 
-pub pair-kinds : (block1 block2 w o : Bool) (at : Frame) (l f kq len lenM : ℕ) → block1 ≡ w → block2 ≡ o → PairPre block1 block2 at l f kq len lenM
+pub pair-kinds : (block1 block2 w o : Bool) (at : Part) (l f kq len lenM : ℕ) → block1 ≡ w → block2 ≡ o → PairPre block1 block2 at l f kq len lenM
     → PairPre w o at l f kq len lenM
 pair-kinds block1 block2 w o at l f kq len lenM e g h = rw (e, g) at h
 
@@ -231,7 +231,7 @@ module _ (M Q I : Mat) (f kq l j lo hi : ℕ) where
 
 -- ---- what the passes ask
 
-module _ {at : Frame} {l f kq j len lenM : ℕ} where
+module _ {at : Part} {l f kq j len lenM : ℕ} where
   columns-pre : (block1 block2 : Bool) (c z : ℕ) → PairPre block1 block2 at l f kq len lenM → c ≤ f → f < j → j + z < at .columns
       → ColumnsPre (at .nrow) (at .rows) c j (j + z) len
   columns-pre block1 block2 c z pre u h g =

@@ -17,8 +17,8 @@ use Rattle.model.specs.declared.Diagonal.the-variants.{One, Two}
 use Rattle.model.proofs.Cases.{test, cmp}
 use Rattle.grid.specs.Grid.{In}
 use Rattle.grid.specs.Rules.{columnOf, times, combined, LaterPre, RowsPre, ExchangePre}
-use Rattle.pairs.specs.Pairs.{lessAt, stepped, steppedTwice, strip, sweptFirst, sweptBoth, ownBy, FramePre, SweepPre, StepPre, PairPre}
-use Rattle.pairs.specs.declared.Frame.{Frame}
+use Rattle.pairs.specs.Pairs.{lessAt, stepped, steppedTwice, strip, sweptFirst, sweptBoth, ownBy, PartPre, SweepPre, StepPre, PairPre}
+use Rattle.pairs.specs.declared.Part.{Part}
 use Rattle.pairs.proofs.Column.{last-from}
 
 -- ---- the exchange of places
@@ -44,7 +44,7 @@ place-under hi f kq j hf hq hj = test (eqb j f) (λ e. rw e hq) (λ e. rw e (tes
 
 -- ---- what is lent
 
-module _ {at : Frame} {len lenM : ℕ} (frame : FramePre at len lenM) where
+module _ {at : Part} {len lenM : ℕ} (frame : PartPre at len lenM) where
   -- each column is there, and so is each multiplier
   pub column-in : (j : ℕ) → j < at .columns → at .rows + j * at .nrow ≤ len
   column-in j h = let few : j ≤ at .columns - 1 = omega arith in omega (arith, frame .room, mul-le-mul-right (at .nrow) few)
@@ -66,7 +66,7 @@ module _ {at : Frame} {len lenM : ℕ} (frame : FramePre at len lenM) where
 
 -- ---- what the first pivot's sweep asks
 
-module _ (block : Bool) (at : Frame) (j f kq len lenM : ℕ) (pre : SweepPre block at j (j + 1) f kq len lenM) where
+module _ (block : Bool) (at : Part) (j f kq len lenM : ℕ) (pre : SweepPre block at j (j + 1) f kq len lenM) where
   moved-in : exchangedPlace f kq j < at .columns
   moved-in = place-under (at .columns) f kq j (pre .one) (pre .other) (omega (arith, pre .end))
 
@@ -80,7 +80,7 @@ module _ (block : Bool) (at : Frame) (j f kq len lenM : ℕ) (pre : SweepPre blo
   later-than-first = later-in (pre .frame) (lastOf 0 block) j len (pre .past) (omega (arith, pre .end)) refl
 
 -- one column of it
-pub sweep-column : (block : Bool) (at : Frame) (c e f kq j len lenM len′ : ℕ) → SweepPre block at c e f kq len lenM → c ≤ j → j < e → len′ ≡ len
+pub sweep-column : (block : Bool) (at : Part) (c e f kq j len lenM len′ : ℕ) → SweepPre block at c e f kq len lenM → c ≤ j → j < e → len′ ≡ len
     → SweepPre block at j (j + 1) f kq len′ lenM
 sweep-column block at c e f kq j len lenM len′ pre h g q =
     record {
@@ -94,7 +94,7 @@ sweep-column block at c e f kq j len lenM len′ pre h g q =
 
 -- ---- a single pivot, of that kind: `block` as the code read it
 
-module _ (kind block : Bool) (at : Frame) (kp last len lenM : ℕ) (pre : StepPre kind at kp len lenM) (b : block ≡ kind)
+module _ (kind block : Bool) (at : Part) (kp last len lenM : ℕ) (pre : StepPre kind at kp len lenM) (b : block ≡ kind)
     (e : last ≡ lastOf 0 block) where
   pub last-in : last < at .columns
   last-in = omega (arith, pre .here, ap (lastOf 0) b)
@@ -119,7 +119,7 @@ pub record Placed (columns l f kq : ℕ) : Type 0 where
   pub last : f < columns
   pub reach : f ≤ kq
 
-module _ {block1 block2 : Bool} {at : Frame} {l f kq len lenM : ℕ} (pre : PairPre block1 block2 at l f kq len lenM) where
+module _ {block1 block2 : Bool} {at : Part} {l f kq len lenM : ℕ} (pre : PairPre block1 block2 at l f kq len lenM) where
   pub placed : Placed (at .columns) l f kq
   placed =
       record {

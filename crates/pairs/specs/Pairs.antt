@@ -12,7 +12,7 @@ use Rattle.model.specs.Head.{lastOf}
 use Rattle.model.specs.declared.Diagonal.{Diagonal}
 use Rattle.model.specs.declared.Diagonal.the-variants.{One, Two}
 use Rattle.grid.specs.Rules.{columnOf, times, combined}
-use Rattle.pairs.specs.declared.Frame.{Frame}
+use Rattle.pairs.specs.declared.Part.{Part}
 
 -- the step of the pivot x at k; of a 1x1 the second multipliers are not read
 abbrev pub stepOf : ℕ → ℕ → Diagonal → Row → Row → Step
@@ -68,15 +68,15 @@ neitherZero a b = not (eq a zeroF) && not (eq b zeroF)
 -- ---- what the functions ask
 
 -- the columns and their multipliers are there
-pub record FramePre (at : Frame) (len lenM : ℕ) : Type 0 where
+pub record PartPre (at : Part) (len lenM : ℕ) : Type 0 where
   pub height : at .rows ≤ at .nrow
   pub room : at .rows + (at .columns - 1) * at .nrow ≤ len
   pub width : at .columns ≤ at .nb
   pub kept : at .columns + (at .columns - 1) * at .nb ≤ lenM
 
 -- columns c up to e past a pivot at column 0; columns f and kq were exchanged
-pub record SweepPre (block : Bool) (at : Frame) (c e f kq len lenM : ℕ) : Type 0 where
-  pub frame : FramePre at len lenM
+pub record SweepPre (block : Bool) (at : Part) (c e f kq len lenM : ℕ) : Type 0 where
+  pub frame : PartPre at len lenM
   pub past : lastOf 0 block < c
   pub up : c ≤ e
   pub end : e ≤ at .columns
@@ -84,14 +84,14 @@ pub record SweepPre (block : Bool) (at : Frame) (c e f kq len lenM : ℕ) : Type
   pub other : kq < at .columns
 
 -- a pivot at column 0, which exchanged its last column with kp
-pub record StepPre (block : Bool) (at : Frame) (kp len lenM : ℕ) : Type 0 where
-  pub frame : FramePre at len lenM
+pub record StepPre (block : Bool) (at : Part) (kp len lenM : ℕ) : Type 0 where
+  pub frame : PartPre at len lenM
   pub here : lastOf 0 block < at .columns
   pub row : kp < at .columns
 
 -- pivots at column 0 and right after it at l; the second exchanged its last column f with kq
-pub record PairPre (block1 block2 : Bool) (at : Frame) (l f kq len lenM : ℕ) : Type 0 where
-  pub frame : FramePre at len lenM
+pub record PairPre (block1 block2 : Bool) (at : Part) (l f kq len lenM : ℕ) : Type 0 where
+  pub frame : PartPre at len lenM
   pub next : l ≡ lastOf 0 block1 + 1
   pub last : f ≡ lastOf l block2
   pub reach : f ≤ kq

@@ -5,6 +5,9 @@
 // i + j·nrow, and the multiplier of row j in column c at j + c·nb. A reader may rely on the contracts of below_step and
 // below_pair: they cite the model's steps, and leave every other number of the part alone.
 use diagonal::is_block;
+use grid::FourMultipliers;
+use grid::ThreeMultipliers;
+use grid::TwoMultipliers;
 use grid::columns;
 use model::Diagonal;
 use scalar::reciprocal;
@@ -25,7 +28,7 @@ mod less;
 
 // What is lent of a panel and of its multipliers: `columns` columns, from the first pivot's to the panel's last, and
 // `rows` rows of each. A column begins nrow numbers after the one before it, a column of multipliers nb after.
-pub struct Frame {
+pub struct Part {
     pub nrow: usize,
     pub rows: usize,
     pub nb: usize,
@@ -58,7 +61,7 @@ fn column_first(
     part: &mut [f64],
     mult: &[f64],
     block: bool,
-    at: Frame,
+    at: Part,
     f: usize,
     kq: usize,
     j: usize,
@@ -72,7 +75,7 @@ fn column_first(
 {
     let m1 = multiplier_before(mult, at.nb, f, kq, j, 0);
     let m2 = multiplier_before(mult, at.nb, f, kq, j, 1);
-    less::less_step(part, block, at.nrow, at.rows, j, m1, m2);
+    less::less_step(part, block, at.nrow, at.rows, j, TwoMultipliers(m1, m2));
 }
 
 // Columns c up to e less the first pivot's part.
@@ -80,7 +83,7 @@ fn sweep_first(
     part: &mut [f64],
     mult: &[f64],
     block: bool,
-    at: Frame,
+    at: Part,
     c: usize,
     e: usize,
     f: usize,
@@ -102,7 +105,7 @@ fn column_both(
     mult: &[f64],
     block1: bool,
     block2: bool,
-    at: Frame,
+    at: Part,
     l: usize,
     f: usize,
     kq: usize,
@@ -121,7 +124,8 @@ fn column_both(
     let m2 = multiplier_before(mult, at.nb, f, kq, j, 1);
     let m3 = grid::get(mult, at.nb, j, l);
     let m4 = grid::get(mult, at.nb, j, l + 1);
-    less::less_both(part, block1, block2, at.nrow, at.rows, l, j, m1, m2, m3, m4);
+    let m = FourMultipliers(m1, m2, m3, m4);
+    less::less_both(part, block1, block2, at.nrow, at.rows, l, j, m);
 }
 
 // Whether neither of two multipliers is a zero of either sign.
@@ -136,7 +140,7 @@ fn neither_zero(a: f64, b: f64) -> bool
 fn four_singles(
     part: &mut [f64],
     mult: &[f64],
-    at: Frame,
+    at: Part,
     l: usize,
     f: usize,
     kq: usize,
@@ -160,7 +164,11 @@ fn four_singles(
     if neither_zero(a1, a2)
         & (neither_zero(b1, b2) & (neither_zero(c1, c2) & neither_zero(d1, d2)))
     {
-        several::less_two_of_four(part, at.nrow, at.rows, j, a1, a2, b1, b2, c1, c2, d1, d2);
+        let a = TwoMultipliers(a1, a2);
+        let b = TwoMultipliers(b1, b2);
+        let c = TwoMultipliers(c1, c2);
+        let d = TwoMultipliers(d1, d2);
+        several::less_two_of_four(part, at.nrow, at.rows, j, a, b, c, d);
         return j + 4;
     }
     j
@@ -171,7 +179,7 @@ fn four_singles(
 fn single_block_two(
     part: &mut [f64],
     mult: &[f64],
-    at: Frame,
+    at: Part,
     l: usize,
     f: usize,
     kq: usize,
@@ -191,7 +199,9 @@ fn single_block_two(
     let b2 = grid::get(mult, at.nb, j + 1, l);
     let b3 = grid::get(mult, at.nb, j + 1, l + 1);
     if neither_zero(a1, b1) {
-        several::less_three_of_two(part, at.nrow, at.rows, j, a1, a2, a3, b1, b2, b3);
+        let a = ThreeMultipliers(a1, a2, a3);
+        let b = ThreeMultipliers(b1, b2, b3);
+        several::less_three_of_two(part, at.nrow, at.rows, j, a, b);
         return j + 2;
     }
     j
@@ -201,7 +211,7 @@ fn single_block_two(
 fn block_single_two(
     part: &mut [f64],
     mult: &[f64],
-    at: Frame,
+    at: Part,
     l: usize,
     f: usize,
     kq: usize,
@@ -221,7 +231,9 @@ fn block_single_two(
     let b2 = multiplier_before(mult, at.nb, f, kq, j + 1, 1);
     let b3 = grid::get(mult, at.nb, j + 1, l);
     if neither_zero(a3, b3) {
-        several::less_three_of_two(part, at.nrow, at.rows, j, a1, a2, a3, b1, b2, b3);
+        let a = ThreeMultipliers(a1, a2, a3);
+        let b = ThreeMultipliers(b1, b2, b3);
+        several::less_three_of_two(part, at.nrow, at.rows, j, a, b);
         return j + 2;
     }
     j
@@ -234,7 +246,7 @@ fn several_next(
     mult: &[f64],
     block1: bool,
     block2: bool,
-    at: Frame,
+    at: Part,
     l: usize,
     f: usize,
     kq: usize,
@@ -272,7 +284,7 @@ fn sweep_next(
     mult: &[f64],
     block1: bool,
     block2: bool,
-    at: Frame,
+    at: Part,
     l: usize,
     f: usize,
     kq: usize,
@@ -299,7 +311,7 @@ fn sweep_both(
     mult: &[f64],
     block1: bool,
     block2: bool,
-    at: Frame,
+    at: Part,
     l: usize,
     f: usize,
     kq: usize,
@@ -342,7 +354,7 @@ fn last_column(block: bool) -> usize
 // The rows below after the step of the pivot x in the part's first columns, which exchanged its last column with kp.
 // in: mult, x / in and out: part
 // origin: src/numeric/ldlt/bunch_kaufman.rs, fn apply_bk_panel_trailing
-pub fn below_step(part: &mut [f64], mult: &[f64], at: Frame, kp: usize, x: Diagonal)
+pub fn below_step(part: &mut [f64], mult: &[f64], at: Part, kp: usize, x: Diagonal)
     requires { ⌜ StepPre (isBlock x) at kp (length (now part)) (length (now mult)) ⌝ }
     ensures { λ _. ⌜ view (at .nrow) (now (part .exit))
         ≡ below 0 (at .rows) (rowAfterStep (at .columns)
@@ -363,7 +375,7 @@ pub fn below_step(part: &mut [f64], mult: &[f64], at: Frame, kp: usize, x: Diago
 pub fn below_pair(
     part: &mut [f64],
     mult: &[f64],
-    at: Frame,
+    at: Part,
     l: usize,
     f: usize,
     kp: usize,

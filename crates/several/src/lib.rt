@@ -1,6 +1,8 @@
-// Several later columns of a part of a panel, each less its own multiples of the part's first columns, in one pass: those
-// are read once for all of them. Row i of column j stands at i + j·nrow. Each number keeps its operations and their
-// order. A reader may rely on the contracts: no other number changes.
+// Several later columns of a part of a panel, each less its own multiples of the part's first columns, in one pass:
+// those are read once for all of them. Row i of column j stands at i + j·nrow. Each number keeps its operations and
+// their order. A reader may rely on the contracts: no other number changes.
+use grid::ThreeMultipliers;
+use grid::TwoMultipliers;
 ghost use mathlib.Core.Path.{_≡_};
 ghost use Prim.Native.Nat.{_+_};
 ghost use lib.ListN.{length};
@@ -8,26 +10,22 @@ ghost use Rattle.model.specs.Matrix.{view, vec};
 ghost use Rattle.several.specs.Several.{runsBy, fourLessTwo, twoLessThree, columnsBy, fourColumns, twoColumns};
 ghost use Rattle.several.specs.Several.{RunsPre, ColumnsPre};
 
-// Four runs of n numbers, from q on and each p after the one before it: each less the slice's first n numbers, then less
-// the n from p on, times its own two of the multipliers. The loop vectorises: no branch, no call.
+// Four runs of n numbers, from q on and each p after the one before it: each less the slice's first n numbers, then
+// less the n from p on, times its own multipliers, a to d in turn. The loop vectorises: no branch, no call.
 fn four_less_two(
     x: &mut [f64],
     p: usize,
     q: usize,
     n: usize,
-    a1: f64,
-    a2: f64,
-    b1: f64,
-    b2: f64,
-    c1: f64,
-    c2: f64,
-    d1: f64,
-    d2: f64,
+    a: TwoMultipliers,
+    b: TwoMultipliers,
+    c: TwoMultipliers,
+    d: TwoMultipliers,
 )
     requires { ⌜ RunsPre n p p q (q + p + p + p) (length (now x)) ⌝ }
     ensures { λ _. ⌜ vec (now (x .exit))
         ≡ runsBy (vec (now (x .entry))) p q n
-        (fourLessTwo (vec (now (x .entry))) p q a1 a2 b1 b2 c1 c2 d1 d2) 4 ⌝ }
+        (fourLessTwo (vec (now (x .entry))) p q (a .0) (a .1) (b .0) (b .1) (c .0) (c .1) (d .0) (d .1)) 4 ⌝ }
 {
     let y = q + p;
     let z = y + p;
@@ -35,30 +33,27 @@ fn four_less_two(
     for i in 0..n {
         let s = x[i];
         let t = x[p + i];
-        x[q + i] = x[q + i] - s * a1 - t * a2;
-        x[y + i] = x[y + i] - s * b1 - t * b2;
-        x[z + i] = x[z + i] - s * c1 - t * c2;
-        x[w + i] = x[w + i] - s * d1 - t * d2;
+        x[q + i] = x[q + i] - s * a.0 - t * a.1;
+        x[y + i] = x[y + i] - s * b.0 - t * b.1;
+        x[z + i] = x[z + i] - s * c.0 - t * c.1;
+        x[w + i] = x[w + i] - s * d.0 - t * d.1;
     }
 }
 
-// Two runs of n numbers, from q on and p after it: each less the slice's first n numbers, then less the n from p on, then
-// less the n from 2p on, times its own three of the multipliers. The loop vectorises in the same way.
+// Two runs of n numbers, from q on and p after it: each less the slice's first n numbers, then less the n from p on,
+// then less the n from 2p on, times its own multipliers, a and b. The loop vectorises in the same way.
 fn two_less_three(
     x: &mut [f64],
     p: usize,
     q: usize,
     n: usize,
-    a1: f64,
-    a2: f64,
-    a3: f64,
-    b1: f64,
-    b2: f64,
-    b3: f64,
+    a: ThreeMultipliers,
+    b: ThreeMultipliers,
 )
     requires { ⌜ RunsPre n p (p + p) q (q + p) (length (now x)) ⌝ }
     ensures { λ _. ⌜ vec (now (x .exit))
-        ≡ runsBy (vec (now (x .entry))) p q n (twoLessThree (vec (now (x .entry))) p q a1 a2 a3 b1 b2 b3) 2 ⌝ }
+        ≡ runsBy (vec (now (x .entry))) p q n
+        (twoLessThree (vec (now (x .entry))) p q (a .0) (a .1) (a .2) (b .0) (b .1) (b .2)) 2 ⌝ }
 {
     let r = p + p;
     let y = q + p;
@@ -66,8 +61,8 @@ fn two_less_three(
         let s = x[i];
         let t = x[p + i];
         let u = x[r + i];
-        x[q + i] = x[q + i] - s * a1 - t * a2 - u * a3;
-        x[y + i] = x[y + i] - s * b1 - t * b2 - u * b3;
+        x[q + i] = x[q + i] - s * a.0 - t * a.1 - u * a.2;
+        x[y + i] = x[y + i] - s * b.0 - t * b.1 - u * b.2;
     }
 }
 
@@ -78,21 +73,17 @@ pub fn less_two_of_four(
     nrow: usize,
     rows: usize,
     j: usize,
-    a1: f64,
-    a2: f64,
-    b1: f64,
-    b2: f64,
-    c1: f64,
-    c2: f64,
-    d1: f64,
-    d2: f64,
+    a: TwoMultipliers,
+    b: TwoMultipliers,
+    c: TwoMultipliers,
+    d: TwoMultipliers,
 )
     requires { ⌜ ColumnsPre nrow rows 1 j (j + 3) (length (now part)) ⌝ }
     ensures { λ _. ⌜ view nrow (now (part .exit))
         ≡ columnsBy (view nrow (now (part .entry))) j 0 rows
-        (fourColumns (view nrow (now (part .entry))) j a1 a2 b1 b2 c1 c2 d1 d2) 4 ⌝ }
+        (fourColumns (view nrow (now (part .entry))) j (a .0) (a .1) (b .0) (b .1) (c .0) (c .1) (d .0) (d .1)) 4 ⌝ }
 {
-    four_less_two(part, nrow, j * nrow, rows, a1, a2, b1, b2, c1, c2, d1, d2);
+    four_less_two(part, nrow, j * nrow, rows, a, b, c, d);
 }
 
 // The first `rows` rows of columns j and j + 1 lose those of columns 0, 1 and 2 in turn, times their own multipliers.
@@ -101,17 +92,13 @@ pub fn less_three_of_two(
     nrow: usize,
     rows: usize,
     j: usize,
-    a1: f64,
-    a2: f64,
-    a3: f64,
-    b1: f64,
-    b2: f64,
-    b3: f64,
+    a: ThreeMultipliers,
+    b: ThreeMultipliers,
 )
     requires { ⌜ ColumnsPre nrow rows 2 j (j + 1) (length (now part)) ⌝ }
     ensures { λ _. ⌜ view nrow (now (part .exit))
         ≡ columnsBy (view nrow (now (part .entry))) j 0 rows
-        (twoColumns (view nrow (now (part .entry))) j a1 a2 a3 b1 b2 b3) 2 ⌝ }
+        (twoColumns (view nrow (now (part .entry))) j (a .0) (a .1) (a .2) (b .0) (b .1) (b .2)) 2 ⌝ }
 {
-    two_less_three(part, nrow, j * nrow, rows, a1, a2, a3, b1, b2, b3);
+    two_less_three(part, nrow, j * nrow, rows, a, b);
 }

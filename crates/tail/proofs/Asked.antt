@@ -17,7 +17,7 @@ use Rattle.model.specs.declared.Diagonal.{Diagonal}
 use Rattle.diagonal.specs.Diagonal.{PivotPre}
 use Rattle.grid.specs.Rules.{ExchangePre}
 use Rattle.grid.proofs.Laws.{test, off-lt}
-use Rattle.pairs.specs.Pairs.{FramePre, StepPre, PairPre}
+use Rattle.pairs.specs.Pairs.{PartPre, StepPre, PairPre}
 use Rattle.tail.specs.Tail.{TailPre, StepsPre, HerePre, LentPre, ReadPre}
 
 -- ---- the record of pivots
@@ -100,7 +100,7 @@ module _ (nb kb ke k lenM ld ls lb lp : ℕ) (read : ReadPre nb kb ke k lenM ld 
       omega (arith, read .square, read .width, read .from, add-mul (k - kb + (ke - k - 1)) 1 nb, add-mul (k - kb) (ke - k - 1) nb)
 
   frame-pre : (nrow len lenP : ℕ) → LentPre nrow ke k len → lenP ≡ lenM - (k - kb + (k - kb) * nb)
-      → FramePre (record { nrow = nrow; rows = nrow - ke; nb = nb; columns = ke - k }) len lenP
+      → PartPre (record { nrow = nrow; rows = nrow - ke; nb = nb; columns = ke - k }) len lenP
   frame-pre nrow len lenP lent e =
       record { height = omega arith; room = lent .room; width = omega (arith, read .width, read .from); kept = kept-room lenP e }
 

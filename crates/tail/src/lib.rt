@@ -9,6 +9,7 @@ use grid::columns;
 use model::Elim;
 use model::Frame;
 use model::LocalRow;
+use pairs::Part;
 use pairs::below_pair;
 use pairs::below_step;
 ghost use mathlib.Core.Path.{_≡_};
@@ -99,7 +100,7 @@ fn tail_step(
     arrive(part, blocks, partners, nrow, ke, k);
     let pivot = diagonal_at(d, sub, blocks, k);
     let kp = partner(partners, k);
-    let lent = pairs::Frame {
+    let lent = Part {
         nrow,
         rows: nrow - ke,
         nb,
@@ -145,7 +146,7 @@ fn tail_pair(
     let kp = partner(partners, k);
     let kq = partner(partners, l);
     let last = past(blocks, l) - 1;
-    let lent = pairs::Frame {
+    let lent = Part {
         nrow,
         rows: nrow - ke,
         nb,

@@ -12,11 +12,11 @@ use Rattle.several.proofs.four_less_two.Statement.{statement}
 use Rattle.several.proofs.four_less_two.Tie as tie
 
 abbrev Inv-loop : tie.InvT-loop
-Inv-loop x₀ p q n a1 a2 b1 b2 c1 c2 d1 d2 y z w i₀ x i =
-    (i ≤ n) × (length x ≡ length x₀) × (vec x ≡ runsBy (vec x₀) p q i (fourLessTwo (vec x₀) p q a1 a2 b1 b2 c1 c2 d1 d2) 4)
+Inv-loop x₀ p q n a b c d y z w i₀ x i =
+    (i ≤ n) × (length x ≡ length x₀) × (vec x ≡ runsBy (vec x₀) p q i (fourLessTwo (vec x₀) p q (a .0) (a .1) (b .0) (b .1) (c .0) (c .1) (d .0) (d .1)) 4)
 
 abbrev μ-loop : tie.MeasureT-loop
-μ-loop x₀ p q n a1 a2 b1 b2 c1 c2 d1 d2 y z w i₀ x i = n - i
+μ-loop x₀ p q n a b c d y z w i₀ x i = n - i
 
 add-y : tie.Need-add-y Inv-loop μ-loop
 add-y c = search needs
@@ -125,7 +125,7 @@ loop-less c = search needs
 
 loop-again : tie.Need-loop-again Inv-loop μ-loop
 loop-again c =
-    let turn = c .before .before .before .before .before .before .before in
+    let turn = c .before .before .before .before .before .before .before .before .before .before .before .before .before .before .before in
     let given = turn .before .args in (
       search needs,
       search needs,

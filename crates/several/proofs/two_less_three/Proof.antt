@@ -12,11 +12,11 @@ use Rattle.several.proofs.two_less_three.Statement.{statement}
 use Rattle.several.proofs.two_less_three.Tie as tie
 
 abbrev Inv-loop : tie.InvT-loop
-Inv-loop x₀ p q n a1 a2 a3 b1 b2 b3 r y i₀ x i =
-    (i ≤ n) × (length x ≡ length x₀) × (vec x ≡ runsBy (vec x₀) p q i (twoLessThree (vec x₀) p q a1 a2 a3 b1 b2 b3) 2)
+Inv-loop x₀ p q n a b r y i₀ x i =
+    (i ≤ n) × (length x ≡ length x₀) × (vec x ≡ runsBy (vec x₀) p q i (twoLessThree (vec x₀) p q (a .0) (a .1) (a .2) (b .0) (b .1) (b .2)) 2)
 
 abbrev μ-loop : tie.MeasureT-loop
-μ-loop x₀ p q n a1 a2 a3 b1 b2 b3 r y i₀ x i = n - i
+μ-loop x₀ p q n a b r y i₀ x i = n - i
 
 add-r : tie.Need-add-r Inv-loop μ-loop
 add-r c = search needs

@@ -11,13 +11,13 @@ use Rattle.eliminate.proofs.sweeps.sweep_two.Statement.{statement}
 use Rattle.eliminate.proofs.sweeps.sweep_two.Tie as tie
 
 abbrev Inv-loop : tie.InvT-loop
-Inv-loop panel₀ mult nrow ncol nb kb ke k lo hi j₀ panel j =
+Inv-loop panel₀ mult at k lo hi kb ke j₀ panel j =
     (k + 2 ≤ j) × (j ≤ ke) × (length panel ≡ length panel₀) ×
-    (view nrow panel ≡ sweptTwo (view nrow panel₀) (columnOf (inPanel kb ke (view nb mult)) k)
-    (columnOf (inPanel kb ke (view nb mult)) (k + 1)) k j lo hi)
+    (view (at .nrow) panel ≡ sweptTwo (view (at .nrow) panel₀) (columnOf (inPanel kb ke (view (at .nb) mult)) k)
+    (columnOf (inPanel kb ke (view (at .nb) mult)) (k + 1)) k j lo hi)
 
 abbrev μ-loop : tie.MeasureT-loop
-μ-loop panel₀ mult nrow ncol nb kb ke k lo hi j₀ panel j = ke - j
+μ-loop panel₀ mult at k lo hi kb ke j₀ panel j = ke - j
 
 add-j : tie.Need-add-j Inv-loop μ-loop
 add-j c = search needs
