@@ -52,17 +52,17 @@ lose-lent n xs ys zs j lo hi from start room u d h ly e =
     ∙ ap (λ (k : ℕ). withColumn (view n xs) j k hi (λ i. view n xs i j ⊖ vec zs (i - lo))) start
 
 -- the sums are those of the matrix A, which has the same row j in the panel's columns
-module _ (A P Q G : Mat) (x y : Row) (j kb w lo hi : ℕ) (row : (t : ℕ) → t < w → A j (kb + t) ≡ P j (kb + t))
-    (p : y ≡ withPart x 0 (hi - lo) (gathered zeroed (rowsFrom lo G) (laterRow A j kb) 0 w)) where
-  sum-at : (i : ℕ) → lo ≤ i → i < hi → behind lo y i ≡ gathered zeroed G (laterRow P j kb) 0 w i
+module _ (A P Q G : Mat) (x y : Row) (j kb w lo m : ℕ) (row : (t : ℕ) → t < w → A j (kb + t) ≡ P j (kb + t))
+    (p : y ≡ withPart x 0 m (gathered zeroed (rowsFrom lo G) (laterRow A j kb) 0 w)) where
+  sum-at : (i : ℕ) → lo ≤ i → i < lo + m → behind lo y i ≡ gathered zeroed G (laterRow P j kb) 0 w i
   unfolding behind gathered rowsFrom laterRow zeroed withPart
   sum-at i l h =
       ap (λ (f : Row). f (i - lo)) p
-      ∙ rw (le-leb 0 (i - lo) (omega arith), lt-ltb (i - lo) (hi - lo) (omega arith))
+      ∙ rw (le-leb 0 (i - lo) (omega arith), lt-ltb (i - lo) m (omega arith))
       (sum-same _ (λ t. G i t ⊗ P j (kb + t)) w 0 0 zeroF
       (λ k g. let e : lo + (i - lo) ≡ i = omega arith in let z : 0 + k ≡ k = omega arith in rw (e, z, row k g)))
 
-  pub column-lost : Q ≡ withColumn P j (max lo j) hi (lessEach (columnOf P j) (behind lo y)) → Q ≡ partDeferred P G kb w j (j + 1) lo hi
+  pub column-lost : Q ≡ withColumn P j (max lo j) (lo + m) (lessEach (columnOf P j) (behind lo y)) → Q ≡ partDeferred P G kb w j (j + 1) lo (lo + m)
   unfolding withColumn partDeferred columnDeferred lessEach columnOf
   column-lost q =
       q ∙ fun-ext λ i. fun-ext λ k.
@@ -74,7 +74,7 @@ module _ (A P Q G : Mat) (x y : Row) (j kb w lo hi : ℕ) (row : (t : ℕ) → t
       test (leb lo i)
       (λ b. let la : lo ≤ i = leb-true lo i b in
       rw (a, b, le-leb (max lo j) i (omega arith))
-      (test (ltb i hi) (λ d. rw d (ap (λ (v : Float). P i j ⊖ v) (sum-at i la (ltb-true i hi d)))) (λ d. rw d)))
+      (test (ltb i (lo + m)) (λ d. rw d (ap (λ (v : Float). P i j ⊖ v) (sum-at i la (ltb-true i (lo + m) d)))) (λ d. rw d)))
       (λ b. rw (a, b, lt-leb (max lo j) i (omega (arith, leb-false lo i b)))))
       (λ a. rw (a, lt-leb (max lo j) i (omega (arith, leb-false j i a))))))
       (λ b. rw (ne-eqb k j (λ e. omega arith), le-ltb k (j + 1) (omega arith), no (leb j k)))
@@ -163,25 +163,25 @@ rows-more a P Q G kb w c end lo mid hi g h l p q =
 
 -- ---- two columns, or one
 
-pub one-lost : (A Q G : Mat) (x y : Row) (c e kb w lo hi : ℕ) → e ≡ c → y ≡ withPart x 0 (hi - lo) (gathered zeroed (rowsFrom lo G) (laterRow A c kb) 0 w)
-    → Q ≡ withColumn A c (max lo c) hi (lessEach (columnOf A c) (behind lo y)) → Q ≡ partDeferred A G kb w c (e + 1) lo hi
-one-lost A Q G x y c e kb w lo hi s p q = rw s (column-lost A A Q G x y c kb w lo hi (λ t h. refl) p q)
+pub one-lost : (A Q G : Mat) (x y : Row) (c e kb w lo m : ℕ) → e ≡ c → y ≡ withPart x 0 m (gathered zeroed (rowsFrom lo G) (laterRow A c kb) 0 w)
+    → Q ≡ withColumn A c (max lo c) (lo + m) (lessEach (columnOf A c) (behind lo y)) → Q ≡ partDeferred A G kb w c (e + 1) lo (lo + m)
+one-lost A Q G x y c e kb w lo m s p q = rw s (column-lost A A Q G x y c kb w lo m (λ t h. refl) p q)
 
 -- the second one's numbers are those from before the first one changed
-pub two-lost : (A R Q G : Mat) (x y u z : Row) (c e kb w lo hi : ℕ) → kb + w ≤ c → (c ≤ e) × (e ≤ c + 1) → (e ≡ c → ⊥)
-    → y ≡ withPart x 0 (hi - lo) (gathered zeroed (rowsFrom lo G) (laterRow A c kb) 0 w)
-    → z ≡ withPart u 0 (hi - lo) (gathered zeroed (rowsFrom lo G) (laterRow A e kb) 0 w)
-    → R ≡ withColumn A c (max lo c) hi (lessEach (columnOf A c) (behind lo y)) → Q ≡ withColumn R e (max lo e) hi (lessEach (columnOf R e) (behind lo z))
-    → Q ≡ partDeferred A G kb w c (e + 1) lo hi
-two-lost A R Q G x y u z c e kb w lo hi after next apart p q r s =
+pub two-lost : (A R Q G : Mat) (x y u z : Row) (c e kb w lo m : ℕ) → kb + w ≤ c → (c ≤ e) × (e ≤ c + 1) → (e ≡ c → ⊥)
+    → y ≡ withPart x 0 m (gathered zeroed (rowsFrom lo G) (laterRow A c kb) 0 w)
+    → z ≡ withPart u 0 m (gathered zeroed (rowsFrom lo G) (laterRow A e kb) 0 w)
+    → R ≡ withColumn A c (max lo c) (lo + m) (lessEach (columnOf A c) (behind lo y))
+    → Q ≡ withColumn R e (max lo e) (lo + m) (lessEach (columnOf R e) (behind lo z)) → Q ≡ partDeferred A G kb w c (e + 1) lo (lo + m)
+two-lost A R Q G x y u z c e kb w lo m after next apart p q r s =
     let c1 : c + 1 ≡ e = omega arith in
-    let first : R ≡ partDeferred A G kb w c e lo hi = rw c1 at (one-lost A R G x y c c kb w lo hi refl p r) in
+    let first : R ≡ partDeferred A G kb w c e lo (lo + m) = rw c1 at (one-lost A R G x y c c kb w lo m refl p r) in
     let same : (t : ℕ) → t < w → A e (kb + t) ≡ R e (kb + t) =
-    λ t h. sym (ap (λ (M : Mat). M e (kb + t)) first ∙ before-part A G kb w c e lo hi e (kb + t) (omega arith)) in
-    columns-more A R Q G kb w c e (e + 1) lo hi after (omega arith) (omega arith) first (column-lost A R Q G u z e kb w lo hi same q s)
+    λ t h. sym (ap (λ (M : Mat). M e (kb + t)) first ∙ before-part A G kb w c e lo (lo + m) e (kb + t) (omega arith)) in
+    columns-more A R Q G kb w c e (e + 1) lo (lo + m) after (omega arith) (omega arith) first (column-lost A R Q G u z e kb w lo m same q s)
 
 pub pair-pre : (n m kb ke c end e from lo hi xlen ylen glen len : ℕ) → ColumnsPre n m kb ke glen len → RowsPre n lo hi xlen → RowsPre n lo hi ylen → ke ≤ c
-    → c < end → end ≡ min m hi → from ≡ max lo c → e ≡ min (c + 1) (end - 1) → PairPre n c e kb (ke - kb) from hi xlen ylen glen len
+    → c < end → end ≡ min m hi → from ≡ max lo c → e ≡ min (c + 1) (end - 1) → PairPre n c e kb (ke - kb) from (hi - from) xlen ylen glen len
 pair-pre n m kb ke c end e from lo hi xlen ylen glen len h r q l g s f t =
     let k : kb + (ke - kb) ≡ ke = omega arith in
     let here : n + c * n ≤ len = col-in n m c len (h .panel) (omega arith) in
@@ -190,8 +190,7 @@ pair-pre n m kb ke c end e from lo hi xlen ylen glen len h r q l g s f t =
       after = omega arith;
       next = (omega arith, omega arith);
       diagonal = (omega arith, omega arith);
-      up = omega arith;
-      rows = r .rows;
+      rows = omega arith;
       first = omega arith;
       other = omega arith;
       column = here;
@@ -247,11 +246,12 @@ pub rows-end : (a P G : Mat) (kb w c end lo mid hi : ℕ) → mid ≤ hi → hi 
 rows-end a P G kb w c end lo mid hi h l p = p ∙ ap (λ (k : ℕ). partDeferred a G kb w c end lo k) (le-antisymm h l)
 
 -- rows that stand above the diagonal of every column from c on are none
-pub from-diagonal : (a P G : Mat) (kb w c end from lo hi : ℕ) → from ≡ max lo c → P ≡ partDeferred a G kb w c end from hi
-    → P ≡ partDeferred a G kb w c end lo hi
+pub from-diagonal : (a P G : Mat) (kb w c m end r from lo hi : ℕ) → from ≡ max lo c → lo ≤ hi → c < end → end ≡ min m hi
+    → P ≡ partDeferred a G kb w c r from (from + (hi - from)) → P ≡ partDeferred a G kb w c r lo hi
 unfolding partDeferred
-from-diagonal a P G kb w c end from lo hi e p =
-    p ∙ fun-ext λ i. fun-ext λ j.
+from-diagonal a P G kb w c m end r from lo hi e u l g p =
+    let back : from + (hi - from) ≡ hi = omega arith in
+    p ∙ rw back (fun-ext λ i. fun-ext λ j.
     test (leb c j)
     (λ x. test (leb j i)
     (λ y. let ci : c ≤ i = omega (arith, leb-true c j x, leb-true j i y) in
@@ -259,7 +259,7 @@ from-diagonal a P G kb w c end from lo hi e p =
     (λ z. rw (z, le-leb from i (omega (arith, leb-true lo i z))))
     (λ z. rw (z, lt-leb from i (omega (arith, leb-false lo i z))))))
     (λ y. rw (x, y)))
-    (λ x. rw x)
+    (λ x. rw x))
 
 -- ---- all later columns, by rows
 

@@ -17,6 +17,7 @@ use Rattle.model.specs.Panel.{sumFrom}
 use Rattle.grid.specs.Rules.{ahead, zeroed, plusTimes, plusFour}
 use Rattle.grid.proofs.Laws.{test, vec-part}
 use Rattle.grid.proofs.Rules.{plus-four-step}
+use Rattle.deferred.specs.declared.Terms.{Terms}
 use Rattle.deferred.specs.Sums.{laterRow, rowsFrom, gathered, TermsPre, GatherPre}
 
 -- ---- a sum in two parts
@@ -157,11 +158,11 @@ pub ones-end : (x y : Row) (G : Mat) (l : Row) (lo hi s t w : ℕ) → t ≤ w �
     → y ≡ withPart x lo hi (gathered x G l s (w - s))
 ones-end x y G l lo hi s t w h g p = p ∙ ap (λ (k : ℕ). withPart x lo hi (gathered x G l s (k - s))) (le-antisymm h g)
 
-terms-pre : (n c kb w t count lo m alen alen′ glen len : ℕ) → GatherPre n c kb w lo m alen glen len → t + count ≤ w → alen′ ≡ alen
-    → TermsPre n c kb t count lo m alen′ glen len
-terms-pre n c kb w t count lo m alen alen′ glen len h g e =
-    let out : (t + count) * n ≤ w * n = mul-le-mul-right n g in
-    let columns : (kb + t + count) * n ≤ (kb + w) * n = mul-le-mul-right n (omega arith) in
+terms-pre : (at : Terms) (j t count alen alen′ glen len : ℕ) → GatherPre at j alen glen len → t + count ≤ at .w → alen′ ≡ alen
+    → TermsPre at j t count alen′ glen len
+terms-pre at j t count alen alen′ glen len h g e =
+    let out : (t + count) * at .nrow ≤ at .w * at .nrow = mul-le-mul-right (at .nrow) g in
+    let columns : (at .kb + t + count) * at .nrow ≤ (at .kb + at .w) * at .nrow = mul-le-mul-right (at .nrow) (omega arith) in
     record {
       row = h .row;
       rows = h .rows;
@@ -171,13 +172,11 @@ terms-pre n c kb w t count lo m alen alen′ glen len h g e =
       columns = omega arith;
     }
 
-pub fours-pre : (n c kb w t lo m alen alen′ glen len : ℕ) → GatherPre n c kb w lo m alen glen len → 4 ≤ w - t → alen′ ≡ alen
-    → TermsPre n c kb t 4 lo m alen′ glen len
-fours-pre n c kb w t lo m alen alen′ glen len h g e = terms-pre n c kb w t 4 lo m alen alen′ glen len h (omega arith) e
+pub fours-pre : (at : Terms) (j t alen alen′ glen len : ℕ) → GatherPre at j alen glen len → 4 ≤ at .w - t → alen′ ≡ alen → TermsPre at j t 4 alen′ glen len
+fours-pre at j t alen alen′ glen len h g e = terms-pre at j t 4 alen alen′ glen len h (omega arith) e
 
-pub ones-pre : (n c kb w t lo m alen alen′ glen len : ℕ) → GatherPre n c kb w lo m alen glen len → t < w → alen′ ≡ alen
-    → TermsPre n c kb t 1 lo m alen′ glen len
-ones-pre n c kb w t lo m alen alen′ glen len h g e = terms-pre n c kb w t 1 lo m alen alen′ glen len h (omega arith) e
+pub ones-pre : (at : Terms) (j t alen alen′ glen len : ℕ) → GatherPre at j alen glen len → t < at .w → alen′ ≡ alen → TermsPre at j t 1 alen′ glen len
+ones-pre at j t alen alen′ glen len h g e = terms-pre at j t 1 alen alen′ glen len h (omega arith) e
 
 -- fours, then ones
 pub sums-whole : (x y z : Row) (G : Mat) (l : Row) (lo hi s w : ℕ) → s ≤ w → y ≡ withPart x lo hi (gathered zeroed G l 0 s)

@@ -8,6 +8,7 @@ use Rattle.model.specs.Scalar.{_⊖_, _⊗_}
 use Rattle.model.specs.Matrix.{Row, Mat, within}
 use Rattle.model.specs.Panel.{sumFrom}
 use Rattle.grid.specs.Rules.{zeroed}
+use Rattle.deferred.specs.declared.Terms.{Terms}
 
 -- row c of the panel's columns, counted from kb
 unfoldable pub laterRow : Mat → ℕ → ℕ → Row
@@ -37,23 +38,23 @@ pub record FourPre (n a p xlen ylen glen : ℕ) : Type 0 where
   pub second : n ≤ ylen
   pub columns : a + p + p + p + n ≤ glen
 
--- row c is there, and so are m rows from lo on, a sum for each, and the terms from t on: columns of g, and columns of the panel after kb
-pub record TermsPre (n c kb t count lo m xlen glen len : ℕ) : Type 0 where
-  pub row : c < n
-  pub rows : lo + m ≤ n
-  pub sums : m ≤ xlen
-  pub fits : kb + t + count ≤ n
-  pub out : (t + count) * n ≤ glen
-  pub columns : (kb + t + count) * n ≤ len
+-- row j is there, and so are the rows from lo on, a sum for each, and the terms from t on: columns of g, and columns of the panel after kb
+pub record TermsPre (at : Terms) (j t count xlen glen len : ℕ) : Type 0 where
+  pub row : j < at .nrow
+  pub rows : at .lo + at .n ≤ at .nrow
+  pub sums : at .n ≤ xlen
+  pub fits : at .kb + t + count ≤ at .nrow
+  pub out : (t + count) * at .nrow ≤ glen
+  pub columns : (at .kb + t + count) * at .nrow ≤ len
 
 -- the same for the columns before w
-pub record GatherPre (n c kb w lo m xlen glen len : ℕ) : Type 0 where
-  pub row : c < n
-  pub rows : lo + m ≤ n
-  pub sums : m ≤ xlen
-  pub fits : kb + w ≤ n
-  pub out : w * n ≤ glen
-  pub columns : (kb + w) * n ≤ len
+pub record GatherPre (at : Terms) (j xlen glen len : ℕ) : Type 0 where
+  pub row : j < at .nrow
+  pub rows : at .lo + at .n ≤ at .nrow
+  pub sums : at .n ≤ xlen
+  pub fits : at .kb + at .w ≤ at .nrow
+  pub out : at .w * at .nrow ≤ glen
+  pub columns : (at .kb + at .w) * at .nrow ≤ len
 
 -- column j is there, rows lo up to hi reach its diagonal, and each has its sum
 pub record LosePre (n j lo hi len slen : ℕ) : Type 0 where
@@ -63,15 +64,14 @@ pub record LosePre (n j lo hi len slen : ℕ) : Type 0 where
   pub rows : hi ≤ n
   pub sums : hi ≤ lo + slen
 
--- columns c and e, which is c or the next, after the panel's, and in them rows lo up to hi, for each of which there are two sums
-pub record PairPre (n c e kb w lo hi xlen ylen glen len : ℕ) : Type 0 where
+-- columns c and e, which is c or the next, after the panel's, and in them m rows from lo on, for each of which there are two sums
+pub record PairPre (n c e kb w lo m xlen ylen glen len : ℕ) : Type 0 where
   pub after : kb + w ≤ c
   pub next : (c ≤ e) × (e ≤ c + 1)
-  pub diagonal : (c ≤ lo) × (e < hi)
-  pub up : lo ≤ hi
-  pub rows : hi ≤ n
-  pub first : hi ≤ lo + xlen
-  pub other : hi ≤ lo + ylen
+  pub diagonal : (c ≤ lo) × (e < lo + m)
+  pub rows : lo + m ≤ n
+  pub first : m ≤ xlen
+  pub other : m ≤ ylen
   pub column : n + c * n ≤ len
   pub second : n + e * n ≤ len
   pub out : w * n ≤ glen

@@ -1,6 +1,7 @@
 // The deferred update: what a finished panel does to the columns after it. L·D is formed in products.rt, the sums of
 // two columns at once in sums.rt. A reader may rely on the contract of deferred_update: every rounding is the
 // definition's.
+use model::Frame;
 ghost use mathlib.Core.Path.{_≡_};
 ghost use Prim.Native.Nat.{_+_, _-_, _<_, _≤_, min, max};
 ghost use lib.ListN.{length};
@@ -14,6 +15,18 @@ ghost use Rattle.deferred.specs.Sums.{partDeferred, LosePre, PairPre, Co
 
 mod products;
 mod sums;
+
+// What is summed, in a panel of nrow rows: for the n rows from lo on, the terms of the panel's w columns from kb on, in
+// the sums of the later columns c and e.
+struct Terms {
+    nrow: usize,
+    c: usize,
+    e: usize,
+    kb: usize,
+    w: usize,
+    lo: usize,
+    n: usize,
+}
 
 // How many rows are worked at a time: their sums are local arrays, and their part of L·D stays in the cache for all
 // later columns.
@@ -52,32 +65,23 @@ fn lose(panel: &mut [f64], nrow: usize, j: usize, lo: usize, hi: usize, s: &[f64
     grid::kernels::less_each(&mut panel[a..b], &s[p..q], hi - from);
 }
 
-// Rows lo up to hi of columns c and e, each from its diagonal down, lose their sums. Both sums are there before either
-// column changes. Where e is c there is one column.
+// The rows of `at` in its columns c and e, each from its diagonal down, lose their sums. Both sums are there before
+// either column changes. Where e is c there is one column.
 // work: x and y, a number for each row, any on entry.
-fn defer_two(
-    panel: &mut [f64],
-    g: &[f64],
-    x: &mut [f64],
-    y: &mut [f64],
-    nrow: usize,
-    c: usize,
-    e: usize,
-    kb: usize,
-    w: usize,
-    lo: usize,
-    hi: usize,
-)
-    requires { ⌜ PairPre nrow c e kb w lo hi (length (now x)) (length (now y)) (length (now g)) (length (now panel)) ⌝ }
-    ensures { λ _. ⌜ view nrow (now (panel .exit))
-        ≡ partDeferred (view nrow (now (panel .entry))) (view nrow (now (g .entry))) kb w c (e + 1) lo hi ⌝ }
+fn defer_two(panel: &mut [f64], g: &[f64], x: &mut [f64], y: &mut [f64], at: Terms)
+    requires { ⌜ PairPre (at .nrow) (at .c) (at .e) (at .kb) (at .w) (at .lo) (at .n) (length (now x)) (length (now y))
+        (length (now g)) (length (now panel)) ⌝ }
+    ensures { λ _. ⌜ view (at .nrow) (now (panel .exit))
+        ≡ partDeferred (view (at .nrow) (now (panel .entry))) (view (at .nrow) (now (g .entry))) (at .kb) (at .w)
+        (at .c) (at .e + 1) (at .lo) (at .lo + at .n) ⌝ }
 {
-    sums::both_sums(x, y, g, panel, nrow, c, e, kb, w, lo, hi - lo);
-    lose(panel, nrow, c, lo, hi, x);
-    if e == c {
+    sums::both_sums(x, y, g, panel, at);
+    let hi = at.lo + at.n;
+    lose(panel, at.nrow, at.c, at.lo, hi, x);
+    if at.e == at.c {
         return;
     }
-    lose(panel, nrow, e, lo, hi, y);
+    lose(panel, at.nrow, at.e, at.lo, hi, y);
 }
 
 // Column c and, if it stands before end, the next lose their sums in rows lo up to hi. The answer is the first column
@@ -88,64 +92,76 @@ fn defer_next(
     g: &[f64],
     x: &mut [f64],
     y: &mut [f64],
-    nrow: usize,
-    ncol: usize,
+    at: Frame,
     c: usize,
     end: usize,
-    kb: usize,
-    ke: usize,
     lo: usize,
     hi: usize,
 ) -> usize
-    requires { ⌜ ColumnsPre nrow ncol kb ke (length (now g)) (length (now panel)) ⌝ }
-    requires { ⌜ RowsPre nrow lo hi (length (now x)) ⌝ }
-    requires { ⌜ RowsPre nrow lo hi (length (now y)) ⌝ }
-    requires { ⌜ (ke ≤ c) × (c < end) × (end ≡ min ncol hi) ⌝ }
-    ensures { λ r. ⌜ view nrow (now (panel .exit))
-        ≡ partDeferred (view nrow (now (panel .entry))) (view nrow (now (g .entry))) kb (ke - kb) c r lo hi ⌝ }
+    requires { ⌜ ColumnsPre (at .nrow) (at .ncol) (at .kb) (at .ke) (length (now g)) (length (now panel)) ⌝ }
+    requires { ⌜ RowsPre (at .nrow) lo hi (length (now x)) ⌝ }
+    requires { ⌜ RowsPre (at .nrow) lo hi (length (now y)) ⌝ }
+    requires { ⌜ (at .ke ≤ c) × (c < end) × (end ≡ min (at .ncol) hi) ⌝ }
+    ensures { λ r. ⌜ view (at .nrow) (now (panel .exit))
+        ≡ partDeferred (view (at .nrow) (now (panel .entry))) (view (at .nrow) (now (g .entry))) (at .kb)
+        (at .ke - at .kb) c r lo hi ⌝ }
     ensures { λ r. ⌜ r ≡ min (c + 2) end ⌝ }
 {
+    let nrow = at.nrow;
+    let kb = at.kb;
+    let w = at.ke - kb;
     let from = larger(lo, c);
     let e = smaller(c + 1, end - 1);
-    defer_two(panel, g, x, y, nrow, c, e, kb, ke - kb, from, hi);
+    let n = hi - from;
+    let terms = Terms {
+        nrow,
+        c,
+        e,
+        kb,
+        w,
+        lo: from,
+        n,
+    };
+    defer_two(panel, g, x, y, terms);
     e + 1
 }
 
 // Rows lo up to hi of the columns from ke on, each from its diagonal down, lose their sums.
-fn defer_rows(
-    panel: &mut [f64],
-    g: &[f64],
-    nrow: usize,
-    ncol: usize,
-    kb: usize,
-    ke: usize,
-    lo: usize,
-    hi: usize,
-)
-    requires { ⌜ ColumnsPre nrow ncol kb ke (length (now g)) (length (now panel)) ⌝ }
-    requires { ⌜ RowsPre nrow lo hi 256 ⌝ }
-    ensures { λ _. ⌜ view nrow (now (panel .exit))
-        ≡ partDeferred (view nrow (now (panel .entry))) (view nrow (now (g .entry))) kb (ke - kb) ke ncol lo hi ⌝ }
+fn defer_rows(panel: &mut [f64], g: &[f64], at: Frame, lo: usize, hi: usize)
+    requires { ⌜ ColumnsPre (at .nrow) (at .ncol) (at .kb) (at .ke) (length (now g)) (length (now panel)) ⌝ }
+    requires { ⌜ RowsPre (at .nrow) lo hi 256 ⌝ }
+    ensures { λ _. ⌜ view (at .nrow) (now (panel .exit))
+        ≡ partDeferred (view (at .nrow) (now (panel .entry))) (view (at .nrow) (now (g .entry))) (at .kb)
+        (at .ke - at .kb) (at .ke) (at .ncol) lo hi ⌝ }
 {
     let mut x = [0.0; PART];
     let mut y = [0.0; PART];
-    let end = smaller(ncol, hi);
-    let mut c = ke;
+    let end = smaller(at.ncol, hi);
+    let mut c = at.ke;
     while c < end {
-        c = defer_next(panel, g, &mut x, &mut y, nrow, ncol, c, end, kb, ke, lo, hi);
+        c = defer_next(panel, g, &mut x, &mut y, at, c, end, lo, hi);
     }
 }
 
-// The columns from ke on, each from its diagonal down, lose their sums, a part of the rows at a time.
+// The columns from ke on, each from its diagonal down, lose their sums, a part of the rows at a time. No multipliers of
+// the panel's own rows are read: of its frame nb is left at the width of L·D.
 fn defer_columns(panel: &mut [f64], g: &[f64], nrow: usize, ncol: usize, kb: usize, ke: usize)
     requires { ⌜ ColumnsPre nrow ncol kb ke (length (now g)) (length (now panel)) ⌝ }
     ensures { λ _. ⌜ view nrow (now (panel .exit))
         ≡ partDeferred (view nrow (now (panel .entry))) (view nrow (now (g .entry))) kb (ke - kb) ke ncol ke nrow ⌝ }
 {
+    let nb = ke - kb;
+    let at = Frame {
+        nrow,
+        ncol,
+        nb,
+        kb,
+        ke,
+    };
     let mut lo = ke;
     while lo < nrow {
         let hi = lo + smaller(PART, nrow - lo);
-        defer_rows(panel, g, nrow, ncol, kb, ke, lo, hi);
+        defer_rows(panel, g, at, lo, hi);
         lo = hi;
     }
 }

@@ -11,12 +11,15 @@ use Rattle.deferred.proofs.defer_columns.Statement.{statement}
 use Rattle.deferred.proofs.defer_columns.Tie as tie
 
 abbrev Inv-loop : tie.InvT-loop
-Inv-loop panel₀ g nrow ncol kb ke lo₀ panel lo =
+Inv-loop panel₀ g nrow ncol kb ke nb at lo₀ panel lo =
     (ke ≤ lo) × (lo ≤ nrow) × (length panel ≡ length panel₀)
     × (view nrow panel ≡ partDeferred (view nrow panel₀) (view nrow g) kb (ke - kb) ke ncol ke lo)
 
 abbrev μ-loop : tie.MeasureT-loop
-μ-loop panel₀ g nrow ncol kb ke lo₀ panel lo = nrow - lo
+μ-loop panel₀ g nrow ncol kb ke nb at lo₀ panel lo = nrow - lo
+
+sub-nb : tie.Need-sub-nb Inv-loop μ-loop
+sub-nb c = search needs
 
 loop-holds : tie.Need-loop-holds Inv-loop μ-loop
 loop-holds c = (search needs, search needs, search needs, search rows-none)
@@ -51,6 +54,7 @@ defer-columns-spec =
     (tie.spec
     Inv-loop
     μ-loop
+    sub-nb
     loop-holds
     sub-smaller
     smaller-requires

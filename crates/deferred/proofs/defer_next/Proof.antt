@@ -4,6 +4,9 @@ use borrow.Author.Needs.{needs}
 use Rattle.deferred.proofs.defer_next.Statement.{statement}
 use Rattle.deferred.proofs.defer_next.Tie as tie
 
+sub-w : tie.Need-sub-w
+sub-w c = search needs
+
 larger-requires : tie.Need-larger-requires
 larger-requires c κs = search needs
 
@@ -16,8 +19,8 @@ sub-smaller c = search needs
 smaller-requires : tie.Need-smaller-requires
 smaller-requires c κs = search needs
 
-sub-defer-two : tie.Need-sub-defer-two
-sub-defer-two c = search needs
+sub-n : tie.Need-sub-n
+sub-n c = search needs
 
 defer-two-requires : tie.Need-defer-two-requires
 defer-two-requires c κs = search pair-pre
@@ -41,11 +44,12 @@ pub defer-next-spec : {M : Type 1} → statement M
 defer-next-spec =
     tie.close
     (tie.spec
+    sub-w
     larger-requires
     add-smaller
     sub-smaller
     smaller-requires
-    sub-defer-two
+    sub-n
     defer-two-requires
     add-result
     same-length

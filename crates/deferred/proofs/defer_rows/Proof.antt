@@ -10,12 +10,12 @@ use Rattle.deferred.proofs.defer_rows.Statement.{statement}
 use Rattle.deferred.proofs.defer_rows.Tie as tie
 
 abbrev Inv-loop : tie.InvT-loop
-Inv-loop panel₀ g nrow ncol kb ke lo hi x₀ y₀ end c₀ panel x y c =
-    (ke ≤ c) × (c ≤ ncol) × (length panel ≡ length panel₀) × (length x ≡ 256) × (length y ≡ 256)
-    × (view nrow panel ≡ partDeferred (view nrow panel₀) (view nrow g) kb (ke - kb) ke c lo hi)
+Inv-loop panel₀ g at lo hi x₀ y₀ end c₀ panel x y c =
+    (at .ke ≤ c) × (c ≤ at .ncol) × (length panel ≡ length panel₀) × (length x ≡ 256) × (length y ≡ 256)
+    × (view (at .nrow) panel ≡ partDeferred (view (at .nrow) panel₀) (view (at .nrow) g) (at .kb) (at .ke - at .kb) (at .ke) c lo hi)
 
 abbrev μ-loop : tie.MeasureT-loop
-μ-loop panel₀ g nrow ncol kb ke lo hi x₀ y₀ end c₀ panel x y c = end - c
+μ-loop panel₀ g at lo hi x₀ y₀ end c₀ panel x y c = end - c
 
 smaller-requires : tie.Need-smaller-requires Inv-loop μ-loop
 smaller-requires c κs = search needs

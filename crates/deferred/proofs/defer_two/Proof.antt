@@ -4,11 +4,11 @@ use borrow.Author.Needs.{needs}
 use Rattle.deferred.proofs.defer_two.Statement.{statement}
 use Rattle.deferred.proofs.defer_two.Tie as tie
 
-sub-both-sums : tie.Need-sub-both-sums
-sub-both-sums c = search needs
-
 both-sums-requires : tie.Need-both-sums-requires
 both-sums-requires c κs = search needs
+
+add-hi : tie.Need-add-hi
+add-hi c = search needs
 
 lose-requires : tie.Need-lose-requires
 lose-requires c κs = search needs
@@ -44,8 +44,8 @@ pub defer-two-spec : {M : Type 1} → statement M
 defer-two-spec =
     tie.close
     (tie.spec
-    sub-both-sums
     both-sums-requires
+    add-hi
     lose-requires
     same-length
     same-length-2

@@ -11,13 +11,13 @@ use Rattle.deferred.proofs.sums.gather_fours.Statement.{statement}
 use Rattle.deferred.proofs.sums.gather_fours.Tie as tie
 
 abbrev Inv-loop : tie.InvT-loop
-Inv-loop x₀ y₀ g panel nrow c e kb w lo n t₀ x y t =
+Inv-loop x₀ y₀ g panel at w t₀ x y t =
     (t ≤ w) × (length x ≡ length x₀) × (length y ≡ length y₀)
-    × (vec x ≡ withPart (vec x₀) 0 n (gathered (vec x₀) (rowsFrom lo (view nrow g)) (laterRow (view nrow panel) c kb) 0 t))
-    × (vec y ≡ withPart (vec y₀) 0 n (gathered (vec y₀) (rowsFrom lo (view nrow g)) (laterRow (view nrow panel) e kb) 0 t))
+    × (vec x ≡ withPart (vec x₀) 0 (at .n) (gathered (vec x₀) (rowsFrom (at .lo) (view (at .nrow) g)) (laterRow (view (at .nrow) panel) (at .c) (at .kb)) 0 t))
+    × (vec y ≡ withPart (vec y₀) 0 (at .n) (gathered (vec y₀) (rowsFrom (at .lo) (view (at .nrow) g)) (laterRow (view (at .nrow) panel) (at .e) (at .kb)) 0 t))
 
 abbrev μ-loop : tie.MeasureT-loop
-μ-loop x₀ y₀ g panel nrow c e kb w lo n t₀ x y t = w - t
+μ-loop x₀ y₀ g panel at w t₀ x y t = w - t
 
 loop-holds : tie.Need-loop-holds Inv-loop μ-loop
 loop-holds c = search (needs, fours-none)

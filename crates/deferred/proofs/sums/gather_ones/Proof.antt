@@ -11,12 +11,12 @@ use Rattle.deferred.proofs.sums.gather_ones.Statement.{statement}
 use Rattle.deferred.proofs.sums.gather_ones.Tie as tie
 
 abbrev Inv-loop : tie.InvT-loop
-Inv-loop x₀ g panel nrow c kb s w lo n t₀ x t =
+Inv-loop x₀ g panel at j s w t₀ x t =
     (s ≤ t) × (t ≤ w) × (length x ≡ length x₀)
-    × (vec x ≡ withPart (vec x₀) 0 n (gathered (vec x₀) (rowsFrom lo (view nrow g)) (laterRow (view nrow panel) c kb) s (t - s)))
+    × (vec x ≡ withPart (vec x₀) 0 (at .n) (gathered (vec x₀) (rowsFrom (at .lo) (view (at .nrow) g)) (laterRow (view (at .nrow) panel) j (at .kb)) s (t - s)))
 
 abbrev μ-loop : tie.MeasureT-loop
-μ-loop x₀ g panel nrow c kb s w lo n t₀ x t = w - t
+μ-loop x₀ g panel at j s w t₀ x t = w - t
 
 loop-holds : tie.Need-loop-holds Inv-loop μ-loop
 loop-holds c = search (needs, ones-none)

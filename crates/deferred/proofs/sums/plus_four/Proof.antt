@@ -14,15 +14,15 @@ use Rattle.deferred.proofs.sums.plus_four.Statement.{statement}
 use Rattle.deferred.proofs.sums.plus_four.Tie as tie
 
 abbrev Inv-loop : tie.InvT-loop
-Inv-loop x₀ y₀ g a p n l0 l1 l2 l3 m0 m1 m2 m3 b c d i₀ x y i =
+Inv-loop x₀ y₀ g a p n l m b c d i₀ x y i =
     (i ≤ n) × (length x ≡ length x₀) × (length y ≡ length y₀)
     × (vec x ≡ withPart (vec x₀) 0 i
-    (plusFour (vec x₀) (ahead a (vec g)) (ahead (a + p) (vec g)) (ahead (a + p + p) (vec g)) (ahead (a + p + p + p) (vec g)) l0 l1 l2 l3))
+    (plusFour (vec x₀) (ahead a (vec g)) (ahead (a + p) (vec g)) (ahead (a + p + p) (vec g)) (ahead (a + p + p + p) (vec g)) (l .0) (l .1) (l .2) (l .3)))
     × (vec y ≡ withPart (vec y₀) 0 i
-    (plusFour (vec y₀) (ahead a (vec g)) (ahead (a + p) (vec g)) (ahead (a + p + p) (vec g)) (ahead (a + p + p + p) (vec g)) m0 m1 m2 m3))
+    (plusFour (vec y₀) (ahead a (vec g)) (ahead (a + p) (vec g)) (ahead (a + p + p) (vec g)) (ahead (a + p + p + p) (vec g)) (m .0) (m .1) (m .2) (m .3)))
 
 abbrev μ-loop : tie.MeasureT-loop
-μ-loop x₀ y₀ g a p n l0 l1 l2 l3 m0 m1 m2 m3 b c d i₀ x y i = n - i
+μ-loop x₀ y₀ g a p n l m b c d i₀ x y i = n - i
 
 add-b : tie.Need-add-b Inv-loop μ-loop
 add-b c = search needs
