@@ -10,6 +10,7 @@ use lib.ListN.{length, getD, set}
 use lib.Ieee.{Float, nan}
 use mir.Syntax.{w64}
 use mir.Val.{Fits}
+use Rattle.model.specs.Sizes.{mostRows}
 use Rattle.model.specs.Scalar.{_⊕_}
 use Rattle.model.specs.Matrix.{Row, Mat, view, vec, bytes, putAt, columnMajor}
 use Rattle.model.specs.Factor.{shapeSound}
@@ -38,7 +39,7 @@ area-of-shape ncol nrow b h t =
     let shape : shapeSound ncol nrow ≡ true = sym h ∙ not-false b t in
     area-fits ncol nrow 0 (record {
       rows = leb-true ncol nrow (search (and-left, and-right));
-      fewRows = leb-true nrow 1024 (search (and-left, and-right));
+      fewRows = leb-true nrow mostRows (search (and-left, and-right));
       narrow = omega arith;
     })
 

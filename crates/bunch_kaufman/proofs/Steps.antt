@@ -8,6 +8,7 @@ use borrow.Author.Tests.{lt-ltb, le-ltb}
 use lib.Dec.{ltb}
 use mir.Syntax.{w64}
 use mir.Val.{Fits}
+use Rattle.model.specs.Sizes.{mostColumns, mostRounds}
 use Rattle.model.specs.Matrix.{Mat}
 use Rattle.model.specs.Step.{Pivots, isBlock}
 use Rattle.model.specs.Head.{State, Tried, refusedAt, took, tryOf, lastOf, noted, Progress, going, after, panelOf}
@@ -115,10 +116,10 @@ note-pre {ke} {k} {T = T} {v = v} g z l h e1 e2 e3 e4 e5 e6 e7 =
       first = omega (arith, h .order, w .first);
     }
 
-pub rounds-fit : (ke k r : ℕ) (T : Taken) (v : Pivot) → TakenIn ke k T → T ≡ Took v → r ≤ 64 * k → k < ke → ke ≤ 128 → Fits w64 (r + v .rounds)
+pub rounds-fit : (ke k r : ℕ) (T : Taken) (v : Pivot) → TakenIn ke k T → T ≡ Took v → r ≤ mostRounds * k → k < ke → ke ≤ mostColumns → Fits w64 (r + v .rounds)
 rounds-fit ke k r T v g z h l m = record { fits = omega (arith, took-in ke k T v g z .few) }
 
-pub next-fits : (ke k e : ℕ) (T : Taken) (v : Pivot) → TakenIn ke k T → T ≡ Took v → e ≡ lastOf k (isBlock (v .diagonal)) → ke ≤ 128 → Fits w64 (e + 1)
+pub next-fits : (ke k e : ℕ) (T : Taken) (v : Pivot) → TakenIn ke k T → T ≡ Took v → e ≡ lastOf k (isBlock (v .diagonal)) → ke ≤ mostColumns → Fits w64 (e + 1)
 next-fits ke k e T v g z l m = record { fits = omega (arith, took-in ke k T v g z .last) }
 
 pub next-from : (kb k e : ℕ) (b : Bool) → e ≡ lastOf k b → kb ≤ k → kb ≤ e + 1
@@ -130,7 +131,8 @@ next-in ke k e T v g z l = omega (arith, took-in ke k T v g z .last)
 pub next-less : (ke k e : ℕ) (b : Bool) → e ≡ lastOf k b → k < ke → ke - (e + 1) < ke - k
 next-less ke k e b l h = omega (arith, last-ge k b)
 
-pub next-few : (ke k e r : ℕ) (T : Taken) (v : Pivot) → TakenIn ke k T → T ≡ Took v → e ≡ lastOf k (isBlock (v .diagonal)) → r ≤ 64 * k → r + v .rounds ≤ 64 * (e + 1)
+pub next-few : (ke k e r : ℕ) (T : Taken) (v : Pivot) → TakenIn ke k T → T ≡ Took v → e ≡ lastOf k (isBlock (v .diagonal)) → r ≤ mostRounds * k
+    → r + v .rounds ≤ mostRounds * (e + 1)
 next-few ke k e r T v g z l h = omega (arith, took-in ke k T v g z .few, last-ge k (isBlock (v .diagonal)))
 
 -- ---- what is promised at the end
@@ -155,7 +157,7 @@ notes-stop kb ke k T r A f g h z w = rw (w, z) (subst (λ (u : Taken). TakenIn k
 
 -- the notes of the state u after a panel's steps from s
 pub notes-end : (ke : ℕ) (mode : Mode) (limit kb k before : ℕ) (s u : State) → NotedTo kb ke before (s .pivots .diagonals .blocks) (s .pivots .partners) → kb ≤ ke
-    → panelOf ke mode limit (ke - k) k u ≡ panelOf ke mode limit (ke - kb) kb s → ke ≤ k → k ≤ ke → u .rounds ≤ 64 * k
+    → panelOf ke mode limit (ke - k) k u ≡ panelOf ke mode limit (ke - kb) kb s → ke ≤ k → k ≤ ke → u .rounds ≤ mostRounds * k
     → PanelNoted kb ke (u .rounds) (u .pivots .diagonals .blocks) (u .pivots .partners)
 unfolding panelOf
 notes-end ke mode limit kb k before s u h a e l m r =

@@ -4,6 +4,7 @@ use mathlib.Core.Path.{_≡_, refl, sym, _∙_, ap, subst}
 use mathlib.Core.Bool.{true, false}
 use native.Mathlib.Omega.{arith}
 use lib.Ieee.{Float}
+use Rattle.model.specs.Sizes.{mostRounds}
 use Rattle.model.specs.Matrix.{Mat, exchanged}
 use Rattle.model.specs.Choice as choice
 use Rattle.model.specs.Step.{blockOf}
@@ -176,7 +177,7 @@ fail-limit ke A M limit k = by (choice.chooseOf A k ke)
     by (choice.single kp) = refl
     by (choice.block p kp) = refl
 
-tried-in : (ke k limit : ℕ) (T : Taken) (A′ M′ : Mat) (R : Tried) → limit ≤ 64 → Good ke limit k R → tried T A′ M′ ≡ R → ByColumn T → TakenIn ke k T
+tried-in : (ke k limit : ℕ) (T : Taken) (A′ M′ : Mat) (R : Tried) → limit ≤ mostRounds → Good ke limit k R → tried T A′ M′ ≡ R → ByColumn T → TakenIn ke k T
 unfolding tried
 tried-in ke k limit (Refused r) A′ M′ R l g e h = h
 tried-in ke k limit (Took v) A′ M′ R l g e h =

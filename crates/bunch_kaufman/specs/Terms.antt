@@ -1,6 +1,7 @@
 -- What the functions ask of their callers, and what they promise beside their equations. Definitions only. Assumes nothing.
 use mathlib.Core.Path.{_≡_}
 use Prim.Native.Nat.{ℕ, _+_, _*_, _<_, _≤_}
+use Rattle.model.specs.Sizes.{mostColumns, mostRounds}
 use Rattle.model.specs.Step.{isBlock}
 use Rattle.model.specs.Head.{lastOf}
 use Rattle.model.specs.Kept.{Starts, Recorded}
@@ -20,7 +21,7 @@ pub record PivotIn (ke k : ℕ) (v : Pivot) : Type 0 where
   pub last : lastOf k (isBlock (v .diagonal)) < ke
   pub row : v .kp .0 < ke
   pub first : v .p .0 < ke
-  pub few : v .rounds ≤ 64
+  pub few : v .rounds ≤ mostRounds
 
 -- of a step's answer
 abbrev pub TakenIn : ℕ → ℕ → Taken → Type 0
@@ -29,7 +30,7 @@ TakenIn ke k (Took v) = PivotIn ke k v
 
 -- of the notes, with the columns before k done in a panel that ends at ke: every block and every partner stands before ke, and no exchange goes back
 pub record NotedTo (k ke rounds : ℕ) (blocks partners : ℕ → ℕ) : Type 0 where
-  pub few : rounds ≤ 64 * k
+  pub few : rounds ≤ mostRounds * k
   pub pair : (c : ℕ) → blocks c ≡ 1 → c + 1 < ke
   pub partner : (c : ℕ) → partners c < ke
   pub recorded : Recorded k blocks partners
@@ -49,7 +50,7 @@ RanTo kb ke (Done rounds) blocks partners = PanelNoted kb ke rounds blocks partn
 -- Lift's round limit is 64 at most; Fail's is never looked at
 abbrev pub LimitPre : Mode → ℕ → Type 0
 LimitPre Fail limit = Unit {0}
-LimitPre (Lift floor) limit = limit ≤ 64
+LimitPre (Lift floor) limit = limit ≤ mostRounds
 
 -- columns kb to ke of a panel of ncol columns and nrow rows, with their multipliers in a square of nb
 pub record PanelPre (nrow ncol nb kb ke len lenM : ℕ) : Type 0 where
@@ -57,7 +58,7 @@ pub record PanelPre (nrow ncol nb kb ke len lenM : ℕ) : Type 0 where
   pub mult : lenM ≡ nb * nb
   pub rows : ncol ≤ nrow
   pub cols : ke ≤ ncol
-  pub size : ncol ≤ 128
+  pub size : ncol ≤ mostColumns
   pub here : kb ≤ ke
   pub width : ke ≤ kb + nb
 

@@ -4,6 +4,7 @@
 ghost use mathlib.Core.Path.{_≡_};
 ghost use lib.ListN.{length};
 ghost use Prim.Native.Nat.{_<_};
+ghost use Rattle.model.specs.Sizes.{mostColumns};
 ghost use Rattle.model.specs.Scalar.{zeroF};
 ghost use Rattle.model.specs.Matrix.{vec, bytes, places, put, swapped};
 ghost use Rattle.model.specs.Step.{isBlock, firstNumber, lastNumber, underNumber, pivotsOf};
@@ -109,7 +110,7 @@ fn put_exchange(
 
 // The last column of a pivot at k.
 pub fn last_column(k: Elim, x: Diagonal) -> Elim
-    requires { ⌜ k .0 < 128 ⌝ }
+    requires { ⌜ k .0 < mostColumns ⌝ }
     ensures { λ r. ⌜ r .0 ≡ lastOf (k .0) (isBlock x) ⌝ }
 {
     if diagonal::is_block(x) {

@@ -242,7 +242,7 @@ pub extern "C" fn misuktaan_factor(
 }
 
 // The inertia of D as a factor call emits it, or refusal 19 or 16.
-// in: d, sub, blocks, one length of at most 128.
+// in: d, sub, blocks, one length of at most model::COLUMNS_MAX.
 #[no_mangle]
 pub extern "C" fn misuktaan_inertia(d: &[f64], sub: &[f64], blocks: &[u8]) -> Outcome
     ensures { λ r. ⌜ r ≡ inertiaNumbers (inertiaOf (now (d .entry)) (now (sub .entry)) (now (blocks .entry))) ⌝ }

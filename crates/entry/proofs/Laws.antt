@@ -10,6 +10,7 @@ use lib.Dec.{leb}
 use lib.Ieee.{Float, lt}
 use mir.Syntax.{w64}
 use mir.Val.{Fits}
+use Rattle.model.specs.Sizes.{mostRows, widestPanel, mostRounds}
 use Rattle.model.specs.Scalar.{zeroF, isFinite}
 use Rattle.model.specs.Matrix.{view}
 use Rattle.model.specs.Answer.{sound, stop, turnedAway}
@@ -35,14 +36,14 @@ product : {a b : ℕ} (m n : ℕ) → a ≤ m → b ≤ n → a * b ≤ m * n
 product {a} {b} m n ha hb = le-trans (mul-le-mul-left a hb) (mul-le-mul-right n ha)
 
 module _ (ncol nrow nb : ℕ) (h : LengthsPre ncol nrow nb) where
-  wide : 3 * nrow * (nb + 1) ≤ 3072 * 65
-  wide = product 3072 65 (omega arith) (omega arith)
+  wide : 3 * nrow * (nb + 1) ≤ 3 * mostRows * (widestPanel + 1)
+  wide = product (3 * mostRows) (widestPanel + 1) (omega arith) (omega arith)
 
-  square : nb * nb ≤ 64 * 64
-  square = product 64 64 (omega arith) (omega arith)
+  square : nb * nb ≤ widestPanel * widestPanel
+  square = product widestPanel widestPanel (omega arith) (omega arith)
 
   pub area-fits : Fits w64 (nrow * ncol)
-  area-fits = let a : nrow * ncol ≤ 1024 * 1024 = product 1024 1024 (omega arith) (omega arith) in record { fits = omega arith }
+  area-fits = let a : nrow * ncol ≤ mostRows * mostRows = product mostRows mostRows (omega arith) (omega arith) in record { fits = omega arith }
 
   pub wide-fits : Fits w64 (3 * nrow * (nb + 1))
   wide-fits = record { fits = omega (arith, wide) }
@@ -67,11 +68,11 @@ module _ (m : Mode) (limit : ℕ) where
     unfolding modeCheck
     mode-floor l = rw (e, ← h, l)
 
-    pub mode-limit : not (t && lt zeroF f) ≡ false → not (leb 1 limit && leb limit 64) ≡ true → stop 5 0 0 ≡ modeCheck m limit
+    pub mode-limit : not (t && lt zeroF f) ≡ false → not (leb 1 limit && leb limit mostRounds) ≡ true → stop 5 0 0 ≡ modeCheck m limit
     unfolding modeCheck
     mode-limit l k = rw (e, ← h, l, k)
 
-    pub mode-sound : not (t && lt zeroF f) ≡ false → not (leb 1 limit && leb limit 64) ≡ false → sound ≡ modeCheck m limit
+    pub mode-sound : not (t && lt zeroF f) ≡ false → not (leb 1 limit && leb limit mostRounds) ≡ false → sound ≡ modeCheck m limit
     unfolding modeCheck
     mode-sound l k = rw (e, ← h, l, k)
 
@@ -82,11 +83,11 @@ module _ (c : Settings) (n : Lengths) (s : Bool) (h : s ≡ shapeSound (c .ncol)
   unfolding settingsCheckOver
   settings-shape x = rw (← h, x)
 
-  pub settings-width : not s ≡ false → not (leb 1 (c .nb) && leb (c .nb) 64) ≡ true → stop 2 0 0 ≡ settingsCheckOver c n
+  pub settings-width : not s ≡ false → not (leb 1 (c .nb) && leb (c .nb) widestPanel) ≡ true → stop 2 0 0 ≡ settingsCheckOver c n
   unfolding settingsCheckOver
   settings-width x w = rw (← h, x, w)
 
-  module _ (l : Bool) (g : l ≡ lengthsHold c n) (x : not s ≡ false) (w : not (leb 1 (c .nb) && leb (c .nb) 64) ≡ false) where
+  module _ (l : Bool) (g : l ≡ lengthsHold c n) (x : not s ≡ false) (w : not (leb 1 (c .nb) && leb (c .nb) widestPanel) ≡ false) where
     pub settings-length : not l ≡ true → stop 3 0 0 ≡ settingsCheckOver c n
     unfolding settingsCheckOver
     settings-length y = rw (← h, x, w, ← g, y)
@@ -96,14 +97,14 @@ module _ (c : Settings) (n : Lengths) (s : Bool) (h : s ≡ shapeSound (c .ncol)
     settings-mode r y e = rw (← h, x, w, ← g, y) e
 
   -- past the first two, no stated length overflows
-  pub settings-sizes : not s ≡ false → not (leb 1 (c .nb) && leb (c .nb) 64) ≡ false → LengthsPre (c .ncol) (c .nrow) (c .nb)
+  pub settings-sizes : not s ≡ false → not (leb 1 (c .nb) && leb (c .nb) widestPanel) ≡ false → LengthsPre (c .ncol) (c .nrow) (c .nb)
   settings-sizes x w =
       let shape : shapeSound (c .ncol) (c .nrow) ≡ true = sym h ∙ not-false s x in
-      let width : leb 1 (c .nb) && leb (c .nb) 64 ≡ true = not-false (leb 1 (c .nb) && leb (c .nb) 64) w in
+      let width : leb 1 (c .nb) && leb (c .nb) widestPanel ≡ true = not-false (leb 1 (c .nb) && leb (c .nb) widestPanel) w in
       record {
         rows = leb-true (c .ncol) (c .nrow) (search (and-left, and-right));
-        fewRows = leb-true (c .nrow) 1024 (search (and-left, and-right));
-        narrow = leb-true (c .nb) 64 (search (and-left, and-right));
+        fewRows = leb-true (c .nrow) mostRows (search (and-left, and-right));
+        narrow = leb-true (c .nb) widestPanel (search (and-left, and-right));
       }
 
 -- past all five, the input is a panel of its stated length

@@ -6,6 +6,7 @@ use Prim.Native.Nat.{ℕ, _-_, _*_, _≤_}
 use lib.Dec.{leb, eqb}
 use lib.ListN.{length}
 use lib.Ieee.{Float}
+use Rattle.model.specs.Sizes.{mostRows, widestPanel}
 use Rattle.model.specs.Matrix.{view}
 use Rattle.model.specs.Answer.{Said, refused, accepted, Check, sound, stop, orElse, refuseIf, turnedAway}
 use Rattle.model.specs.Factor.{Buffers, shapeSound, workLength, modeCheck, columnsCheck}
@@ -49,7 +50,7 @@ lengthsHold c n =
 unfoldable pub settingsCheckOver : Settings → Lengths → Check
 settingsCheckOver c n =
     orElse (refuseIf (not (shapeSound (c .ncol) (c .nrow))) 1)
-    (orElse (refuseIf (not (leb 1 (c .nb) && leb (c .nb) 64)) 2)
+    (orElse (refuseIf (not (leb 1 (c .nb) && leb (c .nb) widestPanel)) 2)
     (orElse (refuseIf (not (lengthsHold c n)) 3) (modeCheck (c .mode) (c .limit))))
 
 -- 1 to 6
@@ -59,5 +60,5 @@ entryCheckOver c n input = orElse (settingsCheckOver c n) (columnsCheck (view (c
 -- sizes at which no stated length overflows
 pub record LengthsPre (ncol nrow nb : ℕ) : Type 0 where
   pub rows : ncol ≤ nrow
-  pub fewRows : nrow ≤ 1024
-  pub narrow : nb ≤ 64
+  pub fewRows : nrow ≤ mostRows
+  pub narrow : nb ≤ widestPanel

@@ -7,19 +7,14 @@ ghost use lib.ListN.{length};
 ghost use Rattle.model.specs.Factor.{shapeSound, modeCheck};
 ghost use Rattle.scan.specs.Finite.{checkOf};
 ghost use Rattle.entry.specs.Entry.{entrySays, lengthsHold, settingsCheckOver, entryCheckOver, LengthsPre};
+use model::COLUMNS_MAX;
+use model::LIMIT_MAX;
 use model::Mode;
+use model::ROWS_MAX;
 use model::Refusal;
 use model::Settings;
+use model::WIDTH_MAX;
 use scan::Scan;
-
-// The most columns, rows, columns of a panel, and rounds of a block's lift that a call may ask for.
-const NCOL_MAX: usize = 128;
-
-const NROW_MAX: usize = 1024;
-
-const NB_MAX: usize = 64;
-
-const LIMIT_MAX: usize = 64;
 
 // The lengths of the input and of the nine buffers that a call writes.
 pub struct Lengths {
@@ -45,7 +40,7 @@ pub enum Entry {
 pub fn shape_sound(ncol: usize, nrow: usize) -> bool
     ensures { λ r. ⌜ r ≡ shapeSound ncol nrow ⌝ }
 {
-    (ncol <= NCOL_MAX) & ((nrow <= NROW_MAX) & (ncol <= nrow))
+    (ncol <= COLUMNS_MAX) & ((nrow <= ROWS_MAX) & (ncol <= nrow))
 }
 
 // Refusal 3's test, the last buffers first.
@@ -85,7 +80,7 @@ fn check_settings(c: Settings, n: Lengths) -> Entry
     if !shape_sound(c.ncol, c.nrow) {
         return Entry::Refused(Refusal::Shape);
     }
-    if !((1 <= c.nb) & (c.nb <= NB_MAX)) {
+    if !((1 <= c.nb) & (c.nb <= WIDTH_MAX)) {
         return Entry::Refused(Refusal::Width);
     }
     if !lengths_sound(c, n) {

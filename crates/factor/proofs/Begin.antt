@@ -9,6 +9,7 @@ use borrow.Author.Tests.{leb-true}
 use lib.Dec.{leb}
 use lib.ListN.{length, replicate, length-replicate}
 use lib.Ieee.{Float, lt}
+use Rattle.model.specs.Sizes.{mostColumns, mostRounds}
 use Rattle.model.specs.Scalar.{zeroF, isFinite}
 use Rattle.model.specs.Matrix.{view, bytes}
 use Rattle.model.specs.Step.{pivotsOf}
@@ -37,9 +38,9 @@ limit-pre : (mode : Mode) (limit : ℕ) → modeCheck mode limit ≡ sound → L
 unfolding modeCheck
 limit-pre Fail limit e = tt
 limit-pre (Lift floor) limit e =
-    let few = leb 1 limit && leb limit 64 in
+    let few = leb 1 limit && leb limit mostRounds in
     let both : few ≡ true = not-refused few 5 (second-sound (refuseIf (not (isFinite floor && lt zeroF floor)) 4) (refuseIf (not few) 5) e) in
-    leb-true limit 64 (and-right (leb 1 limit) (leb limit 64) both)
+    leb-true limit mostRounds (and-right (leb 1 limit) (leb limit mostRounds) both)
 
 work-less : (nrow w nb : ℕ) → w ≤ nb → workLength nrow w ≤ workLength nrow nb
 work-less nrow w nb h =
@@ -67,7 +68,7 @@ run-pre c input b w len lenW e h l m =
     }
 
 pub holds-pre : (c : Settings) (input : List Float) (b : Buffers) (ld ls lb : ℕ) (partners : List ℕ) (ll la lo : ℕ) → entryCheck c input b ≡ sound
-    → ld ≡ length (b .d) → ls ≡ length (b .sub) → lb ≡ length (b .blocks) → partners ≡ replicate 128 0 → ll ≡ length (b .lifts)
+    → ld ≡ length (b .d) → ls ≡ length (b .sub) → lb ≡ length (b .blocks) → partners ≡ replicate mostColumns 0 → ll ≡ length (b .lifts)
     → la ≡ length (b .amounts) → lo ≡ length (b .order) → TurnHolds (c .nrow) (c .ncol) ld ls lb (length partners) ll la lo
 holds-pre c input b ld ls lb partners ll la lo e e1 e2 e3 e4 e5 e6 e7 =
     let p = passed c input b e in
@@ -76,7 +77,7 @@ holds-pre c input b ld ls lb partners ll la lo e e1 e2 e3 e4 e5 e6 e7 =
         d = e1 ∙ p .lengths .d;
         sub = e2 ∙ p .lengths .sub;
         blocks = e3 ∙ p .lengths .blocks;
-        partners = ap length e4 ∙ length-replicate {A = ℕ} 128 0;
+        partners = ap length e4 ∙ length-replicate {A = ℕ} mostColumns 0;
       };
       lifts = e5 ∙ p .lengths .lifts;
       amounts = e6 ∙ p .lengths .amounts;
@@ -92,21 +93,21 @@ run-is mode limit nrow ncol w v r s t e f h =
 -- ---- before the first panel
 
 -- nothing is noted yet
-pub noted-none : (n : ℕ) (blocks partners : List ℕ) → blocks ≡ replicate n 0 → partners ≡ replicate 128 0
+pub noted-none : (n : ℕ) (blocks partners : List ℕ) → blocks ≡ replicate n 0 → partners ≡ replicate mostColumns 0
     → NotedTo 0 1 0 (bytes blocks) (bytes partners)
 noted-none n blocks partners e f = record {
   few = omega arith;
   pair = λ c h. absurd (omega (arith, ap (λ (g : ℕ → ℕ). g c) (ap bytes e ∙ bytes-zeros n)));
-  partner = λ c. omega (arith, ap (λ (g : ℕ → ℕ). g c) (ap bytes f ∙ bytes-zeros 128));
+  partner = λ c. omega (arith, ap (λ (g : ℕ → ℕ). g c) (ap bytes f ∙ bytes-zeros mostColumns));
   recorded = none-recorded (bytes blocks) (bytes partners);
 }
 
 -- the slices show the start
 pub start-is : (c : Settings) (input : List Float) (b : Buffers) (panel d sub amounts : List Float) (blocks lifts order partners : List ℕ)
     → entryCheck c input b ≡ sound → Begun input panel d sub blocks lifts amounts order
-    → length d ≡ length (b .d) → length sub ≡ length (b .sub) → length amounts ≡ length (b .amounts) → partners ≡ replicate 128 0
+    → length d ≡ length (b .d) → length sub ≡ length (b .sub) → length amounts ≡ length (b .amounts) → partners ≡ replicate mostColumns 0
     → between (c .nrow) panel (pivotsOf d sub blocks partners lifts amounts order) 0 ≡ start (c .ncol) (view (c .nrow) input)
 start-is c input b panel d sub amounts blocks lifts order partners e w ld ls la p =
     let q = passed c input b e in
     begun-start input panel d sub amounts blocks partners lifts order (c .nrow) (c .ncol) w (ld ∙ q .lengths .d) (ls ∙ q .lengths .sub)
-    (la ∙ q .lengths .amounts) (ap bytes p ∙ bytes-zeros 128)
+    (la ∙ q .lengths .amounts) (ap bytes p ∙ bytes-zeros mostColumns)

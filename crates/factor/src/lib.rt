@@ -15,6 +15,7 @@ use bunch_kaufman::Ran;
 use entry::Entry;
 use entry::Lengths;
 use finish::Found;
+use model::COLUMNS_MAX;
 use model::Factored;
 use model::Refusal;
 use model::Report;
@@ -57,7 +58,7 @@ fn eliminate(
         (now (blocks .exit)) (now (lifts .exit)) (now (amounts .exit)) (now (order .exit)) ⌝ }
 {
     finish::begin(input, panel, d, sub, blocks, lifts, amounts, order);
-    let mut partners = [0; 128];
+    let mut partners = [0; COLUMNS_MAX];
     let nb = width(c.nb, c.ncol);
     let mode = c.mode;
     let used = Settings {

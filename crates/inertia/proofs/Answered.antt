@@ -7,6 +7,7 @@ use borrow.Author.Tests.{eqb-true}
 use lib.Dec.{eqb, leb}
 use lib.ListN.{length}
 use lib.Ieee.{Float}
+use Rattle.model.specs.Sizes.{mostColumns}
 use Rattle.model.specs.Matrix.{vec, bytes}
 use Rattle.model.specs.Inertia.{checkBytes, inertiaCheck, talliedOf, inertiaOf}
 use Rattle.model.specs.Answer.{sound, refuseIf, accepted, turnedAway}
@@ -24,7 +25,7 @@ module _ (d sub : List Float) (blocks : List ℕ) (k : Entry) (e : entrySays k �
   pub checked-lists : k ≡ Sound → TallyPre d sub blocks
   unfolding inertiaCheck
   checked-lists h =
-      let lists = eqb (length sub) (length d) && (eqb (length blocks) (length d) && leb (length d) 128) in
+      let lists = eqb (length sub) (length d) && (eqb (length blocks) (length d) && leb (length d) mostColumns) in
       let pass : inertiaCheck d sub blocks ≡ sound = check-passes k (inertiaCheck d sub blocks) h e in
       let ok : lists ≡ true = not-refused lists 19 (first-sound (refuseIf (not lists) 19) (checkBytes blocks) pass) in
       record {

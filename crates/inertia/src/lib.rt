@@ -12,14 +12,12 @@ ghost use Rattle.entry.specs.Entry.{entrySays};
 ghost use Rattle.inertia.specs.Count.{countedOf, MorePre, CountPre, TallyPre};
 use entry::Entry;
 use model::Block;
+use model::COLUMNS_MAX;
 use model::Counted;
 use model::Diagonal;
 use model::Elim;
 use model::Refusal;
 use model::Tally;
-
-// The most columns whose pivots a call may ask to count.
-const COLUMNS_MAX: usize = 128;
 
 // ---- the counting rule
 

@@ -8,6 +8,7 @@ use borrow.Author.Tests.{eqb-true, leb-true}
 use lib.Dec.{leb}
 use lib.ListN.{length}
 use lib.Ieee.{Float}
+use Rattle.model.specs.Sizes.{mostColumns, mostRows, widestPanel}
 use Rattle.model.specs.Matrix.{view}
 use Rattle.model.specs.Factor.{Buffers, shapeSound, workLength, lengthsSound, modeCheck, columnsCheck, settingsCheck, entryCheck, headAnswerOf, afterHead, factorOf}
 use Rattle.model.specs.Answer.{Check, sound, stop, orElse, refuseIf}
@@ -64,11 +65,11 @@ lengths c input b h =
 
 -- shape, width, lengths, mode and input are as they should be
 pub record Passed (c : Settings) (input : List Float) (b : Buffers) : Type 0 where
-  pub fewColumns : c .ncol ≤ 128
-  pub fewRows : c .nrow ≤ 1024
+  pub fewColumns : c .ncol ≤ mostColumns
+  pub fewRows : c .nrow ≤ mostRows
   pub head : c .ncol ≤ c .nrow
   pub some : 1 ≤ c .nb
-  pub narrow : c .nb ≤ 64
+  pub narrow : c .nb ≤ widestPanel
   pub lengths : Lengths c input b
   pub mode : modeCheck (c .mode) (c .limit) ≡ sound
   pub finite : columnsCheck (view (c .nrow) input) (c .nrow) (c .ncol) 0 ≡ sound
@@ -77,13 +78,14 @@ pub passed : (c : Settings) (input : List Float) (b : Buffers) → entryCheck c 
 unfolding entryCheck settingsCheck
 passed c input b h =
     let shape : shapeSound (c .ncol) (c .nrow) ≡ true = not-refused (shapeSound (c .ncol) (c .nrow)) 1 (search (first-sound, second-sound)) in
-    let width : leb 1 (c .nb) && leb (c .nb) 64 ≡ true = not-refused (leb 1 (c .nb) && leb (c .nb) 64) 2 (search (first-sound, second-sound)) in
+    let width : leb 1 (c .nb) && leb (c .nb) widestPanel ≡ true
+    = not-refused (leb 1 (c .nb) && leb (c .nb) widestPanel) 2 (search (first-sound, second-sound)) in
     record {
-      fewColumns = leb-true (c .ncol) 128 (search (and-left, and-right));
-      fewRows = leb-true (c .nrow) 1024 (search (and-left, and-right));
+      fewColumns = leb-true (c .ncol) mostColumns (search (and-left, and-right));
+      fewRows = leb-true (c .nrow) mostRows (search (and-left, and-right));
       head = leb-true (c .ncol) (c .nrow) (search (and-left, and-right));
       some = leb-true 1 (c .nb) (search (and-left, and-right));
-      narrow = leb-true (c .nb) 64 (search (and-left, and-right));
+      narrow = leb-true (c .nb) widestPanel (search (and-left, and-right));
       lengths = lengths c input b (not-refused (lengthsSound c input b) 3 (search (first-sound, second-sound)));
       mode = search (first-sound, second-sound);
       finite = search (first-sound, second-sound);

@@ -6,6 +6,7 @@ use Prim.Native.Nat.{ℕ, zero, suc, _+_, _-_, _*_, min, max}
 use lib.Dec.{leb, ltb, eqb}
 use lib.ListN.{length, replicate}
 use lib.Ieee.{Float, lt}
+use Rattle.model.specs.Sizes.{mostColumns, mostRows, widestPanel, mostRounds}
 use Rattle.model.specs.Scalar.{zeroF, reciprocalOf, isFinite}
 use Rattle.model.specs.Matrix.{Row, Mat, view, vec, headOf, rowOf, tabulate, columnMajor}
 use Rattle.model.specs.Step.{Diagonals, blockAt, begins, endsBlock}
@@ -34,7 +35,7 @@ pub record Buffers : Type 0 where
 
 -- refusal 1
 abbrev pub shapeSound : ℕ → ℕ → Bool
-shapeSound ncol nrow = leb ncol 128 && (leb nrow 1024 && leb ncol nrow)
+shapeSound ncol nrow = leb ncol mostColumns && (leb nrow mostRows && leb ncol nrow)
 
 -- 'working f64 buffer 3·nrow·(nb+1) + nb², nb as passed'
 abbrev pub workLength : ℕ → ℕ → ℕ
@@ -51,7 +52,7 @@ lengthsSound c input b =
 -- refusals 4 and 5
 unfoldable pub modeCheck : Mode → ℕ → Check
 modeCheck Fail limit = sound
-modeCheck (Lift floor) limit = orElse (refuseIf (not (isFinite floor && lt zeroF floor)) 4) (refuseIf (not (leb 1 limit && leb limit 64)) 5)
+modeCheck (Lift floor) limit = orElse (refuseIf (not (isFinite floor && lt zeroF floor)) 4) (refuseIf (not (leb 1 limit && leb limit mostRounds)) 5)
 
 -- refusal 6: the first of n rows from i on, in column j, that is not finite
 unfoldable pub columnCheck : Mat → ℕ → ℕ → ℕ → Check
@@ -69,7 +70,7 @@ columnsCheck a nrow (suc n) j = let rest = columnsCheck a nrow n (j + 1) in orEl
 unfoldable pub settingsCheck : Settings → List Float → Buffers → Check
 settingsCheck c input b =
     orElse (refuseIf (not (shapeSound (c .ncol) (c .nrow))) 1)
-    (orElse (refuseIf (not (leb 1 (c .nb) && leb (c .nb) 64)) 2)
+    (orElse (refuseIf (not (leb 1 (c .nb) && leb (c .nb) widestPanel)) 2)
     (orElse (refuseIf (not (lengthsSound c input b)) 3) (modeCheck (c .mode) (c .limit))))
 
 unfoldable pub entryCheck : Settings → List Float → Buffers → Check

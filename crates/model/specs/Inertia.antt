@@ -5,6 +5,7 @@ use Prim.Native.Nat.{ℕ, zero, suc, _+_}
 use lib.Dec.{leb, ltb, eqb}
 use lib.ListN.{length}
 use lib.Ieee.{Float, lt, le}
+use Rattle.model.specs.Sizes.{mostColumns}
 use Rattle.model.specs.Scalar.{_⊕_, zeroF}
 use Rattle.model.specs.Matrix.{Row, vec, bytes}
 use Rattle.model.specs.Step.{begins, pastOf, blockAt}
@@ -65,7 +66,7 @@ checkBytes blocks = bytesFrom (bytes blocks) (length blocks) (length blocks) 0
 -- 'its three lists differ in length or exceed 128', then 16
 unfoldable pub inertiaCheck : List Float → List Float → List ℕ → Check
 inertiaCheck d sub blocks =
-    orElse (refuseIf (not (eqb (length sub) (length d) && (eqb (length blocks) (length d) && leb (length d) 128))) 19) (checkBytes blocks)
+    orElse (refuseIf (not (eqb (length sub) (length d) && (eqb (length blocks) (length d) && leb (length d) mostColumns))) 19) (checkBytes blocks)
 
 abbrev inertiaSays : Check → Tally → Said Tally
 inertiaSays sound t = accepted t

@@ -6,6 +6,7 @@ pub mod Choice
 pub mod Step
 pub mod Panel
 pub mod Head
+pub mod Sizes
 pub mod Answer
 pub mod Inertia
 pub mod Factor

@@ -5,6 +5,7 @@ use Prim.Native.Nat.{ℕ, zero, suc, _+_, _*_}
 use lib.Dec.{leb, ltb, eqb}
 use lib.ListN.{length}
 use lib.Ieee.{Float}
+use Rattle.model.specs.Sizes.{mostColumns, mostRows}
 use Rattle.model.specs.Scalar.{_⊖_, _⊗_, zeroF, isFinite}
 use Rattle.model.specs.Matrix.{Row, Mat, view, vec, bytes, columnMajor}
 use Rattle.model.specs.Step.{diagonalsOf, begins}
@@ -36,7 +37,7 @@ pub record Descendant : Type 0 where
 -- refusal 13
 unfoldable pub updateSound : Target → Descendant → List Float → Bool
 updateSound t k panel =
-    shapeSound (t .ncol) (t .nrow) && (leb (k .nk) 128 && (leb (k .nk + k .mk) 1024
+    shapeSound (t .ncol) (t .nrow) && (leb (k .nk) mostColumns && (leb (k .nk + k .mk) mostRows
     && (eqb (length panel) (t .nrow * t .ncol) && (eqb (length (t .rows)) (t .nrow) && (eqb (length (k .panel)) ((k .nk + k .mk) * k .nk)
     && (eqb (length (k .d)) (k .nk) && (eqb (length (k .sub)) (k .nk) && (eqb (length (k .blocks)) (k .nk) && eqb (length (k .rows)) (k .mk)))))))))
 

@@ -1,6 +1,16 @@
 // The declared types that the definitions in specs/ speak of, and that every crate above passes on.
 // Nothing here computes: a reader may rely on the names and on the comments alone.
 
+// The most columns, rows, columns of a panel, and rounds of a block's lift that a call may ask for: mostColumns,
+// mostRows, widestPanel and mostRounds of specs/Sizes.antt.
+pub const COLUMNS_MAX: usize = 128;
+
+pub const ROWS_MAX: usize = 1024;
+
+pub const WIDTH_MAX: usize = 64;
+
+pub const LIMIT_MAX: usize = 64;
+
 // A row of a node's panel, counted from 0: the source's li.
 pub struct LocalRow(pub usize);
 

@@ -1,6 +1,7 @@
 -- What the functions ask of their callers, and a run's declared answer in the whole panel's words. Definitions only. Assumes nothing.
 use mathlib.Core.Path.{_≡_}
 use Prim.Native.Nat.{ℕ, _+_, _*_, _≤_, _<_}
+use Rattle.model.specs.Sizes.{mostColumns, mostRows, widestPanel}
 use Rattle.model.specs.Head.{State}
 use Rattle.model.specs.Factor.{workLength}
 use Rattle.model.specs.declared.Frame.{Frame}
@@ -25,10 +26,10 @@ RunLeaves ncol (Done rounds) blocks partners = NotedTo ncol (ncol + 1) rounds bl
 pub record RunPre (c : Settings) (len lenW : ℕ) : Type 0 where
   pub panel : len ≡ c .nrow * c .ncol
   pub head : c .ncol ≤ c .nrow
-  pub fewColumns : c .ncol ≤ 128
-  pub fewRows : c .nrow ≤ 1024
+  pub fewColumns : c .ncol ≤ mostColumns
+  pub fewRows : c .nrow ≤ mostRows
   pub some : 1 ≤ c .nb
-  pub narrow : c .nb ≤ 64
+  pub narrow : c .nb ≤ widestPanel
   pub rounds : LimitPre (c .mode) (c .limit)
   pub work : workLength (c .nrow) (c .nb) ≤ lenW
 
@@ -36,9 +37,9 @@ pub record RunPre (c : Settings) (len lenW : ℕ) : Type 0 where
 pub record TurnPre (at : Frame) (len lenW : ℕ) : Type 0 where
   pub panel : len ≡ at .nrow * at .ncol
   pub head : at .ncol ≤ at .nrow
-  pub fewColumns : at .ncol ≤ 128
-  pub fewRows : at .nrow ≤ 1024
-  pub narrow : at .nb ≤ 64
+  pub fewColumns : at .ncol ≤ mostColumns
+  pub fewRows : at .nrow ≤ mostRows
+  pub narrow : at .nb ≤ widestPanel
   pub here : at .kb < at .ke
   pub cols : at .ke ≤ at .ncol
   pub width : at .ke ≤ at .kb + at .nb
@@ -49,7 +50,7 @@ pub record DiagonalsHold (ncol ld ls lb lp : ℕ) : Type 0 where
   pub d : ld ≡ ncol
   pub sub : ls ≡ ncol
   pub blocks : lb ≡ ncol
-  pub partners : lp ≡ 128
+  pub partners : lp ≡ mostColumns
 
 -- and those of the notes
 pub record TurnHolds (nrow ncol ld ls lb lp ll la lo : ℕ) : Type 0 where

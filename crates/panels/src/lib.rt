@@ -4,6 +4,7 @@
 ghost use mathlib.Core.Path.{_≡_};
 ghost use Prim.Native.Nat.{_+_, _-_, _*_, _≤_, min};
 ghost use lib.ListN.{length, take};
+ghost use Rattle.model.specs.Sizes.{mostColumns, widestPanel};
 ghost use Rattle.model.specs.Matrix.{view, bytes};
 ghost use Rattle.model.specs.Step.{diagonalsOf, pivotsOf, rowAfterSteps};
 ghost use Rattle.model.specs.Head.{panelOf};
@@ -22,7 +23,7 @@ use model::Settings;
 
 // Where the panel that begins at kb ends.
 fn panel_end(kb: usize, nb: usize, ncol: usize) -> usize
-    requires { ⌜ (kb ≤ 128) × (nb ≤ 64) ⌝ }
+    requires { ⌜ (kb ≤ mostColumns) × (nb ≤ widestPanel) ⌝ }
     ensures { λ r. ⌜ r ≡ min (kb + nb) ncol ⌝ }
 {
     let end = kb + nb;

@@ -9,6 +9,7 @@ use borrow.Author.Tests.{lt-ltb, le-leb, lt-leb, eqb-true, ltb-true, ltb-false, 
 use lib.Dec.{leb, ltb}
 use lib.ListN.{length}
 use lib.Ieee.{Float}
+use Rattle.model.specs.Sizes.{mostRows}
 use Rattle.model.specs.Matrix.{Mat, view, bytes, columnMajor}
 use Rattle.model.specs.Inertia.{checkBytes}
 use Rattle.model.specs.Assembly.{firstNot, Panelled}
@@ -120,7 +121,7 @@ module _ (t : Target) (k : Descendant) (len : ℕ) (w : ListsPre t k len) where
     bytes = w .sizes .bytes;
   }
 
-  pub locate-pre : (start room : ℕ) → start ≡ firstFrom (landsAt (t .first) (t .ncol) (bytes (k .rows))) (length (k .rows)) 0 → room ≡ 1024
+  pub locate-pre : (start room : ℕ) → start ≡ firstFrom (landsAt (t .first) (t .ncol) (bytes (k .rows))) (length (k .rows)) 0 → room ≡ mostRows
       → LocatePre (t .rows) (k .rows) start room
   locate-pre start room e r = record {
     target = w .target;
@@ -181,7 +182,7 @@ module _ (t : Target) (k : Descendant) (len : ℕ) (w : ListsPre t k len) where
         is-columnMajor (t .nrow) (t .ncol) (updated t k (view (t .nrow) panel)) new (l ∙ m ∙ w .sizes .area)
         (λ i j h x. ap (λ (a : Mat). a i j) v ∙ entry-is (view (t .nrow) panel) i j h x)
 
-    pub apply-pre : length places ≡ 1024
+    pub apply-pre : length places ≡ mostRows
         → ApplyPre (t .ncol) (t .nrow) (k .nk) (k .mk) (k .blocks) places start len (length (k .panel)) (length (k .d)) (length (k .sub)) (length (k .rows))
     apply-pre r = record {
       few = w .sizes .columns;

@@ -7,6 +7,7 @@ use native.Mathlib.Omega.{arith}
 use borrow.Author.Tests.{lt-ltb, le-leb, leb-true, ltb-true, not-true, not-false}
 use lib.Dec.{leb, ltb}
 use lib.Ieee.{Float}
+use Rattle.model.specs.Sizes.{mostColumns, mostRows}
 use Rattle.model.specs.Scalar.{_⊕_, _⊗_, zeroF}
 use Rattle.model.specs.Matrix.{Row, Mat, view, bytes, withPart}
 use Rattle.model.specs.Panel.{sumFrom}
@@ -105,7 +106,7 @@ rows-later ncol nrow nk mk bs places lo c panel kpanel d sub rows len w l e = re
 }
 
 pub rows-room : (ncol nrow nk mk : ℕ) (bs places : List ℕ) (lo c panel kpanel d sub rows v acc : ℕ)
-    → ApplyPre ncol nrow nk mk bs places lo panel kpanel d sub rows → c < mk → v ≡ 128 → acc ≡ 1024 → RowPre nk mk c v acc
+    → ApplyPre ncol nrow nk mk bs places lo panel kpanel d sub rows → c < mk → v ≡ mostColumns → acc ≡ mostRows → RowPre nk mk c v acc
 rows-room ncol nrow nk mk bs places lo c panel kpanel d sub rows v acc w h e f =
     record { here = h; weights = omega (arith, w .numbers .narrow); sums = omega (arith, w .numbers .few) }
 

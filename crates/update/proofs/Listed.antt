@@ -11,6 +11,7 @@ use lib.ListN.{length}
 use lib.Ieee.{Float}
 use mir.Syntax.{w64}
 use mir.Val.{Fits}
+use Rattle.model.specs.Sizes.{mostColumns, mostRows}
 use Rattle.model.specs.Scalar.{isFinite}
 use Rattle.model.specs.Matrix.{view, vec, bytes}
 use Rattle.model.specs.Step.{begins}
@@ -32,19 +33,20 @@ use Rattle.update.specs.Call.{listsCheck, Sizes, ColumnPre}
 product : {a b : ℕ} (m n : ℕ) → a ≤ m → b ≤ n → a * b ≤ m * n
 product {a} {b} m n ha hb = le-trans (mul-le-mul-left a hb) (mul-le-mul-right n ha)
 
-module _ (nk mk : ℕ) (s : not (leb nk 128 && leb mk 1024) ≡ false) where
-  columns-few : nk ≤ 128
-  columns-few = leb-true nk 128 (and-left (leb nk 128) (leb mk 1024) (not-false (leb nk 128 && leb mk 1024) s))
+module _ (nk mk : ℕ) (s : not (leb nk mostColumns && leb mk mostRows) ≡ false) where
+  columns-few : nk ≤ mostColumns
+  columns-few = leb-true nk mostColumns (and-left (leb nk mostColumns) (leb mk mostRows) (not-false (leb nk mostColumns && leb mk mostRows) s))
 
-  rows-few : mk ≤ 1024
-  rows-few = leb-true mk 1024 (and-right (leb nk 128) (leb mk 1024) (not-false (leb nk 128 && leb mk 1024) s))
+  rows-few : mk ≤ mostRows
+  rows-few = leb-true mk mostRows (and-right (leb nk mostColumns) (leb mk mostRows) (not-false (leb nk mostColumns && leb mk mostRows) s))
 
   pub rows-fit : Fits w64 (nk + mk)
   rows-fit = record { fits = omega (arith, columns-few, rows-few) }
 
   pub numbers-fit : Fits w64 ((nk + mk) * nk)
   numbers-fit =
-      let a : (nk + mk) * nk ≤ 1152 * 128 = product 1152 128 (omega (arith, columns-few, rows-few)) columns-few in
+      let a : (nk + mk) * nk ≤ (mostColumns + mostRows) * mostColumns
+      = product (mostColumns + mostRows) mostColumns (omega (arith, columns-few, rows-few)) columns-few in
       record { fits = omega arith }
 
 -- ---- refusal 13: b is the shape's test
@@ -55,20 +57,20 @@ module _ (t : Target) (k : Descendant) (panel : List Float) (b : Bool) (h : b �
   lengths-shape x = rw (← h, not-true b x)
 
   module _ (x : not b ≡ false) where
-    pub lengths-sizes : not (leb (k .nk) 128 && leb (k .mk) 1024) ≡ true → false ≡ updateSound t k panel
+    pub lengths-sizes : not (leb (k .nk) mostColumns && leb (k .mk) mostRows) ≡ true → false ≡ updateSound t k panel
     unfolding updateSound
     lengths-sizes y =
-        rw (← h, not-false b x) (test (leb (k .nk) 128)
-        (λ l. let m : leb (k .mk) 1024 ≡ false = not-true (leb (k .mk) 1024) (rw l at y) in
-        rw (l, lt-leb (k .nk + k .mk) 1024 (omega (arith, leb-false (k .mk) 1024 m))))
+        rw (← h, not-false b x) (test (leb (k .nk) mostColumns)
+        (λ l. let m : leb (k .mk) mostRows ≡ false = not-true (leb (k .mk) mostRows) (rw l at y) in
+        rw (l, lt-leb (k .nk + k .mk) mostRows (omega (arith, leb-false (k .mk) mostRows m))))
         (λ l. rw l))
 
-    pub lengths-rest : not (leb (k .nk) 128 && leb (k .mk) 1024) ≡ false →
-        leb (k .nk + k .mk) 1024 && (eqb (length panel) (t .nrow * t .ncol) && (eqb (length (t .rows)) (t .nrow)
+    pub lengths-rest : not (leb (k .nk) mostColumns && leb (k .mk) mostRows) ≡ false →
+        leb (k .nk + k .mk) mostRows && (eqb (length panel) (t .nrow * t .ncol) && (eqb (length (t .rows)) (t .nrow)
         && (eqb (length (k .panel)) ((k .nk + k .mk) * k .nk) && (eqb (length (k .d)) (k .nk) && (eqb (length (k .sub)) (k .nk)
         && (eqb (length (k .blocks)) (k .nk) && eqb (length (k .rows)) (k .mk))))))) ≡ updateSound t k panel
     unfolding updateSound
-    lengths-rest y = rw (← h, not-false b x, le-leb (k .nk) 128 (columns-few (k .nk) (k .mk) y))
+    lengths-rest y = rw (← h, not-false b x, le-leb (k .nk) mostColumns (columns-few (k .nk) (k .mk) y))
 
 -- ---- past refusal 13
 
@@ -76,11 +78,11 @@ pub sizes : (t : Target) (k : Descendant) (panel : List Float) → updateSound t
 unfolding updateSound
 sizes t k panel h =
     record {
-      columns = leb-true (t .ncol) 128 (search (and-left, and-right));
-      rows = leb-true (t .nrow) 1024 (search (and-left, and-right));
+      columns = leb-true (t .ncol) mostColumns (search (and-left, and-right));
+      rows = leb-true (t .nrow) mostRows (search (and-left, and-right));
       head = leb-true (t .ncol) (t .nrow) (search (and-left, and-right));
-      few = leb-true (k .nk) 128 (search (and-left, and-right));
-      all = leb-true (k .nk + k .mk) 1024 (search (and-left, and-right));
+      few = leb-true (k .nk) mostColumns (search (and-left, and-right));
+      all = leb-true (k .nk + k .mk) mostRows (search (and-left, and-right));
       area = eqb-true (length panel) (t .nrow * t .ncol) (search (and-left, and-right));
       target = eqb-true (length (t .rows)) (t .nrow) (search (and-left, and-right) depth 12);
       numbers = eqb-true (length (k .panel)) ((k .nk + k .mk) * k .nk) (search (and-left, and-right) depth 12);

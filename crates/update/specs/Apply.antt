@@ -7,6 +7,7 @@ use Prim.Native.Nat.{ℕ, zero, suc, _+_, _-_, _*_, _<_, _≤_}
 use lib.Dec.{eqb}
 use lib.ListN.{length}
 use lib.Ieee.{Float}
+use Rattle.model.specs.Sizes.{mostColumns}
 use Rattle.model.specs.Scalar.{_⊖_, _⊗_, zeroF}
 use Rattle.model.specs.Matrix.{Row, Mat, bytes}
 use Rattle.model.specs.Step.{diagonalsOf}
@@ -90,7 +91,7 @@ pub record SubtractPre (n j : ℕ) (places : List ℕ) (nk lo hi panel acc : ℕ
 
 -- target and descendant, with the places of the descendant's rows from lo on
 pub record ApplyPre (ncol nrow nk mk : ℕ) (bs places : List ℕ) (lo panel kpanel d sub rows : ℕ) : Type 0 where
-  pub few : ncol ≤ 128
+  pub few : ncol ≤ mostColumns
   pub area : panel ≡ nrow * ncol
   pub numbers : NumbersPre nk mk kpanel d sub (length bs)
   pub check : checkBytes bs ≡ sound

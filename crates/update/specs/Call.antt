@@ -6,6 +6,7 @@ use Prim.Native.Nat.{ℕ, _+_, _*_, _<_, _≤_}
 use lib.Dec.{leb}
 use lib.ListN.{length}
 use lib.Ieee.{Float}
+use Rattle.model.specs.Sizes.{mostColumns, mostRows}
 use Rattle.model.specs.Matrix.{view, bytes, columnMajor}
 use Rattle.model.specs.Factor.{everyFrom}
 use Rattle.model.specs.Inertia.{checkBytes}
@@ -44,11 +45,11 @@ columnsOf t k panel = panelAfter (columnsCheck t k) (updatedPanel t k panel) pan
 
 -- the sizes and lengths that refusal 13 leaves
 pub record Sizes (t : Target) (k : Descendant) (panel : ℕ) : Type 0 where
-  pub columns : t .ncol ≤ 128
-  pub rows : t .nrow ≤ 1024
+  pub columns : t .ncol ≤ mostColumns
+  pub rows : t .nrow ≤ mostRows
   pub head : t .ncol ≤ t .nrow
-  pub few : k .nk ≤ 128
-  pub all : k .nk + k .mk ≤ 1024
+  pub few : k .nk ≤ mostColumns
+  pub all : k .nk + k .mk ≤ mostRows
   pub area : panel ≡ t .nrow * t .ncol
   pub target : length (t .rows) ≡ t .nrow
   pub numbers : length (k .panel) ≡ (k .nk + k .mk) * k .nk
@@ -68,8 +69,8 @@ pub record ListsPre (t : Target) (k : Descendant) (panel : ℕ) : Type 0 where
 
 -- a descendant's sizes, and the lengths of its numbers' lists
 pub record NumbersPre (nk mk panel d sub blocks : ℕ) : Type 0 where
-  pub narrow : nk ≤ 128
-  pub few : nk + mk ≤ 1024
+  pub narrow : nk ≤ mostColumns
+  pub few : nk + mk ≤ mostRows
   pub area : panel ≡ (nk + mk) * nk
   pub pivots : d ≡ nk
   pub subdiagonal : sub ≡ nk

@@ -6,6 +6,7 @@ use mathlib.Core.List.{List}
 use Prim.Native.Nat.{ℕ, zero, suc, _+_, _<_, _≤_, _^_}
 use lib.Dec.{leb, ltb, eqb}
 use lib.ListN.{length}
+use Rattle.model.specs.Sizes.{mostRows}
 use Rattle.model.specs.Matrix.{bytes}
 use Rattle.model.specs.Factor.{everyFrom}
 use Rattle.model.specs.Update.{placeFrom}
@@ -47,7 +48,7 @@ pub record LocatePre (rows krows : List ℕ) (start room : ℕ) : Type 0 where
   pub descendant : everyFrom (risesAt (bytes krows) (length krows)) (length krows) 0 ≡ true
   pub begin : start ≤ length krows
   pub fits : length krows ≤ room
-  pub few : length rows ≤ 1024
+  pub few : length rows ≤ mostRows
 
 -- `places` has, for rows lo up to hi of the descendant, where they stand among the target's
 pub record Located (rows krows : List ℕ) (lo hi : ℕ) (places : List ℕ) : Type 0 where

@@ -8,13 +8,13 @@ ghost use Rattle.grid.specs.Grid.{In};
 ghost use Rattle.update.specs.Call.{descendantOf};
 ghost use Rattle.update.specs.Apply.{weighed, sums, fromRow, lessAt, lessFrom, rowApplied, rowsApplied};
 ghost use Rattle.update.specs.Apply.{WeightPre, WeighPre, SumPre, SubtractPre, ApplyPre, RowPre};
-use super::COLUMNS_MAX;
-use super::ROWS_MAX;
 use super::rows;
 use grid::columns;
+use model::COLUMNS_MAX;
 use model::Elim;
 use model::GlobalRow;
 use model::LocalRow;
+use model::ROWS_MAX;
 
 // v at a column: l·d; a·d11 + b·d21 in a block's first column, a·d21 + b·d22 in its second.
 fn weight(

@@ -11,12 +11,12 @@ ghost use Rattle.model.specs.Update.{updateSound, descendantSound};
 ghost use Rattle.entry.specs.Entry.{entrySays};
 ghost use Rattle.update.specs.Rows.{risesAt, standsAt, ColumnsPre};
 ghost use Rattle.update.specs.Call.{targetOf, descendantOf, listsCheck, ColumnPre, NumbersPre};
-use super::COLUMNS_MAX;
-use super::ROWS_MAX;
 use super::rows;
 use entry::Entry;
+use model::COLUMNS_MAX;
 use model::Elim;
 use model::GlobalRow;
+use model::ROWS_MAX;
 use model::Refusal;
 
 // Refusal 13's test, in which `first` plays no part. A length is worked out once the sizes are sound, so that no sum or

@@ -11,15 +11,11 @@ ghost use Rattle.update.specs.Call.{targetOf, descendantOf, columnsOf, L
 use entry::Entry;
 use model::Applied;
 use model::GlobalRow;
+use model::ROWS_MAX;
 
 mod apply;
 mod checks;
 mod rows;
-
-// The most columns of a descendant, and the most rows, its columns' among them.
-const COLUMNS_MAX: usize = 128;
-
-const ROWS_MAX: usize = 1024;
 
 // Refusals 17 and 18 and the update itself, of a descendant that has columns.
 fn update_columns(

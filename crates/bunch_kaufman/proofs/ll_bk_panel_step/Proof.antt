@@ -4,6 +4,7 @@ use Prim.Native.Nat.{_≤_, _*_, _-_}
 use mathlib.Core.Path.{_≡_, _∙_}
 use lib.ListN.{length}
 use borrow.Author.Needs.{needs}
+use Rattle.model.specs.Sizes.{mostColumns, mostRounds}
 use Rattle.model.specs.Step.{pivotsOf}
 use Rattle.model.specs.Head.{panelOf}
 use Rattle.bunch_kaufman.specs.Slices.{state}
@@ -15,7 +16,7 @@ use Rattle.bunch_kaufman.proofs.ll_bk_panel_step.Tie as tie
 abbrev Inv-loop : tie.InvT-loop
 Inv-loop panel₀ mult₀ d₀ sub₀ blocks₀ partners₀ lifts₀ amounts₀ order₀ at mode limit before ke k₀ rounds₀
     panel mult d sub blocks partners lifts amounts order k rounds =
-    (at .ke ≤ 128) × (at .kb ≤ k) × (k ≤ at .ke) × (rounds ≤ 64 * k)
+    (at .ke ≤ mostColumns) × (at .kb ≤ k) × (k ≤ at .ke) × (rounds ≤ mostRounds * k)
     × (length panel ≡ length panel₀) × (length mult ≡ length mult₀) × (length d ≡ length d₀) × (length sub ≡ length sub₀)
     × (length blocks ≡ length blocks₀) × (length partners ≡ length partners₀) × (length lifts ≡ length lifts₀)
     × (length amounts ≡ length amounts₀) × (length order ≡ length order₀)

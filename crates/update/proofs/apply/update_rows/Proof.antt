@@ -4,6 +4,7 @@ use mathlib.Core.Path.{_≡_, refl}
 use Prim.Native.Nat.{_-_, _≤_}
 use lib.ListN.{length}
 use borrow.Author.Needs.{needs}
+use Rattle.model.specs.Sizes.{mostColumns, mostRows}
 use Rattle.model.specs.Matrix.{view, bytes}
 use Rattle.update.specs.Call.{descendantOf}
 use Rattle.update.specs.Apply.{rowsApplied}
@@ -13,7 +14,7 @@ use Rattle.update.proofs.apply.update_rows.Tie as tie
 
 abbrev Inv-loop : tie.InvT-loop
 Inv-loop ncol nrow first panel₀ nk mk kpanel kd ksub kblocks krows places start v₀ acc₀ c₀ panel v acc c =
-    (start ≤ c) × (length panel ≡ length panel₀) × (length v ≡ 128) × (length acc ≡ 1024)
+    (start ≤ c) × (length panel ≡ length panel₀) × (length v ≡ mostColumns) × (length acc ≡ mostRows)
     × (rowsApplied (first .0) ncol (descendantOf nk mk kpanel kd ksub kblocks krows) (bytes places) (mk - c) c (view nrow panel)
     ≡ rowsApplied (first .0) ncol (descendantOf nk mk kpanel kd ksub kblocks krows) (bytes places) (mk - start) start (view nrow panel₀))
 
