@@ -24,14 +24,15 @@
  * allocates, waits, or ends the program.
  *
  * REFUSALS. A call tests in the order of the numbers below, 19 before 16; the first condition that is met is the
- * answer. Numbers never shift. Places count from 0.
+ * answer. Numbers never shift. Places count from 0. COLUMNS_MAX, ROWS_MAX, WIDTH_MAX and LIMIT_MAX are the constants
+ * MISUKTAAN_COLUMNS_MAX and so on below, here and wherever a size is stated.
  *
  *   number  call      condition                                                       place a, b
- *   1       factor    ncol > 128, nrow > 1024 or nrow < ncol                          0, 0
- *   2       factor    nb is 0 or above 64                                             0, 0
+ *   1       factor    ncol > COLUMNS_MAX, nrow > ROWS_MAX or nrow < ncol              0, 0
+ *   2       factor    nb is 0 or above WIDTH_MAX                                      0, 0
  *   3       factor    a buffer's length differs from its stated one                   0, 0
  *   4       factor    lifts, and the floor is not finite or not above zero            0, 0
- *   5       factor    lifts, and the limit is 0 or above 64                           0, 0
+ *   5       factor    lifts, and the limit is 0 or above LIMIT_MAX                    0, 0
  *   6       factor    a lower or tail number of the input is not finite               least column, its least row
  *   7       factor    no lifts: the column test finds zero, the chosen 1x1 pivot is   position, 0
  *                     zero, or a block's |det| is at most its growth floor
@@ -44,8 +45,8 @@
  *                     wrong
  *   11      assemble  an entry has row >= nrow, column >= ncol or row < column        first such entry, 0
  *   12      assemble  an entry is not finite                                          first such entry, 0
- *   13      update    the target's shape fails as in 1, nk > 128, nk + mk > 1024, or  0, 0
- *                     a length is wrong
+ *   13      update    the target's shape fails as in 1, nk > COLUMNS_MAX, nk + mk >   0, 0
+ *                     ROWS_MAX, or a length is wrong
  *   14      update    target rows do not rise strictly, or do not begin first, first  0, 0
  *                     + 1, .. for ncol rows
  *   15      update    descendant rows do not rise strictly                            0, 0
@@ -55,7 +56,7 @@
  *                     or a later row is absent from the target                        place in krows, 0
  *   18      update    a descendant column has a number below its head, or a d, or a   least column, 0
  *                     subdiagonal under a 1, that is not finite
- *   19      inertia   the three lists differ in length or exceed 128                  0, 0
+ *   19      inertia   the three lists differ in length or exceed COLUMNS_MAX          0, 0
  *
  * What is written:
  *   1 to 6, 10 to 19   nothing: every buffer is as it was, bit for bit.
@@ -111,11 +112,11 @@ static inline size_t misuktaan_work_len(size_t nrow, size_t nb)
  * Factors one node.
  *
  * Returns: number 0 with rounds and counts; or a refusal of 1 to 9.
- * In:   ncol, nrow    the node's columns and rows, 0 <= ncol <= 128, ncol <= nrow <= 1024.
- *       nb            the panel width, 1 to 64; used as min(nb, max(ncol, 1)).
+ * In:   ncol, nrow    the node's columns and rows, 0 <= ncol <= COLUMNS_MAX, ncol <= nrow <= ROWS_MAX.
+ *       nb            the panel width, 1 to WIDTH_MAX; used as min(nb, max(ncol, 1)).
  *       lifts         whether a pivot below the floor is lifted to it; if not, floor and limit are not read.
  *       floor         the floor, finite and above zero.
- *       limit         the rounds that a block's lift may take, 1 to 64.
+ *       limit         the rounds that a block's lift may take, 1 to LIMIT_MAX.
  *       input         nrow * ncol: the node's panel. Upper positions may hold anything.
  * Out:  panel         nrow * ncol: L below the diagonal. On it the pivot as used of a 1x1, the unlifted diagonal of a
  *                     block, whose d21 stands below it. Upper positions are those of the input, bit for bit.
@@ -147,8 +148,8 @@ struct misuktaan_outcome misuktaan_factor(
  * Counts the eigenvalues of D by sign.
  *
  * Returns: number 0 with the counts, rounds 0; or refusal 19 or 16.
- * In:   d, sub, blocks  D as a factor call gives it, one length of at most 128. Numbers may be anything: a 1x1 that is
- *                       a zero or a not-a-number counts as zero.
+ * In:   d, sub, blocks  D as a factor call gives it, one length of at most COLUMNS_MAX. Numbers may be anything: a 1x1
+ *                       that is a zero or a not-a-number counts as zero.
  */
 struct misuktaan_outcome misuktaan_inertia(
     const double *d, size_t d_len,
@@ -181,7 +182,7 @@ struct misuktaan_outcome misuktaan_assemble(
  *       rows          nrow: the target's global rows, strictly rising, the first ncol of them first, first + 1, ..
  * In and out: panel   nrow * ncol: the target's panel, any on entry. After acceptance it is updated, in the lower
  *                     triangle and the tail only; if no row lands, and after a refusal, it is as it was, bit for bit.
- * In:   nk, mk        the descendant's columns, at most 128, and rows below them, nk + mk at most 1024.
+ * In:   nk, mk        the descendant's columns, at most COLUMNS_MAX, and rows below them, nk + mk at most ROWS_MAX.
  *       kpanel        (nk + mk) * nk: its factored panel, column-major, the nk head rows first. The head is not read.
  *       kd, ksub      nk each: the diagonal and the subdiagonal of its D.
  *       kblocks       nk: its block bytes.

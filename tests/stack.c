@@ -164,19 +164,19 @@ static void three_rounds(size_t most)
 static void measure_factor(void)
 {
     pairs();
-    measure("factor 128 x 1024, nb 64, blocks", factor, 0);
+    measure("largest factor, blocks", factor, 0);
     check(blocks[0] == 1 && blocks[COLS - 2] == 1, "blocks", "taken");
     three_rounds(MISUKTAAN_LIMIT_MAX);
-    measure("factor 128 x 1024, nb 64, a block lifted", factor, 0);
+    measure("largest factor, a block lifted", factor, 0);
     check(blocks[0] == 1 && lifted[0] == 1, "lifted block", "taken");
     three_rounds(2);
-    measure("factor 128 x 1024, nb 64, refusal 8", factor, 8);
+    measure("largest factor, refusal 8", factor, 8);
     pairs();
     *at(1, 0) = 1e160;
-    measure("factor 128 x 1024, nb 64, refusal 9", factor, 9);
+    measure("largest factor, refusal 9", factor, 9);
     for (size_t of_width = 1; of_width <= WIDTH; of_width += WIDTH - 1) {
         char what[80];
-        int prefix = snprintf(what, sizeof what, "factor 128 x 1024, nb %zu, ", of_width);
+        int prefix = snprintf(what, sizeof what, "largest factor, nb %zu, ", of_width);
         char *rest = what + prefix;
         size_t room = sizeof what - (size_t)prefix;
 
@@ -234,18 +234,18 @@ static void measure_others(void)
     pairs();
     (void)factor();
     memcpy(descendant, panel, sizeof panel);
-    measure("inertia of 128", inertia, 0);
+    measure("largest inertia", inertia, 0);
     for (size_t i = 0; i < ENTRIES; i++) {
         entry_rows[i] = ROWS - 1 - i % BELOW;
         entry_cols[i] = i % COLS;
         entries[i] = 1.0;
     }
-    measure("assemble 1000 entries in 128 x 1024", assemble, 0);
+    measure("assemble 1000 entries in the largest node", assemble, 0);
     for (uint32_t i = 0; i < ROWS; i++) {
         rows[i] = i;
     }
     memcpy(below, rows, sizeof below);
-    within("update 128 x 1024 by 128 x 1024", update, 0, MISUKTAAN_UPDATE_STACK);
+    within("update of the largest by the largest", update, 0, MISUKTAAN_UPDATE_STACK);
 }
 
 int main(void)

@@ -120,6 +120,8 @@ struct call {
     size_t number;
 };
 
+enum { COLS = MISUKTAAN_COLUMNS_MAX, ROWS = MISUKTAAN_ROWS_MAX, WIDTH = MISUKTAAN_WIDTH_MAX };
+
 #define FAIL false, 0.0, 0
 #define LIFT(floor, limit) true, floor, limit
 
@@ -134,10 +136,10 @@ static const struct call calls[] = {
     {"20 x 50: blocks in panels of 10", 20, 50, 10, FAIL, hollow, 0},
     {"31 x 47 in panels of 8", 31, 47, 8, FAIL, mixed, 0},
     {"32 x 256", 32, 256, 32, FAIL, dominant, 0},
-    {"128 x 128", 128, 128, 64, FAIL, mixed, 0},
-    {"128 x 1024", 128, 1024, 64, FAIL, dominant, 0},
-    {"21 x 40: lifts", 21, 40, 6, LIFT(0.5, 64), faint, 0},
-    {"21 x 40: lifts of blocks", 21, 40, 21, LIFT(3.0, 64), block_last, 0},
+    {"the largest head", COLS, COLS, WIDTH, FAIL, mixed, 0},
+    {"the largest node", COLS, ROWS, WIDTH, FAIL, dominant, 0},
+    {"21 x 40: lifts", 21, 40, 6, LIFT(0.5, MISUKTAAN_LIMIT_MAX), faint, 0},
+    {"21 x 40: lifts of blocks", 21, 40, 21, LIFT(3.0, MISUKTAAN_LIMIT_MAX), block_last, 0},
     {"21 x 21: a sum that overflows", 21, 21, 8, FAIL, great, 0},
     {"21 x 60: marks", 21, 60, 21, FAIL, long_tail, 0},
     {"6: a not-a-number", 40, 60, 16, FAIL, not_finite, 6},

@@ -24,9 +24,12 @@ static void check(bool ok, const char *what, const char *of)
     }
 }
 
-/* ---- the block of memory */
+/* One more than the limits. */
+enum { COLUMNS = MISUKTAAN_COLUMNS_MAX + 1, ROWS = MISUKTAAN_ROWS_MAX + 1 };
 
-enum { WORD = 8, GAP = 4 * WORD, BYTES = 4 << 20 };
+/* ---- the block of memory, with room for the buffers of the largest node */
+
+enum { WORD = 8, GAP = 4 * WORD, BYTES = 4 * WORD * MISUKTAAN_ROWS_MAX * MISUKTAAN_COLUMNS_MAX };
 
 static unsigned char *memory, *expected;
 static size_t used;
@@ -188,14 +191,14 @@ static void given_up(const char *what, struct node n, size_t number, size_t a)
 
 static void sizes(void)
 {
-    turned_away("1: 129 columns", node(129, 129, 1), 1, 0, 0);
-    turned_away("1: 1025 rows", node(1, 1025, 1), 1, 0, 0);
+    turned_away("1: too many columns", node(COLUMNS, COLUMNS, 1), 1, 0, 0);
+    turned_away("1: too many rows", node(1, ROWS, 1), 1, 0, 0);
     turned_away("1: more columns than rows", node(2, 1, 1), 1, 0, 0);
     struct node n = node(2, 2, 2);
     n.ncol = n.nrow = SIZE_MAX;
     turned_away("1: the greatest sizes", n, 1, 0, 0);
     turned_away("2: width 0", node(2, 3, 0), 2, 0, 0);
-    turned_away("2: width 65", node(2, 3, 65), 2, 0, 0);
+    turned_away("2: too wide", node(2, 3, MISUKTAAN_WIDTH_MAX + 1), 2, 0, 0);
     n = node(2, 2, 2);
     n.nb = SIZE_MAX;
     turned_away("2: the greatest width", n, 2, 0, 0);
@@ -223,7 +226,7 @@ static void modes(void)
     for (size_t i = 0; i < sizeof floors / sizeof floors[0]; i++) {
         turned_away("4: floor", lifting(node(2, 3, 2), floors[i], 1), 4, 0, 0);
     }
-    const size_t limits[] = {0, 65, SIZE_MAX};
+    const size_t limits[] = {0, MISUKTAAN_LIMIT_MAX + 1, SIZE_MAX};
     for (size_t i = 0; i < sizeof limits / sizeof limits[0]; i++) {
         turned_away("5: limit", lifting(node(2, 3, 2), 0.5, limits[i]), 5, 0, 0);
     }
@@ -304,8 +307,8 @@ static void counts(void)
         p.len[i] = 2;
         refused("19: lengths differ", inertia(&p), 19, 0, 0);
     }
-    struct pivots p = pivots(129);
-    refused("19: 129 columns", inertia(&p), 19, 0, 0);
+    struct pivots p = pivots(COLUMNS);
+    refused("19: too many columns", inertia(&p), 19, 0, 0);
     p.blocks[0] = 2;
     refused("19 before 16", inertia(&p), 19, 0, 0);
     p = pivots(3);
@@ -316,9 +319,9 @@ static void counts(void)
     refused("16: a block of one column", inertia(&p), 16, 2, 0);
     p.blocks[1] = 1;
     refused("16: a 1 before a 1", inertia(&p), 16, 1, 0);
-    p = pivots(128);
-    accepted("128 columns", inertia(&p), 128, 0, 0);
-    check(as_expected(), "128 columns", "memory");
+    p = pivots(MISUKTAAN_COLUMNS_MAX);
+    accepted("the most columns", inertia(&p), MISUKTAAN_COLUMNS_MAX, 0, 0);
+    check(as_expected(), "the most columns", "memory");
     p = pivots(2);
     p.blocks[0] = 1;
     p.d[0] = p.d[1] = 0.0;
@@ -363,7 +366,7 @@ static struct misuktaan_outcome assemble(const struct entries *e)
 
 static void assemblies(void)
 {
-    const size_t shapes[][2] = {{129, 129}, {1, 1025}, {2, 1}, {SIZE_MAX, SIZE_MAX}};
+    const size_t shapes[][2] = {{COLUMNS, COLUMNS}, {1, ROWS}, {2, 1}, {SIZE_MAX, SIZE_MAX}};
     for (size_t i = 0; i < 4; i++) {
         struct entries e = entries();
         e.ncol = shapes[i][0];
@@ -453,9 +456,9 @@ static void update_lengths(void)
         u.len[i]--;
         refused("13: length", apply(&u), 13, 0, 0);
     }
-    const size_t shapes[][4] = {{129, 129, 2, 3}, {1, 1025, 2, 3},   {2, 1, 2, 3},
-                                {2, 4, 129, 3},   {2, 4, 2, 1023},   {SIZE_MAX, SIZE_MAX, 2, 3},
-                                {2, 4, SIZE_MAX, 3}, {2, 4, 2, SIZE_MAX}};
+    const size_t shapes[][4] = {{COLUMNS, COLUMNS, 2, 3}, {1, ROWS, 2, 3},         {2, 1, 2, 3},
+                                {2, 4, COLUMNS, 3},       {2, 4, 2, ROWS - 2}, {SIZE_MAX, SIZE_MAX, 2, 3},
+                                {2, 4, SIZE_MAX, 3},      {2, 4, 2, SIZE_MAX}};
     for (size_t i = 0; i < sizeof shapes / sizeof shapes[0]; i++) {
         struct update u = update();
         u.ncol = shapes[i][0];
@@ -560,8 +563,9 @@ static void upper_kept(void)
 
 static void bounds(void)
 {
-    struct node n = lifting(node(128, 1024, 64), 0.5, 64);
-    accepted("the greatest sizes", factor(&n), 128, 0, 0);
+    struct node n = node(MISUKTAAN_COLUMNS_MAX, MISUKTAAN_ROWS_MAX, MISUKTAAN_WIDTH_MAX);
+    n = lifting(n, 0.5, MISUKTAAN_LIMIT_MAX);
+    accepted("the greatest sizes", factor(&n), MISUKTAAN_COLUMNS_MAX, 0, 0);
     n = node_of(0, 3, NULL);
     accepted("no columns", factor(&n), 0, 0, 0);
     const size_t *order = n.at[ORDER];

@@ -58,11 +58,11 @@ impl Refusal {
     /// The condition in words.
     pub fn condition(&self) -> &'static str {
         match self.number {
-            1 => "ncol > 128, nrow > 1024 or nrow < ncol",
-            2 => "the panel width is 0 or above 64",
+            1 => "ncol > COLUMNS_MAX, nrow > ROWS_MAX or nrow < ncol",
+            2 => "the panel width is 0 or above WIDTH_MAX",
             3 => "a buffer's length differs from its stated one",
             4 => "the floor is not finite or not above zero",
-            5 => "the round limit is 0 or above 64",
+            5 => "the round limit is 0 or above LIMIT_MAX",
             6 => "a lower or tail number of the input is not finite",
             7 => "a zero column, a zero 1x1 pivot, or a block whose determinant is at most its growth floor",
             8 => "a block needs more rounds than the limit",
@@ -76,7 +76,7 @@ impl Refusal {
             16 => "a block byte is not 0 or 1, or a 1 stands last or right before another 1",
             17 => "a row at or past the first landing is absent from the target",
             18 => "a number of the descendant that is read is not finite",
-            19 => "the three lists differ in length or exceed 128",
+            19 => "the three lists differ in length or exceed COLUMNS_MAX",
             _ => "not a refusal",
         }
     }
@@ -145,22 +145,23 @@ impl Mode {
 /// The settings of a factor call.
 #[derive(Clone, Copy, Debug, PartialEq)]
 pub struct Settings {
-    /// Columns, 0 to 128.
+    /// Columns, 0 to [`COLUMNS_MAX`].
     pub ncol: usize,
-    /// Rows, `ncol` to 1024.
+    /// Rows, `ncol` to [`ROWS_MAX`].
     pub nrow: usize,
-    /// The panel width, 1 to 64, used as `min(nb, max(ncol, 1))`.
+    /// The panel width, 1 to [`WIDTH_MAX`], used as `min(nb, max(ncol, 1))`.
     pub nb: usize,
     /// What a pivot below the floor meets.
     pub mode: Mode,
-    /// The rounds that a block's lift may take, 1 to 64; not read in [`Mode::Fail`].
+    /// The rounds that a block's lift may take, 1 to [`LIMIT_MAX`]; not read in [`Mode::Fail`].
     pub limit: usize,
 }
 
 /// The length of a factor call's working buffer. Sizes that no call accepts give some number.
 ///
 /// ```
-/// assert_eq!(misuktaan::work_len(1024, 64), 203_776);
+/// use misuktaan::{work_len, ROWS_MAX, WIDTH_MAX};
+/// assert_eq!(work_len(ROWS_MAX, WIDTH_MAX), 203_776);
 /// ```
 pub const fn work_len(nrow: usize, nb: usize) -> usize {
     nrow.saturating_mul(3).saturating_mul(nb.saturating_add(1)).saturating_add(nb.saturating_mul(nb))
@@ -276,7 +277,7 @@ pub fn factor(settings: &Settings, input: &[f64], buffers: Buffers<'_>) -> Resul
 // ---- inertia
 
 /// Counts the eigenvalues of D by sign. The three lists are those that a factor call gives, of one length of at
-/// most 128; their numbers may be anything.
+/// most [`COLUMNS_MAX`]; their numbers may be anything.
 ///
 /// ```
 /// // one block [0, 1; 0]
@@ -343,9 +344,9 @@ pub struct Target<'a> {
 /// A factored descendant.
 #[derive(Clone, Copy, Debug)]
 pub struct Descendant<'a> {
-    /// Columns, at most 128.
+    /// Columns, at most [`COLUMNS_MAX`].
     pub nk: usize,
-    /// Rows below them; `nk + mk` is at most 1024.
+    /// Rows below them; `nk + mk` is at most [`ROWS_MAX`].
     pub mk: usize,
     /// `(nk + mk) * nk`: the factored panel, its head rows first. The head is not read.
     pub panel: &'a [f64],

@@ -4,9 +4,14 @@ mod common;
 
 use common::{bits, patterns, place, Call};
 use misuktaan::{assemble, inertia, update, Descendant, Entries, Factors, Target};
+use misuktaan::{COLUMNS_MAX, LIMIT_MAX, ROWS_MAX, WIDTH_MAX};
 
 const INF: f64 = f64::INFINITY;
 const NAN: f64 = f64::NAN;
+
+/// One more than the limits.
+const COLUMNS: usize = COLUMNS_MAX + 1;
+const ROWS: usize = ROWS_MAX + 1;
 
 /// An accepted call of two columns and three rows.
 fn sound() -> Call {
@@ -17,8 +22,8 @@ fn sound() -> Call {
 
 #[test]
 fn refusal_1() {
-    Call::wide(129, 129, 1, &[1.0; 129 * 130 / 2]).turned_away(1, 0, 0);
-    Call::wide(1, 1025, 1, &[1.0; 1025]).turned_away(1, 0, 0);
+    Call::wide(COLUMNS, COLUMNS, 1, &[1.0; COLUMNS * (COLUMNS + 1) / 2]).turned_away(1, 0, 0);
+    Call::wide(1, ROWS, 1, &[1.0; ROWS]).turned_away(1, 0, 0);
     Call::wide(2, 1, 1, &[1.0]).turned_away(1, 0, 0);
     let mut call = sound();
     (call.settings.ncol, call.settings.nrow) = (usize::MAX, usize::MAX);
@@ -27,7 +32,7 @@ fn refusal_1() {
 
 #[test]
 fn refusal_2() {
-    for nb in [0, 65, usize::MAX] {
+    for nb in [0, WIDTH_MAX + 1, usize::MAX] {
         let mut call = sound();
         call.settings.nb = nb;
         call.turned_away(2, 0, 0);
@@ -70,7 +75,7 @@ fn refusal_4() {
 
 #[test]
 fn refusal_5() {
-    for limit in [0, 65, usize::MAX] {
+    for limit in [0, LIMIT_MAX + 1, usize::MAX] {
         sound().lifting(0.5, limit).turned_away(5, 0, 0);
     }
 }
@@ -147,7 +152,7 @@ fn not_assembled(
 
 #[test]
 fn refusal_10() {
-    for (ncol, nrow) in [(129, 129), (1, 1025), (2, 1), (usize::MAX, usize::MAX)] {
+    for (ncol, nrow) in [(COLUMNS, COLUMNS), (1, ROWS), (2, 1), (usize::MAX, usize::MAX)] {
         assert_eq!(not_assembled(ncol, nrow, &[0], &[0], &[1.0], 2), (10, 0, 0));
     }
     assert_eq!(not_assembled(1, 2, &[0, 1], &[0], &[1.0], 2), (10, 0, 0));
@@ -244,7 +249,8 @@ impl Update {
 
 #[test]
 fn refusal_13() {
-    let shapes = [(129, 129, 2, 3), (1, 1025, 2, 3), (2, 1, 2, 3), (2, 4, 129, 3), (2, 4, 2, 1023)];
+    let below = ROWS_MAX - 1;
+    let shapes = [(COLUMNS, COLUMNS, 2, 3), (1, ROWS, 2, 3), (2, 1, 2, 3), (2, 4, COLUMNS, 3), (2, 4, 2, below)];
     let greatest = [(usize::MAX, usize::MAX, 2, 3), (2, 4, usize::MAX, 3), (2, 4, 2, usize::MAX)];
     for shape in shapes.into_iter().chain(greatest) {
         assert_eq!(Update::changed(|u| (u.ncol, u.nrow, u.nk, u.mk) = shape), (13, 0, 0));
@@ -325,7 +331,7 @@ fn refusal_19() {
     assert_eq!(count(2, 3, 3), Err((19, 0, 0)));
     assert_eq!(count(3, 2, 3), Err((19, 0, 0)));
     assert_eq!(count(3, 3, 2), Err((19, 0, 0)));
-    assert_eq!(count(129, 129, 129), Err((19, 0, 0)));
+    assert_eq!(count(COLUMNS, COLUMNS, COLUMNS), Err((19, 0, 0)));
 }
 
 // ---- words

@@ -4,6 +4,7 @@ mod common;
 
 use common::{bits, Call};
 use misuktaan::{assemble, inertia, leaves, update, Descendant, Entries, Inertia, Target};
+use misuktaan::{COLUMNS_MAX, LIMIT_MAX, ROWS_MAX, WIDTH_MAX};
 
 fn counts(positive: usize, negative: usize, zero: usize) -> Inertia {
     Inertia { positive, negative, zero }
@@ -78,7 +79,8 @@ fn inertia_alone() {
     assert_eq!(inertia(&[0.0, 0.0], &[0.0, 0.0], &[1, 0]), Ok(counts(1, 0, 1)));
     assert_eq!(inertia(&[f64::NAN], &[0.0], &[0]), Ok(counts(0, 0, 1)));
     assert_eq!(inertia(&[], &[], &[]), Ok(counts(0, 0, 0)));
-    assert_eq!(inertia(&[-1.0; 128], &[0.0; 128], &[0; 128]), Ok(counts(0, 128, 0)));
+    let all = inertia(&[-1.0; COLUMNS_MAX], &[0.0; COLUMNS_MAX], &[0; COLUMNS_MAX]);
+    assert_eq!(all, Ok(counts(0, COLUMNS_MAX, 0)));
 }
 
 #[test]
@@ -131,14 +133,16 @@ fn entries_are_added_as_listed() {
 
 #[test]
 fn the_bounds() {
-    let unit = |ncol: usize, nrow: usize| -> Vec<f64> {
-        (0..ncol).flat_map(|j| (j..nrow).map(move |i| if i == j { 1.0 } else { 0.0 })).collect()
+    let unit = |ncol: usize, nb: usize, limit: usize| -> Call {
+        let lower: Vec<f64> =
+            (0..ncol).flat_map(|j| (j..ROWS_MAX).map(move |i| if i == j { 1.0 } else { 0.0 })).collect();
+        Call::wide(ncol, ROWS_MAX, nb, &lower).lifting(0.5, limit)
     };
-    let mut call = Call::wide(128, 1024, 64, &unit(128, 1024)).lifting(0.5, 64);
-    assert_eq!(call.run().unwrap().inertia, counts(128, 0, 0));
-    Call::wide(129, 1024, 64, &unit(129, 1024)).lifting(0.5, 64).turned_away(1, 0, 0);
-    Call::wide(128, 1024, 65, &unit(128, 1024)).lifting(0.5, 64).turned_away(2, 0, 0);
-    Call::wide(128, 1024, 64, &unit(128, 1024)).lifting(0.5, 65).turned_away(5, 0, 0);
+    let mut call = unit(COLUMNS_MAX, WIDTH_MAX, LIMIT_MAX);
+    assert_eq!(call.run().unwrap().inertia, counts(COLUMNS_MAX, 0, 0));
+    unit(COLUMNS_MAX + 1, WIDTH_MAX, LIMIT_MAX).turned_away(1, 0, 0);
+    unit(COLUMNS_MAX, WIDTH_MAX + 1, LIMIT_MAX).turned_away(2, 0, 0);
+    unit(COLUMNS_MAX, WIDTH_MAX, LIMIT_MAX + 1).turned_away(5, 0, 0);
 }
 
 #[test]
