@@ -48,10 +48,12 @@ place-twice p q i =
     (λ f. rw (f, eq-eqb p p refl) (sym (eqb-true i q f)))
     (λ f. rw (f, e, f))))
 
-place-past : (n p q i : ℕ) → p < n → q < n → n ≤ i → exchangedPlace p q i ≡ i
+-- an exchange of two places below n moves nothing at or past n
+pub place-past : (n p q i : ℕ) → p < n → q < n → n ≤ i → exchangedPlace p q i ≡ i
 place-past n p q i hp hq h = rw (ne-eqb i p (λ e. omega arith), ne-eqb i q (λ e. omega arith))
 
-swapped-permutes : (n : ℕ) (f : ℕ → ℕ) (p q : ℕ) → p < n → q < n → Permutes n f → Permutes n (swapped f p q)
+-- an exchange of two places below n leaves a permutation
+pub swapped-permutes : (n : ℕ) (f : ℕ → ℕ) (p q : ℕ) → p < n → q < n → Permutes n f → Permutes n (swapped f p q)
 unfolding swapped
 swapped-permutes n f p q hp hq w = record {
   inverse = λ i. exchangedPlace p q (w .inverse i);
@@ -67,7 +69,8 @@ pub record Kept (ncol k : ℕ) (p : Pivots) : Type 0 where
   pub order : Permutes ncol (p .notes .order)
   pub recorded : Recorded k (p .diagonals .blocks) (p .partners)
 
-noted-kept : (ncol ke limit k : ℕ) (p : Pivots) (v : Pivot) → ke ≤ ncol → GoodPivot ke limit k v → Kept ncol k p
+-- a step keeps both
+pub noted-kept : (ncol ke limit k : ℕ) (p : Pivots) (v : Pivot) → ke ≤ ncol → GoodPivot ke limit k v → Kept ncol k p
     → Kept ncol (lastOf k (isBlock (v .diagonal)) + 1) (noted p k (lastOf k (isBlock (v .diagonal))) v)
 unfolding noted
 noted-kept ncol ke limit k p v h g w = record {
@@ -76,27 +79,34 @@ noted-kept ncol ke limit k p v h g w = record {
   recorded = noted-recorded ke limit k p v g (w .recorded);
 }
 
+-- a panel keeps both
 pub panel-kept : (ncol ke : ℕ) (mode : Mode) (limit n k : ℕ) (s : State) → k ≤ ke → ke ≤ ncol → ke - k ≤ n → Kept ncol k (s .pivots)
     → Reached (Kept ncol) ke (panelOf ke mode limit n k s)
 panel-kept ncol ke mode limit n k s h l f w =
     panel-reached ke mode limit (Kept ncol) (λ j p v g x. noted-kept ncol ke limit j p v l g x) n k s h f w
 
+-- where a run was done, both hold at its end
 abbrev pub AtEnd : ℕ → Run → Type 0
 AtEnd ncol (head.refused n p) = Unit {0}
 AtEnd ncol (done s ps) = Kept ncol ncol (s .pivots)
 
-with-panel-kept : (ncol : ℕ) (p : Panel) (r : Run) → AtEnd ncol r → AtEnd ncol (withPanel p r)
+-- a panel in front of a run changes nothing of its end
+pub with-panel-kept : (ncol : ℕ) (p : Panel) (r : Run) → AtEnd ncol r → AtEnd ncol (withPanel p r)
 with-panel-kept ncol p (head.refused n q) w = tt
 with-panel-kept ncol p (done s ps) w = w
 
-continued-kept : (ncol ke : ℕ) (g : Progress) (f : State → Run) → Reached (Kept ncol) ke g → ((t : State) → Kept ncol ke (t .pivots) → AtEnd ncol (f t)) → AtEnd ncol (continued g f)
+-- what a panel reached, the rest of the run goes on from
+pub continued-kept : (ncol ke : ℕ) (g : Progress) (f : State → Run) → Reached (Kept ncol) ke g
+    → ((t : State) → Kept ncol ke (t .pivots) → AtEnd ncol (f t)) → AtEnd ncol (continued g f)
 continued-kept ncol ke (stopped n p) f e next = tt
 continued-kept ncol ke (going k s) f e next = next s (e .1)
 
-same-pivots : (ncol k : ℕ) (p : Panel) (u : State) → Kept ncol k (u .pivots) → Kept ncol k (passed p u .pivots)
+-- the later columns of a panel leave the pivots as they are
+pub same-pivots : (ncol k : ℕ) (p : Panel) (u : State) → Kept ncol k (u .pivots) → Kept ncol k (passed p u .pivots)
 unfolding passed
 same-pivots ncol k p u w = w
 
+-- panels in turn keep both
 pub panels-kept : (mode : Mode) (limit ncol nb n kb : ℕ) (s : State) → 1 ≤ nb → kb ≤ ncol → ncol - kb ≤ n → Kept ncol kb (s .pivots) → AtEnd ncol (panelsOf mode limit ncol nb n kb s)
 unfolding panelsOf
 panels-kept mode limit ncol nb zero kb s b h f w = let e : kb ≡ ncol = omega arith in subst (λ (m : ℕ). Kept ncol m (s .pivots)) e w
@@ -130,9 +140,11 @@ pub record Accepted (x : Call) : Type 0 where
   pub entry : PastEntry x
   pub head : headAnswerOf (x .settings .mode) (x .settings .limit) (x .settings .ncol) (x .settings .nb) (view (x .settings .nrow) (x .input)) ≡ stands state panels
 
-refused-not : (n p q : ℕ) (r : Report) (a : Said Report) → a ≡ refused n p q → a ≡ accepted r → ⊥
+-- no answer is a refusal and an acceptance
+pub refused-not : (n p q : ℕ) (r : Report) (a : Said Report) → a ≡ refused n p q → a ≡ accepted r → ⊥
 refused-not n p q r a e f = let w : _≡_ {A = ℕ} 0 1 = cc in omega arith
 
+-- a call that answers acceptance is one
 pub accepted-is : (x : Call) (r : Report) → outcomeOf x .answer ≡ accepted r → Accepted x
 unfolding factorOf
 accepted-is x r e = by-check (entryCheck (x .settings) (x .input) (x .lent)) refl
@@ -153,7 +165,7 @@ accepted-is x r e = by-check (entryCheck (x .settings) (x .input) (x .lent)) ref
     by-check (stop n p q) h = absurd (refused-not n p q r (outcomeOf x .answer) (ap (λ (k : Check). answerBy k headOfCall) h) e)
 
 -- the run of a head that stands was done
-stands-kept : (ncol : ℕ) (g : Run) (s : State) (ps : List Panel) → AtEnd ncol g → judgedRun ncol g ≡ stands s ps → Kept ncol ncol (s .pivots)
+pub stands-kept : (ncol : ℕ) (g : Run) (s : State) (ps : List Panel) → AtEnd ncol g → judgedRun ncol g ≡ stands s ps → Kept ncol ncol (s .pivots)
 stands-kept ncol (head.refused n p) s ps w e = absurd (let z : _≡_ {A = ℕ} 0 1 = cc in omega arith)
 stands-kept ncol (done t qs) s ps w e = by-check (resultCheck ncol (t .pivots .diagonals) (t .a) ncol 0) e
   where
@@ -161,6 +173,7 @@ stands-kept ncol (done t qs) s ps w e = by-check (resultCheck ncol (t .pivots .d
     by-check sound h = let z : t ≡ s = cc in subst (λ (u : State). Kept ncol ncol (u .pivots)) z w
     by-check (stop n p q) h = absurd (let z : _≡_ {A = ℕ} 0 1 = cc in omega arith)
 
+-- its order and block bytes at the end
 pub accepted-kept : (x : Call) (w : Accepted x) → Kept (x .settings .ncol) (x .settings .ncol) (w .state .pivots)
 unfolding headAnswerOf
 accepted-kept x w =
@@ -172,7 +185,8 @@ accepted-kept x w =
     passed-entry = entry-passed (x .settings) (x .input) (x .lent) (w .entry)
 
 -- what it leaves
-accepted-leaves : (x : Call) (w : Accepted x) → outcomeOf x ≡ afterHead (stands (w .state) (w .panels)) (x .settings) (view (x .settings .nrow) (x .input)) (x .lent)
+pub accepted-leaves : (x : Call) (w : Accepted x)
+    → outcomeOf x ≡ afterHead (stands (w .state) (w .panels)) (x .settings) (view (x .settings .nrow) (x .input)) (x .lent)
 accepted-leaves x w =
     past-entry (x .settings) (x .input) (x .lent) (w .entry)
     ∙ ap (λ (h : HeadAnswer). afterHead h (x .settings) (view (x .settings .nrow) (x .input)) (x .lent)) (w .head)
@@ -186,7 +200,8 @@ pub record Ordered (ncol nrow : ℕ) (order : List ℕ) : Type 0 where
   pub distinct : (i j : ℕ) → i < nrow → j < nrow → bytes order i ≡ bytes order j → i ≡ j
   pub tail : (i : ℕ) → ncol ≤ i → i < nrow → bytes order i ≡ i
 
-ordered : (ncol nrow : ℕ) (f : ℕ → ℕ) → ncol ≤ nrow → Permutes ncol f → Ordered ncol nrow (tabulate nrow f)
+-- a list made of such a permutation is one
+pub ordered : (ncol nrow : ℕ) (f : ℕ → ℕ) → ncol ≤ nrow → Permutes ncol f → Ordered ncol nrow (tabulate nrow f)
 unfolding bytes
 ordered ncol nrow f l w = record {
   all = length-tabulateFrom 0 nrow f;
@@ -203,6 +218,7 @@ ordered ncol nrow f l w = record {
         test (ltb (f i) nrow) (λ t. ltb-true (f i) nrow t)
         (λ t. let g : nrow ≤ f i = ltb-false (f i) nrow t in let same : f i ≡ i = injective (f i) i (w .fixes (f i) (omega arith)) in omega arith)
 
+-- its order
 pub accepted-ordered : (x : Call) → Accepted x → Ordered (x .settings .ncol) (x .settings .nrow) (outcomeOf x .buffers .order)
 accepted-ordered x w =
     let p : Passed (x .settings) (x .input) (x .lent) = entry-passed (x .settings) (x .input) (x .lent) (w .entry) in
@@ -211,7 +227,8 @@ accepted-ordered x w =
 
 -- ---- the block bytes
 
-sound-at : (f : ℕ → ℕ) (n k : ℕ) → Paired n f → k < n → byteSound f n k ≡ true
+-- a well-formed byte is sound
+pub sound-at : (f : ℕ → ℕ) (n k : ℕ) → Paired n f → k < n → byteSound f n k ≡ true
 unfolding byteSound
 sound-at f n k w h =
     rw (le-leb (f k) 1 (w .byte k h)) (test (eqb (f k) 1)
@@ -220,12 +237,14 @@ sound-at f n k w h =
     rw (t, ne-eqb (k + 1) n (λ x. omega (arith, w .room k h e)), ne-eqb (f (k + 1)) 1 (λ x. omega arith)))
     (λ t. rw t))
 
+-- so are all of them
 pub bytes-sound : (f : ℕ → ℕ) (n m k : ℕ) → k + m ≤ n → Paired n f → bytesFrom f n m k ≡ sound
 unfolding bytesFrom
 bytes-sound f n zero k h w = refl
 bytes-sound f n (suc m) k h w = rw (sound-at f n k w (omega arith)) (bytes-sound f n m (k + 1) (omega arith) w)
 
-tabulated-paired : (n : ℕ) (f : ℕ → ℕ) → Paired n f → Paired n (bytes (tabulate n f))
+-- a list made of well-formed bytes holds them
+pub tabulated-paired : (n : ℕ) (f : ℕ → ℕ) → Paired n f → Paired n (bytes (tabulate n f))
 unfolding bytes
 tabulated-paired n f w = record {
   byte = λ c h. subst (λ (v : ℕ). v ≤ 1) (sym (getD-tabulate n c f 0 h)) (w .byte c h);

@@ -22,89 +22,107 @@ use Rattle.model.proofs.Entry.{Passed, passed, past-entry}
 
 -- ---- the head and a row are cut before anything looks at them
 
-where-same : (t : Bool) (x y z : Float) → (t ≡ true → x ≡ y) → cond t x z ≡ cond t y z
+-- two numbers that agree wherever they are looked at
+pub where-same : (t : Bool) (x y z : Float) → (t ≡ true → x ≡ y) → cond t x z ≡ cond t y z
 where-same true x y z h = h refl
 where-same false x y z h = refl
 
-same-head : (n : ℕ) (a b : Mat) → ((i j : ℕ) → j ≤ i → i < n → a i j ≡ b i j) → headOf n a ≡ headOf n b
+-- equal lower triangles of n rows are one head
+pub same-head : (n : ℕ) (a b : Mat) → ((i j : ℕ) → j ≤ i → i < n → a i j ≡ b i j) → headOf n a ≡ headOf n b
 unfolding headOf
 same-head n a b h =
     fun-ext λ i. fun-ext λ j. where-same (leb j i && ltb i n) (a i j) (b i j) zeroF (λ t.
     h i j (leb-true j i (and-left (leb j i) (ltb i n) t)) (ltb-true i n (and-right (leb j i) (ltb i n) t)))
 
-same-row : (n : ℕ) (r s : Row) → ((j : ℕ) → j < n → r j ≡ s j) → rowOf n r ≡ rowOf n s
+-- rows that are equal in n columns are one row
+pub same-row : (n : ℕ) (r s : Row) → ((j : ℕ) → j < n → r j ≡ s j) → rowOf n r ≡ rowOf n s
 unfolding rowOf
 same-row n r s h = fun-ext λ j. where-same (ltb j n) (r j) (s j) zeroF (λ t. h j (ltb-true j n t))
 
-headOf-answer : (mode : Mode) (limit n nb : ℕ) (a b : Mat) → headOf n a ≡ headOf n b → headAnswerOf mode limit n nb a ≡ headAnswerOf mode limit n nb b
+-- the head's answer takes nothing but the head
+pub headOf-answer : (mode : Mode) (limit n nb : ℕ) (a b : Mat) → headOf n a ≡ headOf n b → headAnswerOf mode limit n nb a ≡ headAnswerOf mode limit n nb b
 unfolding headAnswerOf headRunOf
 headOf-answer mode limit n nb a b e = rw e
 
-rowOf-factor : (n : ℕ) (ps : List Panel) (r s : Row) → rowOf n r ≡ rowOf n s → factorRowOf n ps r ≡ factorRowOf n ps s
+-- a factor row takes nothing but the n columns of its row
+pub rowOf-factor : (n : ℕ) (ps : List Panel) (r s : Row) → rowOf n r ≡ rowOf n s → factorRowOf n ps r ≡ factorRowOf n ps s
 unfolding factorRowOf
 rowOf-factor n ps r s e = rw e
 
 -- ---- what stands where
 
-view-zeros : (n c len : ℕ) → len ≡ n * c → (i j : ℕ) → i < n → j < c → view n (replicate len zeroF) i j ≡ zeroF
+-- a panel of zeros, at a row and a column
+pub view-zeros : (n c len : ℕ) → len ≡ n * c → (i j : ℕ) → i < n → j < c → view n (replicate len zeroF) i j ≡ zeroF
 unfolding view
 view-zeros n c len e i j hi hj = rw (lt-ltb i n hi) (getD-replicate len (i + j * n) zeroF nan (omega (arith, off-lt n c i j hi hj)))
 
-bytes-zeros : (n len : ℕ) → len ≡ n → (k : ℕ) → k < n → bytes (replicate len 0) k ≡ 0
+-- a list of zeros, at a place
+pub bytes-zeros : (n len : ℕ) → len ≡ n → (k : ℕ) → k < n → bytes (replicate len 0) k ≡ 0
 unfolding bytes
 bytes-zeros n len e k h = getD-replicate len k 0 0 (omega arith)
 
-bytes-tabulate : (n k : ℕ) (f : ℕ → ℕ) → k < n → bytes (tabulate n f) k ≡ f k
+-- a tabulated list, at a place
+pub bytes-tabulate : (n k : ℕ) (f : ℕ → ℕ) → k < n → bytes (tabulate n f) k ≡ f k
 unfolding bytes
 bytes-tabulate n k f h = getD-tabulate n k f 0 h
 
-entry-lower : (n : ℕ) (s : State) (ps : List Panel) (a : Mat) (i j : ℕ) → j ≤ i → i < n → factorEntry n s ps a i j ≡ s .a i j
+-- an entry of the head's lower triangle is the state's
+pub entry-lower : (n : ℕ) (s : State) (ps : List Panel) (a : Mat) (i j : ℕ) → j ≤ i → i < n → factorEntry n s ps a i j ≡ s .a i j
 unfolding factorEntry
 entry-lower n s ps a i j h l = rw (le-ltb i j h, lt-ltb i n l)
 
-entry-tail : (n : ℕ) (s : State) (ps : List Panel) (a : Mat) (i j : ℕ) → n ≤ i → j < n → factorEntry n s ps a i j ≡ factorRowOf n ps (a i) j
+-- an entry of a tail row is its factor row's
+pub entry-tail : (n : ℕ) (s : State) (ps : List Panel) (a : Mat) (i j : ℕ) → n ≤ i → j < n → factorEntry n s ps a i j ≡ factorRowOf n ps (a i) j
 unfolding factorEntry
 entry-tail n s ps a i j h l = rw (le-ltb i j (omega arith), le-ltb i n h)
 
 -- ---- a call by its head's answer
 
-abbrev given : Call → Mat
+-- the input as a matrix
+abbrev pub given : Call → Mat
 given z = view (z .settings .nrow) (z .input)
 
 -- what it leaves, by its head's answer
-abbrev leftBy : HeadAnswer → Call → Outcome
+abbrev pub leftBy : HeadAnswer → Call → Outcome
 leftBy h z = afterHead h (z .settings) (given z) (z .lent)
 
-abbrev PassedCall : Call → Type 0
+-- what the entry checks leave of a call
+abbrev pub PassedCall : Call → Type 0
 PassedCall z = Passed (z .settings) (z .input) (z .lent)
 
--- row i and column j of its panel where it fails, and where it stands
-panel-fails : (z : Call) (pz : PassedCall z) (n p : ℕ) → outcomeOf z ≡ leftBy (fails n p) z → (i j : ℕ) → i < z .settings .nrow → j < z .settings .ncol
+-- row i and column j of its panel where it fails
+pub panel-fails : (z : Call) (pz : PassedCall z) (n p : ℕ) → outcomeOf z ≡ leftBy (fails n p) z → (i j : ℕ) → i < z .settings .nrow → j < z .settings .ncol
     → view (z .settings .nrow) (outcomeOf z .buffers .panel) i j ≡ zeroF
 panel-fails z pz n p e i j h l =
     ap (λ (o : Outcome). view (z .settings .nrow) (o .buffers .panel) i j) e
     ∙ view-zeros (z .settings .nrow) (z .settings .ncol) (length (z .lent .panel)) (pz .lengths .panel) i j h l
 
-panel-stands : (z : Call) (s : State) (ps : List Panel) → outcomeOf z ≡ leftBy (stands s ps) z → (i j : ℕ) → i < z .settings .nrow → j < z .settings .ncol
+-- the same where it stands: an entry of the factor
+pub panel-stands : (z : Call) (s : State) (ps : List Panel) → outcomeOf z ≡ leftBy (stands s ps) z → (i j : ℕ) → i < z .settings .nrow → j < z .settings .ncol
     → view (z .settings .nrow) (outcomeOf z .buffers .panel) i j ≡ factorEntry (z .settings .ncol) s ps (given z) i j
 panel-stands z s ps e i j h l =
     ap (λ (o : Outcome). view (z .settings .nrow) (o .buffers .panel) i j) e
     ∙ view-columnMajor (z .settings .nrow) (z .settings .ncol) (factorEntry (z .settings .ncol) s ps (given z)) i j h l
 
--- place k of its order, and of its marks
-order-fails : (z : Call) (pz : PassedCall z) (n p : ℕ) → outcomeOf z ≡ leftBy (fails n p) z → (k : ℕ) → k < z .settings .nrow → bytes (outcomeOf z .buffers .order) k ≡ 0
+-- place k of its order where it fails
+pub order-fails : (z : Call) (pz : PassedCall z) (n p : ℕ) → outcomeOf z ≡ leftBy (fails n p) z → (k : ℕ) → k < z .settings .nrow
+    → bytes (outcomeOf z .buffers .order) k ≡ 0
 order-fails z pz n p e k l = ap (λ (o : Outcome). bytes (o .buffers .order) k) e ∙ bytes-zeros (z .settings .nrow) (length (z .lent .order)) (pz .lengths .order) k l
 
-order-stands : (z : Call) (s : State) (ps : List Panel) → outcomeOf z ≡ leftBy (stands s ps) z → (k : ℕ) → k < z .settings .nrow → bytes (outcomeOf z .buffers .order) k ≡ s .pivots .notes .order k
+-- the same where it stands: the state's order
+pub order-stands : (z : Call) (s : State) (ps : List Panel) → outcomeOf z ≡ leftBy (stands s ps) z → (k : ℕ) → k < z .settings .nrow
+    → bytes (outcomeOf z .buffers .order) k ≡ s .pivots .notes .order k
 order-stands z s ps e k l = ap (λ (o : Outcome). bytes (o .buffers .order) k) e ∙ bytes-tabulate (z .settings .nrow) k (s .pivots .notes .order) l
 
-mark-fails : (z : Call) (pz : PassedCall z) (n p : ℕ) → outcomeOf z ≡ leftBy (fails n p) z → (q : ℕ) → z .settings .ncol ≤ q → q < z .settings .nrow
+-- the mark of tail row q where it fails
+pub mark-fails : (z : Call) (pz : PassedCall z) (n p : ℕ) → outcomeOf z ≡ leftBy (fails n p) z → (q : ℕ) → z .settings .ncol ≤ q → q < z .settings .nrow
     → bytes (outcomeOf z .buffers .marks) (q - z .settings .ncol) ≡ 0
 mark-fails z pz n p e q h l =
     ap (λ (o : Outcome). bytes (o .buffers .marks) (q - z .settings .ncol)) e
     ∙ bytes-zeros (z .settings .nrow - z .settings .ncol) (length (z .lent .marks)) (pz .lengths .marks) (q - z .settings .ncol) (omega arith)
 
-mark-stands : (z : Call) (s : State) (ps : List Panel) → outcomeOf z ≡ leftBy (stands s ps) z → (q : ℕ) → z .settings .ncol ≤ q → q < z .settings .nrow
+-- the same where it stands: the mark of its factor row
+pub mark-stands : (z : Call) (s : State) (ps : List Panel) → outcomeOf z ≡ leftBy (stands s ps) z → (q : ℕ) → z .settings .ncol ≤ q → q < z .settings .nrow
     → bytes (outcomeOf z .buffers .marks) (q - z .settings .ncol) ≡ markOf (z .settings .ncol) (factorRowOf (z .settings .ncol) ps (given z q))
 mark-stands z s ps e q h l =
     ap (λ (o : Outcome). bytes (o .buffers .marks) (q - z .settings .ncol)) e
@@ -114,7 +132,7 @@ mark-stands z s ps e q h l =
 -- ---- the two calls
 
 -- a part of what two calls leave, from what each leaves
-through : {A : Type 0} (f : Outcome → A) (o p u v : Outcome) → o ≡ u → p ≡ v → f u ≡ f v → f o ≡ f p
+pub through : {A : Type 0} (f : Outcome → A) (o p u v : Outcome) → o ≡ u → p ≡ v → f u ≡ f v → f o ≡ f p
 through f o p u v e g h = ap f e ∙ h ∙ sym (ap f g)
 
 module _ (x y : Call) (px : PassedCall x) (py : PassedCall y) (cols : x .settings .ncol ≡ y .settings .ncol) where
@@ -124,7 +142,8 @@ module _ (x y : Call) (px : PassedCall x) (py : PassedCall y) (cols : x .setting
   bytes-same : (m n : ℕ) → m ≡ x .settings .ncol → n ≡ y .settings .ncol → replicate {A = ℕ} m 0 ≡ replicate {A = ℕ} n 0
   bytes-same m n e g = ap (λ (k : ℕ). replicate {A = ℕ} k 0) (e ∙ cols ∙ sym g)
 
-  same-outcome : (h : HeadAnswer) → outcomeOf x ≡ leftBy h x → outcomeOf y ≡ leftBy h y → SameHead x y
+  -- two calls whose heads have one answer leave the same of their heads
+  pub same-outcome : (h : HeadAnswer) → outcomeOf x ≡ leftBy h x → outcomeOf y ≡ leftBy h y → SameHead x y
   same-outcome (fails n p) ex ey = record {
     answer = through (λ (o : Outcome). o .answer) _ _ _ _ ex ey refl;
     d = through (λ (o : Outcome). o .buffers .d) _ _ _ _ ex ey (zeros-same _ _ (px .lengths .d) (py .lengths .d));
@@ -150,7 +169,8 @@ module _ (x y : Call) (px : PassedCall x) (py : PassedCall y) (cols : x .setting
         ∙ sym (panel-stands y s ps ey i j (omega (arith, py .head)) (omega arith) ∙ entry-lower (y .settings .ncol) s ps (given y) i j h (omega arith));
   }
 
-  same-tail-row : (h : HeadAnswer) → outcomeOf x ≡ leftBy h x → outcomeOf y ≡ leftBy h y → (p q : ℕ) → SameInput x y p q → SameTailRow x y p q
+  -- and tail rows that were given alike get the same factor row and mark
+  pub same-tail-row : (h : HeadAnswer) → outcomeOf x ≡ leftBy h x → outcomeOf y ≡ leftBy h y → (p q : ℕ) → SameInput x y p q → SameTailRow x y p q
   same-tail-row (fails n at) ex ey p q i = record {
     row = λ j l. panel-fails x px n at ex p j (i .inX) l ∙ sym (panel-fails y py n at ey q j (i .inY) (omega arith));
     mark = mark-fails x px n at ex p (i .tailOfX) (i .inX) ∙ sym (mark-fails y py n at ey q (i .tailOfY) (i .inY));
@@ -171,10 +191,11 @@ module _ (x y : Call) (px : PassedCall x) (py : PassedCall y) (cols : x .setting
       }
 
 -- the head's answer of a call past the entry checks
-abbrev headOfCall : Call → HeadAnswer
+abbrev pub headOfCall : Call → HeadAnswer
 headOfCall z = headAnswerOf (z .settings .mode) (z .settings .limit) (z .settings .ncol) (z .settings .nb) (given z)
 
-same-answer : (x y : Call) → Alike x y → headOfCall x ≡ headOfCall y
+-- calls that are alike have one head's answer
+pub same-answer : (x y : Call) → Alike x y → headOfCall x ≡ headOfCall y
 same-answer x y a =
     headOf-answer (x .settings .mode) (x .settings .limit) (x .settings .ncol) (x .settings .nb) (given x) (given y)
     (same-head (x .settings .ncol) (given x) (given y) (a .head))

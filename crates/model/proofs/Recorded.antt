@@ -14,39 +14,46 @@ use Rattle.model.specs.declared.Pivot.{Pivot}
 use Rattle.model.proofs.Cases.{test, cmp}
 use Rattle.model.proofs.Bounds.{Good, GoodPivot, try-good}
 
+-- a pivot's last column is not before its first
 pub last-from : (k : ℕ) (two : Bool) → k ≤ lastOf k two
 unfolding lastOf
 last-from k true = omega arith
 last-from k false = omega arith
 
-last-block : (k : ℕ) → lastOf k true ≡ k + 1
+-- a block's
+pub last-block : (k : ℕ) → lastOf k true ≡ k + 1
 unfolding lastOf
 last-block k = refl
 
-last-single : (k : ℕ) → lastOf k false ≡ k
+-- a 1x1's
+pub last-single : (k : ℕ) → lastOf k false ≡ k
 unfolding lastOf
 last-single k = refl
 
 -- ---- block bytes
 
 -- a step's bytes: 0 at its last column, then 1 at k for a block
-stepBytes : (ℕ → ℕ) → ℕ → Bool → ℕ → ℕ
+unfoldable pub stepBytes : (ℕ → ℕ) → ℕ → Bool → ℕ → ℕ
 stepBytes f k two = put (put f (lastOf k two) 0) k (byteOf two)
 
-bytes-before : (f : ℕ → ℕ) (k : ℕ) (two : Bool) (c : ℕ) → c < k → stepBytes f k two c ≡ f c
+-- before k they are as they were
+pub bytes-before : (f : ℕ → ℕ) (k : ℕ) (two : Bool) (c : ℕ) → c < k → stepBytes f k two c ≡ f c
 unfolding stepBytes put lastOf
 bytes-before f k true c h = rw (ne-eqb c k (λ e. omega arith), ne-eqb c (k + 1) (λ e. omega arith))
 bytes-before f k false c h = rw (ne-eqb c k (λ e. omega arith))
 
-bytes-at : (f : ℕ → ℕ) (k : ℕ) (two : Bool) → stepBytes f k two k ≡ byteOf two
+-- at k is the pivot's own
+pub bytes-at : (f : ℕ → ℕ) (k : ℕ) (two : Bool) → stepBytes f k two k ≡ byteOf two
 unfolding stepBytes put
 bytes-at f k two = rw (eq-eqb k k refl)
 
-bytes-second : (f : ℕ → ℕ) (k : ℕ) → stepBytes f k true (k + 1) ≡ 0
+-- at a block's second column is 0
+pub bytes-second : (f : ℕ → ℕ) (k : ℕ) → stepBytes f k true (k + 1) ≡ 0
 unfolding stepBytes put lastOf
 bytes-second f k = rw (ne-eqb (k + 1) k (λ e. omega arith), eq-eqb (k + 1) (k + 1) refl)
 
-step-paired : (f : ℕ → ℕ) (k : ℕ) (two : Bool) → Paired k f → Paired (lastOf k two + 1) (stepBytes f k two)
+-- a step keeps block bytes well formed
+pub step-paired : (f : ℕ → ℕ) (k : ℕ) (two : Bool) → Paired k f → Paired (lastOf k two + 1) (stepBytes f k two)
 unfolding lastOf
 step-paired f k true w = record {
   byte = λ c h. cmp c k (λ l. omega (arith, bytes-before f k true c l, w .byte c l)) (λ e. omega (arith, ap (stepBytes f k true) e, bytes-at f k true))
@@ -75,37 +82,43 @@ step-paired f k false w = record {
 -- ---- exchanges
 
 -- a step's partners: p at its last column, then kp at k
-stepPartners : (ℕ → ℕ) → ℕ → Bool → ℕ → ℕ → ℕ → ℕ
+unfoldable pub stepPartners : (ℕ → ℕ) → ℕ → Bool → ℕ → ℕ → ℕ → ℕ
 stepPartners f k two p kp = put (put f (lastOf k two) p) k kp
 
-partners-before : (f : ℕ → ℕ) (k : ℕ) (two : Bool) (p kp c : ℕ) → c < k → stepPartners f k two p kp c ≡ f c
+-- before k they are as they were
+pub partners-before : (f : ℕ → ℕ) (k : ℕ) (two : Bool) (p kp c : ℕ) → c < k → stepPartners f k two p kp c ≡ f c
 unfolding stepPartners put
 partners-before f k two p kp c h = rw (ne-eqb c k (λ e. omega arith), ne-eqb c (lastOf k two) (λ e. omega (arith, last-from k two)))
 
-partners-at : (f : ℕ → ℕ) (k : ℕ) (two : Bool) (p kp : ℕ) → stepPartners f k two p kp k ≡ kp
+-- at k is kp
+pub partners-at : (f : ℕ → ℕ) (k : ℕ) (two : Bool) (p kp : ℕ) → stepPartners f k two p kp k ≡ kp
 unfolding stepPartners put
 partners-at f k two p kp = rw (eq-eqb k k refl)
 
-partners-second : (f : ℕ → ℕ) (k p kp : ℕ) → stepPartners f k true p kp (k + 1) ≡ p
+-- at a block's second column is p
+pub partners-second : (f : ℕ → ℕ) (k p kp : ℕ) → stepPartners f k true p kp (k + 1) ≡ p
 unfolding stepPartners put lastOf
 partners-second f k p kp = rw (ne-eqb (k + 1) k (λ e. omega arith), eq-eqb (k + 1) (k + 1) refl)
 
--- where two records agree at k, and after it if a block begins there, so do their exchanges
-past-alike : (f g : ℕ → ℕ) (k : ℕ) → f k ≡ g k → pastOf f k ≡ pastOf g k
+-- records that agree at k agree on where the next pivot begins
+pub past-alike : (f g : ℕ → ℕ) (k : ℕ) → f k ≡ g k → pastOf f k ≡ pastOf g k
 unfolding pastOf
 past-alike f g k e = rw e
 
-first-alike : (f g q r : ℕ → ℕ) (k : ℕ) → f k ≡ g k → (g k ≡ 1 → q (k + 1) ≡ r (k + 1)) → firstOf f q k ≡ firstOf g r k
+-- and on the first exchange, if they agree after k too where a block begins there
+pub first-alike : (f g q r : ℕ → ℕ) (k : ℕ) → f k ≡ g k → (g k ≡ 1 → q (k + 1) ≡ r (k + 1)) → firstOf f q k ≡ firstOf g r k
 unfolding firstOf
 first-alike f g q r k e h = rw e (test (eqb (g k) 1) (λ t. rw t (h (eqb-true (g k) 1 t))) (λ t. rw t))
 
 -- a pivot's own: its block byte is b's, its partners p and kp
-own-ahead : (f q : ℕ → ℕ) (k : ℕ) (two : Bool) (p kp : ℕ) → f k ≡ byteOf two → q k ≡ kp → (two ≡ true → q (k + 1) ≡ p) → k ≤ p → lastOf k two ≤ kp → Ahead f q k
+pub own-ahead : (f q : ℕ → ℕ) (k : ℕ) (two : Bool) (p kp : ℕ) → f k ≡ byteOf two → q k ≡ kp → (two ≡ true → q (k + 1) ≡ p) → k ≤ p → lastOf k two ≤ kp
+    → Ahead f q k
 unfolding pastOf firstOf lastOf
 own-ahead f q k true p kp b e s hp hk = record { first = rw b (omega (arith, s refl)); last = rw b (omega arith) }
 own-ahead f q k false p kp b e s hp hk = record { first = rw b (omega arith); last = rw b (omega arith) }
 
-step-ahead : (f q : ℕ → ℕ) (k : ℕ) (two : Bool) (p kp : ℕ) → Recorded k f q → k ≤ p → lastOf k two ≤ kp
+-- no exchange goes back after a step, if none did before it
+pub step-ahead : (f q : ℕ → ℕ) (k : ℕ) (two : Bool) (p kp : ℕ) → Recorded k f q → k ≤ p → lastOf k two ≤ kp
     → (c : ℕ) → c < lastOf k two + 1 → Starts (stepBytes f k two) c → Ahead (stepBytes f k two) (stepPartners q k two p kp) c
 step-ahead f q k two p kp w hp hk c h s = cmp c k before (λ e. subst (Ahead (stepBytes f k two) (stepPartners q k two p kp)) (sym e) here) (λ g. absurd (after-it g))
   where
@@ -133,6 +146,7 @@ step-ahead f q k two p kp w hp hk c h s = cmp c k before (λ e. subst (Ahead (st
 
 -- ---- a step
 
+-- the record after a step keeps to both
 pub noted-recorded : (ke limit k : ℕ) (p : Pivots) (v : Pivot) → GoodPivot ke limit k v → Recorded k (p .diagonals .blocks) (p .partners)
     → Recorded (lastOf k (isBlock (v .diagonal)) + 1) (noted p k (lastOf k (isBlock (v .diagonal))) v .diagonals .blocks) (noted p k (lastOf k (isBlock (v .diagonal))) v .partners)
 unfolding noted stepBytes stepPartners
@@ -173,12 +187,14 @@ Reached P ke (going k s) = (k ≡ ke) × P ke (s .pivots)
 
 module _ (ke : ℕ) (mode : Mode) (limit : ℕ) (P : ℕ → Pivots → Type 0)
     (step : (k : ℕ) (p : Pivots) (v : Pivot) → GoodPivot ke limit k v → P k p → P (lastOf k (isBlock (v .diagonal)) + 1) (noted p k (lastOf k (isBlock (v .diagonal))) v)) where
-  after-reached : (k : ℕ) (s : State) (f : ℕ → State → Progress) (t : Tried) → Good ke limit k t → P k (s .pivots)
+  -- through what a step leads to: a refusal, or the next column
+  pub after-reached : (k : ℕ) (s : State) (f : ℕ → State → Progress) (t : Tried) → Good ke limit k t → P k (s .pivots)
       → ((m : ℕ) (u : State) → k < m → m ≤ ke → P m (u .pivots) → Reached P ke (f m u)) → Reached P ke (after t s k f)
   after-reached k s f (refusedAt n p) g w next = tt
   after-reached k s f (took v a m) g w next =
       next (lastOf k (isBlock (v .diagonal)) + 1) _ (omega (arith, last-from k (isBlock (v .diagonal)))) (omega (arith, g .last)) (step k (s .pivots) v g w)
 
+  -- through a panel
   pub panel-reached : (n k : ℕ) (s : State) → k ≤ ke → ke - k ≤ n → P k (s .pivots) → Reached P ke (panelOf ke mode limit n k s)
   unfolding panelOf
   panel-reached zero k s h f w = let e : k ≡ ke = omega arith in (e, subst (λ (m : ℕ). P m (s .pivots)) e w)
