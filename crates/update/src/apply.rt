@@ -8,6 +8,7 @@ ghost use Rattle.grid.specs.Grid.{In};
 ghost use Rattle.update.specs.Call.{descendantOf};
 ghost use Rattle.update.specs.Apply.{weighed, sums, fromRow, lessAt, lessFrom, rowApplied, rowsApplied};
 ghost use Rattle.update.specs.Apply.{WeightPre, WeighPre, SumPre, SubtractPre, ApplyPre, RowPre};
+use super::Shapes;
 use super::rows;
 use grid::columns;
 use model::COLUMNS_MAX;
@@ -122,12 +123,8 @@ fn subtract(
 
 // Row c of the descendant, if it lands. v and acc are scratch: any on entry.
 fn update_row(
-    ncol: usize,
-    nrow: usize,
-    first: GlobalRow,
+    s: Shapes,
     panel: &mut [f64],
-    nk: usize,
-    mk: usize,
     kpanel: &[f64],
     kd: &[f64],
     ksub: &[f64],
@@ -138,33 +135,31 @@ fn update_row(
     v: &mut [f64],
     acc: &mut [f64],
 )
-    requires { ⌜ ApplyPre ncol nrow nk mk (now kblocks) (now places) c (length (now panel)) (length (now kpanel))
-        (length (now kd)) (length (now ksub)) (length (now krows)) ⌝ }
-    requires { ⌜ RowPre nk mk c (length (now v)) (length (now acc)) ⌝ }
-    ensures { λ _. ⌜ view nrow (now (panel .exit)) ≡ rowApplied (first .0) ncol
-        (descendantOf nk mk (now (kpanel .entry)) (now (kd .entry)) (now (ksub .entry)) (now (kblocks .entry))
-        (now (krows .entry))) (bytes (now (places .entry))) c (view nrow (now (panel .entry))) ⌝ }
+    requires { ⌜ ApplyPre (s .ncol) (s .nrow) (s .nk) (s .mk) (now kblocks) (now places) c (length (now panel))
+        (length (now kpanel)) (length (now kd)) (length (now ksub)) (length (now krows)) ⌝ }
+    requires { ⌜ RowPre (s .nk) (s .mk) c (length (now v)) (length (now acc)) ⌝ }
+    ensures { λ _. ⌜ view (s .nrow) (now (panel .exit)) ≡ rowApplied (s .first .0) (s .ncol)
+        (descendantOf (s .nk) (s .mk) (now (kpanel .entry)) (now (kd .entry)) (now (ksub .entry))
+        (now (kblocks .entry)) (now (krows .entry))) (bytes (now (places .entry))) c
+        (view (s .nrow) (now (panel .entry))) ⌝ }
 {
     let g = GlobalRow(krows[c]);
-    if !rows::lands(first, ncol, g) {
+    if !rows::lands(s.first, s.ncol, g) {
         return;
     }
-    let all = nk + mk;
+    let nk = s.nk;
+    let all = nk + s.mk;
     let row = LocalRow(nk + c);
     weigh(kpanel, all, row, kd, ksub, kblocks, nk, v);
     sum(acc, kpanel, all, row, v, nk);
-    let column = rows::column_of(first, g);
-    subtract(panel, nrow, column, places, acc, nk, c, mk);
+    let column = rows::column_of(s.first, g);
+    subtract(panel, s.nrow, column, places, acc, nk, c, s.mk);
 }
 
 // The descendant's rows from `start` on, each if it lands.
 pub fn update_rows(
-    ncol: usize,
-    nrow: usize,
-    first: GlobalRow,
+    s: Shapes,
     panel: &mut [f64],
-    nk: usize,
-    mk: usize,
     kpanel: &[f64],
     kd: &[f64],
     ksub: &[f64],
@@ -173,23 +168,20 @@ pub fn update_rows(
     places: &[u16],
     start: usize,
 )
-    requires { ⌜ ApplyPre ncol nrow nk mk (now kblocks) (now places) start (length (now panel)) (length (now kpanel))
-        (length (now kd)) (length (now ksub)) (length (now krows)) ⌝ }
-    ensures { λ _. ⌜ view nrow (now (panel .exit)) ≡ rowsApplied (first .0) ncol
-        (descendantOf nk mk (now (kpanel .entry)) (now (kd .entry)) (now (ksub .entry)) (now (kblocks .entry))
-        (now (krows .entry))) (bytes (now (places .entry))) (mk - start) start (view nrow (now (panel .entry))) ⌝ }
+    requires { ⌜ ApplyPre (s .ncol) (s .nrow) (s .nk) (s .mk) (now kblocks) (now places) start (length (now panel))
+        (length (now kpanel)) (length (now kd)) (length (now ksub)) (length (now krows)) ⌝ }
+    ensures { λ _. ⌜ view (s .nrow) (now (panel .exit)) ≡ rowsApplied (s .first .0) (s .ncol)
+        (descendantOf (s .nk) (s .mk) (now (kpanel .entry)) (now (kd .entry)) (now (ksub .entry))
+        (now (kblocks .entry)) (now (krows .entry))) (bytes (now (places .entry))) (s .mk - start) start
+        (view (s .nrow) (now (panel .entry))) ⌝ }
 {
     let mut v = [0.0; COLUMNS_MAX];
     let mut acc = [0.0; ROWS_MAX];
     let mut c = start;
-    while c < mk {
+    while c < s.mk {
         update_row(
-            ncol,
-            nrow,
-            first,
+            s,
             panel,
-            nk,
-            mk,
             kpanel,
             kd,
             ksub,

@@ -11,6 +11,7 @@ ghost use Rattle.model.specs.Update.{updateSound, descendantSound};
 ghost use Rattle.entry.specs.Entry.{entrySays};
 ghost use Rattle.update.specs.Rows.{risesAt, standsAt, ColumnsPre};
 ghost use Rattle.update.specs.Call.{targetOf, descendantOf, listsCheck, ColumnPre, NumbersPre};
+use super::Shapes;
 use super::rows;
 use entry::Entry;
 use model::COLUMNS_MAX;
@@ -22,33 +23,32 @@ use model::Refusal;
 // Refusal 13's test, in which `first` plays no part. A length is worked out once the sizes are sound, so that no sum or
 // product overflows.
 fn lengths_sound(
-    ncol: usize,
-    nrow: usize,
+    s: Shapes,
     rows: &[u32],
     panel: &[f64],
-    nk: usize,
-    mk: usize,
     kpanel: &[f64],
     kd: &[f64],
     ksub: &[f64],
     kblocks: &[u8],
     krows: &[u32],
 ) -> bool
-    ensures { λ r. ⌜ r ≡ updateSound (targetOf ncol nrow 0 (now (rows .entry)))
-        (descendantOf nk mk (now (kpanel .entry)) (now (kd .entry)) (now (ksub .entry)) (now (kblocks .entry))
-        (now (krows .entry))) (now (panel .entry)) ⌝ }
+    ensures { λ r. ⌜ r ≡ updateSound (targetOf (s .ncol) (s .nrow) 0 (now (rows .entry)))
+        (descendantOf (s .nk) (s .mk) (now (kpanel .entry)) (now (kd .entry)) (now (ksub .entry))
+        (now (kblocks .entry)) (now (krows .entry))) (now (panel .entry)) ⌝ }
 {
-    if !entry::shape_sound(ncol, nrow) {
+    if !entry::shape_sound(s.ncol, s.nrow) {
         return false;
     }
+    let nk = s.nk;
+    let mk = s.mk;
     if !((nk <= COLUMNS_MAX) & (mk <= ROWS_MAX)) {
         return false;
     }
     let all = nk + mk;
     let pivots = (kd.len() == nk)
         & ((ksub.len() == nk) & ((kblocks.len() == nk) & (krows.len() == mk)));
-    let panels = (panel.len() == nrow * ncol)
-        & ((rows.len() == nrow) & ((kpanel.len() == all * nk) & pivots));
+    let panels = (panel.len() == s.nrow * s.ncol)
+        & ((rows.len() == s.nrow) & ((kpanel.len() == all * nk) & pivots));
     (all <= ROWS_MAX) & panels
 }
 
@@ -66,39 +66,23 @@ fn target_sound(first: GlobalRow, rows: &[u32], ncol: usize) -> bool
 
 // Refusals 13 to 16.
 pub fn lists_check(
-    ncol: usize,
-    nrow: usize,
-    first: GlobalRow,
+    s: Shapes,
     rows: &[u32],
     panel: &[f64],
-    nk: usize,
-    mk: usize,
     kpanel: &[f64],
     kd: &[f64],
     ksub: &[f64],
     kblocks: &[u8],
     krows: &[u32],
 ) -> Entry
-    ensures { λ r. ⌜ entrySays r ≡ listsCheck (targetOf ncol nrow (first .0) (now (rows .entry)))
-        (descendantOf nk mk (now (kpanel .entry)) (now (kd .entry)) (now (ksub .entry)) (now (kblocks .entry))
-        (now (krows .entry))) (now (panel .entry)) ⌝ }
+    ensures { λ r. ⌜ entrySays r ≡ listsCheck (targetOf (s .ncol) (s .nrow) (s .first .0) (now (rows .entry)))
+        (descendantOf (s .nk) (s .mk) (now (kpanel .entry)) (now (kd .entry)) (now (ksub .entry))
+        (now (kblocks .entry)) (now (krows .entry))) (now (panel .entry)) ⌝ }
 {
-    if !lengths_sound(
-        ncol,
-        nrow,
-        rows,
-        panel,
-        nk,
-        mk,
-        kpanel,
-        kd,
-        ksub,
-        kblocks,
-        krows,
-    ) {
+    if !lengths_sound(s, rows, panel, kpanel, kd, ksub, kblocks, krows) {
         return Entry::Refused(Refusal::UpdateLength);
     }
-    if !target_sound(first, rows, ncol) {
+    if !target_sound(s.first, rows, s.ncol) {
         return Entry::Refused(Refusal::TargetRows);
     }
     if !rows::rising(krows) {

@@ -17,52 +17,45 @@ mod apply;
 mod checks;
 mod rows;
 
+// The target's columns and rows, and the global row of its first column; the descendant's columns, and rows below them.
+pub(crate) struct Shapes {
+    pub ncol: usize,
+    pub nrow: usize,
+    pub first: GlobalRow,
+    pub nk: usize,
+    pub mk: usize,
+}
+
 // Refusals 17 and 18 and the update itself, of a descendant that has columns.
 fn update_columns(
-    ncol: usize,
-    nrow: usize,
-    first: GlobalRow,
+    s: Shapes,
     rows: &[u32],
     panel: &mut [f64],
-    nk: usize,
-    mk: usize,
     kpanel: &[f64],
     kd: &[f64],
     ksub: &[f64],
     kblocks: &[u8],
     krows: &[u32],
 ) -> Applied
-    requires { ⌜ ListsPre (targetOf ncol nrow (first .0) (now rows))
-        (descendantOf nk mk (now kpanel) (now kd) (now ksub) (now kblocks) (now krows)) (length (now panel)) ⌝ }
-    ensures { λ r. ⌜ leaves r (now (panel .exit)) ≡ columnsOf (targetOf ncol nrow (first .0) (now (rows .entry)))
-        (descendantOf nk mk (now (kpanel .entry)) (now (kd .entry)) (now (ksub .entry)) (now (kblocks .entry))
-        (now (krows .entry))) (now (panel .entry)) ⌝ }
+    requires { ⌜ ListsPre (targetOf (s .ncol) (s .nrow) (s .first .0) (now rows))
+        (descendantOf (s .nk) (s .mk) (now kpanel) (now kd) (now ksub) (now kblocks) (now krows))
+        (length (now panel)) ⌝ }
+    ensures { λ r. ⌜ leaves r (now (panel .exit)) ≡ columnsOf
+        (targetOf (s .ncol) (s .nrow) (s .first .0) (now (rows .entry)))
+        (descendantOf (s .nk) (s .mk) (now (kpanel .entry)) (now (kd .entry)) (now (ksub .entry))
+        (now (kblocks .entry)) (now (krows .entry))) (now (panel .entry)) ⌝ }
 {
-    let start = rows::first_landing(first, ncol, krows);
+    let start = rows::first_landing(s.first, s.ncol, krows);
     let mut places = [0u16; ROWS_MAX];
     let located = rows::locate(rows, krows, start, &mut places);
     let Entry::Sound = located else {
         return assembly::answer(located);
     };
-    let checked = checks::first_bad_column(nk, mk, kpanel, kd, ksub, kblocks);
+    let checked = checks::first_bad_column(s.nk, s.mk, kpanel, kd, ksub, kblocks);
     let Entry::Sound = checked else {
         return assembly::answer(checked);
     };
-    apply::update_rows(
-        ncol,
-        nrow,
-        first,
-        panel,
-        nk,
-        mk,
-        kpanel,
-        kd,
-        ksub,
-        kblocks,
-        krows,
-        &places,
-        start,
-    );
+    apply::update_rows(s, panel, kpanel, kd, ksub, kblocks, krows, &places, start);
     Applied::Done
 }
 
@@ -90,39 +83,19 @@ pub fn update(
         (descendantOf nk mk (now (kpanel .entry)) (now (kd .entry)) (now (ksub .entry)) (now (kblocks .entry))
         (now (krows .entry))) (now (panel .entry)) ⌝ }
 {
-    let first = GlobalRow(first);
-    let checked = checks::lists_check(
+    let s = Shapes {
         ncol,
         nrow,
-        first,
-        rows,
-        &panel[..],
+        first: GlobalRow(first),
         nk,
         mk,
-        kpanel,
-        kd,
-        ksub,
-        kblocks,
-        krows,
-    );
+    };
+    let checked = checks::lists_check(s, rows, &panel[..], kpanel, kd, ksub, kblocks, krows);
     let Entry::Sound = checked else {
         return assembly::answer(checked);
     };
     if nk == 0 {
         return Applied::Done;
     }
-    update_columns(
-        ncol,
-        nrow,
-        first,
-        rows,
-        panel,
-        nk,
-        mk,
-        kpanel,
-        kd,
-        ksub,
-        kblocks,
-        krows,
-    )
+    update_columns(s, rows, panel, kpanel, kd, ksub, kblocks, krows)
 }

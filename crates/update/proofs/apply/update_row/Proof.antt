@@ -7,11 +7,15 @@ use Rattle.update.proofs.Landing.{row-none, row-done, lands-from, lands
 use Rattle.update.proofs.apply.update_row.Statement.{statement}
 use Rattle.update.proofs.apply.update_row.Tie as tie
 
-mul-t20 : tie.Need-mul-t20
-mul-t20 c = search needs
+-- the function's entry, from where the row is known to land
+abbrev entered : tie.Else1 → tie.Start
+entered c = c .before .before .before .before .before .before .before .before .before .before .before .before
 
-shared-slice-read-t22 : tie.Need-shared-slice-read-t22
-shared-slice-read-t22 c = search needs
+mul-t17 : tie.Need-mul-t17
+mul-t17 c = search needs
+
+shared-slice-read-t19 : tie.Need-shared-slice-read-t19
+shared-slice-read-t19 c = search needs
 
 lands-requires : tie.Need-lands-requires
 lands-requires c κs = search needs
@@ -23,12 +27,12 @@ returns c = row-none _ _ _ _ _ _ (c .before .lands .ensures) _ (c .if1 .taken)
 add-all : tie.Need-add-all
 add-all c = search needs
 
-add-t20 : tie.Need-add-t20
-add-t20 c = search needs
+add-t17 : tie.Need-add-t17
+add-t17 c = search needs
 
 weigh-requires : tie.Need-weigh-requires
 weigh-requires c κs =
-    let start = c .before .before .before .before .before .before .before .before .before .before .before .before .before in
+    let start = entered (c .before .before) in
     row-weigh _ _ _ _ _ _ _ _ _ _ _ _ _ _ (start .pre .0) (start .pre .1)
 
 sum-requires : tie.Need-sum-requires
@@ -36,13 +40,13 @@ sum-requires c κs = search needs
 
 column-of-requires : tie.Need-column-of-requires
 column-of-requires c κs =
-    let landed = c .before .before .before .before .before .before .before .before .before in
+    let landed = c .before .before .before .before .before .before .before .before .before .before in
     lands-from _ _ _ _ (landed .before .lands .ensures) (landed .if1 .left)
 
 subtract-requires : tie.Need-subtract-requires
 subtract-requires c κs =
-    let landed = c .before .before .before .before .before .before .before .before .before .before .before .before in
-    let start = landed .before .before .before .before .before .before .before .before .before .before .before .before in
+    let landed = c .before .before .before .before .before .before .before .before .before .before .before .before .before in
+    let start = entered landed in
     row-subtract _ _ _ _ _ _ _ _ _ _ _ _ _ _ (start .pre .0) (start .pre .1) _ _
     (omega (arith, c .before .before .column-of .ensures, lands-before _ _ _ _ (landed .before .lands .ensures) (landed .if1 .left))) (search needs)
 
@@ -59,7 +63,7 @@ returns-2 : tie.Need-returns-2
 unfolding bytes
 returns-2 c =
     let sum = c .before .before .before .before .before .before .before .before in
-    let landed = sum .before .before .before .before .before .before .before in
+    let landed = sum .before .before .before .before .before .before .before .before in
     row-done _ _ _ _ _ _ (landed .before .lands .ensures) _ _ _ _ _ _ _ (landed .if1 .left) (c .before .before .before .before .before .column-of .ensures)
     (sum .before .before .before .before .before .weigh .ensures) (sum .sum .ensures) (c .before .before .subtract .ensures)
 
@@ -67,12 +71,12 @@ pub update-row-spec : {M : Type 1} → statement M
 update-row-spec =
     tie.close
     (tie.spec
-    mul-t20
-    shared-slice-read-t22
+    mul-t17
+    shared-slice-read-t19
     lands-requires
     returns
     add-all
-    add-t20
+    add-t17
     weigh-requires
     sum-requires
     column-of-requires

@@ -13,13 +13,14 @@ use Rattle.update.proofs.apply.update_rows.Statement.{statement}
 use Rattle.update.proofs.apply.update_rows.Tie as tie
 
 abbrev Inv-loop : tie.InvT-loop
-Inv-loop ncol nrow first panel₀ nk mk kpanel kd ksub kblocks krows places start v₀ acc₀ c₀ panel v acc c =
+Inv-loop s panel₀ kpanel kd ksub kblocks krows places start v₀ acc₀ c₀ panel v acc c =
     (start ≤ c) × (length panel ≡ length panel₀) × (length v ≡ mostColumns) × (length acc ≡ mostRows)
-    × (rowsApplied (first .0) ncol (descendantOf nk mk kpanel kd ksub kblocks krows) (bytes places) (mk - c) c (view nrow panel)
-    ≡ rowsApplied (first .0) ncol (descendantOf nk mk kpanel kd ksub kblocks krows) (bytes places) (mk - start) start (view nrow panel₀))
+    × (rowsApplied (s .first .0) (s .ncol) (descendantOf (s .nk) (s .mk) kpanel kd ksub kblocks krows) (bytes places) (s .mk - c) c (view (s .nrow) panel)
+    ≡ rowsApplied (s .first .0) (s .ncol) (descendantOf (s .nk) (s .mk) kpanel kd ksub kblocks krows) (bytes places) (s .mk - start) start
+    (view (s .nrow) panel₀))
 
 abbrev μ-loop : tie.MeasureT-loop
-μ-loop ncol nrow first panel₀ nk mk kpanel kd ksub kblocks krows places start v₀ acc₀ c₀ panel v acc c = mk - c
+μ-loop s panel₀ kpanel kd ksub kblocks krows places start v₀ acc₀ c₀ panel v acc c = s .mk - c
 
 loop-holds : tie.Need-loop-holds Inv-loop μ-loop
 loop-holds c = (search needs, search needs, search needs, search needs, refl)
@@ -32,10 +33,10 @@ slice-aggregate-update-row-2 c = search needs
 
 update-row-requires : tie.Need-update-row-requires Inv-loop μ-loop
 update-row-requires c κs =
-    let at = c .before .before .before .before in
+    let at = c .before .before .before .before .before in
     let start = at .before .before .before .before .before .before .before .before in (
       rows-later _ _ _ _ _ _ _ _ _ _ _ _ _ _ (start .pre) (at .loop .inv .0) (at .loop .inv .1),
-      rows-room _ _ _ _ _ _ _ _ _ _ _ _ _ _ _ (start .pre) (c .before .before .before .loop-test .taken) (at .loop .inv .2) (at .loop .inv .3),
+      rows-room _ _ _ _ _ _ _ _ _ _ _ _ _ _ _ (start .pre) (c .before .before .before .if1 .taken) (at .loop .inv .2) (at .loop .inv .3),
     )
 
 add-c : tie.Need-add-c Inv-loop μ-loop
@@ -51,7 +52,7 @@ loop-again c =
       search needs,
       search needs,
       search needs,
-      rows-step _ _ _ _ _ _ _ _ _ (in-loop .loop-test .taken) (c .before .before .before .before .update-row .ensures) (in-loop .before .loop .inv .4),
+      rows-step _ _ _ _ _ _ _ _ _ (in-loop .if1 .taken) (c .before .before .before .before .update-row .ensures) (in-loop .before .before .loop .inv .4),
     )
 
 same-length : tie.Need-same-length Inv-loop μ-loop

@@ -24,7 +24,9 @@ mul-panels-2 : tie.Need-mul-panels-2
 mul-panels-2 c = search numbers-fit
 
 returns-3 : tie.Need-returns-3
-returns-3 c = lengths-rest _ _ _ _ (c .before .before .shape-sound .ensures) (c .before .if1 .left) (c .if2 .left)
+returns-3 c =
+    let sized = c .before .before in
+    lengths-rest _ _ _ _ (sized .before .before .shape-sound .ensures) (sized .before .if1 .left) (sized .if2 .left)
 
 pub lengths-sound-spec : {M : Type 1} → statement M
 lengths-sound-spec =
