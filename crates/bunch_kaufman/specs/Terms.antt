@@ -47,7 +47,7 @@ RanTo kb ke (Done rounds) blocks partners = PanelNoted kb ke rounds blocks partn
 
 -- ---- what callers owe
 
--- Lift's round limit is 64 at most; Fail's is never looked at
+-- Lift's round limit is mostRounds at most; Fail's is never looked at
 abbrev pub LimitPre : Mode → ℕ → Type 0
 LimitPre Fail limit = Unit {0}
 LimitPre (Lift floor) limit = limit ≤ mostRounds
