@@ -1,5 +1,5 @@
 -- Laws of the calls: what a factor call answers and leaves is printed by its lines. Assumes nothing.
-use mathlib.Core.Path.{_≡_, refl, sym, _∙_}
+use mathlib.Core.Path.{_≡_, refl, sym, _∙_, subst}
 use mathlib.Core.List.{List, []}
 use Prim.Native.Nat.{ℕ, _+_, _*_, _≤_}
 use native.Mathlib.Omega.{arith}
@@ -47,7 +47,7 @@ module _ {xs ys : List ℕ} {r : ℕ} (c : Settings) (x : Buffers) {answer : Fac
       → Writes xs 0 (refusedLine n a b) ys r → Writes xs 0 (saidLines (factoredSays answer) c x) ys r
   said-refused why n a b e t w =
       let says : _≡_ {A = Said Report} (refused n a b) (turnedAway why) = turned-away why t in
-      rw (e, ← says) w
+      rw e (subst (λ (s : Said Report). Writes xs 0 (saidLines s c x) ys r) says w)
 
 -- nothing of the working buffer is printed
 said-work : (s : Said Report) (c : Settings) (panel d sub amounts work : List Float) (blocks lifts order marks : List ℕ)

@@ -10,11 +10,11 @@ use Rattle.model.specs.Head.{settledOne, headOne, keptOne, tryOf, lastOf, noted
 use Rattle.model.specs.Inertia.{oneCounted, pivotCounted, talliedFrom}
 use Rattle.model.specs.Factor.{lengthsSound, modeCheck, columnCheck, columnsCheck, settingsCheck, entryCheck, start, headRunOf, everyFrom, pivotSound, columnSound, resultCheck, headAnswerOf, factorEntry, factorOf}
 use Rattle.little_endian.specs.LittleEndian.{le16, le32, le64, numbersOf}
-use Rattle.record.specs.Record.{recordAt, modeOf, settingsOf, panelOf as inputPanel, firstSound, sizesSound, secondSound, streamCheck, askedOf}
+use Rattle.record.specs.Record.{recordAt, modeOf, settingsOf, panelOf as inputPanel, firstSound, sizesSound, secondSound, askedOf}
 use Rattle.text.specs.Text.{decimalFrom, decimalOf, hexFrom}
 use Rattle.answer.specs.Lines.{field, number, three, each, acceptedLine, orderField, orderLine, pivotLine, pivotAt, inertiaLine, entryField, markField, rowLine, acceptedLines, cleared, outcomeLines, printed}
 use Rattle.answer.specs.Example.{stream, lines}
 
 pub example-holds : printed stream ≡ lines
-unfolding toBits ofBits size units add sub mul div lt le eq round isNan isFinite magnitudeOf maximumOf wholeRoot isqrt roundRoot sqrtOf alpha view vec bytes headOf rowOf tabulateFrom exchanged put swapped greatest columnGreatest rowGreatest chooseOf eliminated rowAfterStep pastOf settledOne headOne keptOne tryOf lastOf noted panelOf closed passed panelsOf oneCounted pivotCounted talliedFrom lengthsSound modeCheck columnCheck columnsCheck settingsCheck entryCheck start headRunOf everyFrom pivotSound columnSound resultCheck headAnswerOf factorEntry factorOf le16 le32 le64 numbersOf recordAt modeOf settingsOf inputPanel firstSound sizesSound secondSound streamCheck askedOf decimalFrom decimalOf hexFrom field number three each acceptedLine orderField orderLine pivotLine pivotAt inertiaLine entryField markField rowLine acceptedLines cleared outcomeLines printed
+unfolding toBits ofBits size units add sub mul div lt le eq round isNan isFinite magnitudeOf maximumOf wholeRoot isqrt roundRoot sqrtOf alpha view vec bytes headOf rowOf tabulateFrom exchanged put swapped greatest columnGreatest rowGreatest chooseOf eliminated rowAfterStep pastOf settledOne headOne keptOne tryOf lastOf noted panelOf closed passed panelsOf oneCounted pivotCounted talliedFrom lengthsSound modeCheck columnCheck columnsCheck settingsCheck entryCheck start headRunOf everyFrom pivotSound columnSound resultCheck headAnswerOf factorEntry factorOf le16 le32 le64 numbersOf recordAt modeOf settingsOf inputPanel firstSound sizesSound secondSound askedOf decimalFrom decimalOf hexFrom field number three each acceptedLine orderField orderLine pivotLine pivotAt inertiaLine entryField markField rowLine acceptedLines cleared outcomeLines printed
 example-holds = refl

@@ -1,47 +1,32 @@
 -- Laws of the assembly call: its checks in turn, the entries one by one, and what it leaves. Assumes nothing.
-use mathlib.Core.Path.{_≡_, refl, sym, _∙_, ap, fun-ext}
-use mathlib.Core.Bool.{Bool, true, false, cond, not, _&&_}
+use mathlib.Core.Path.{_≡_, sym, _∙_, ap}
+use mathlib.Core.Bool.{Bool, true, false, not}
 use mathlib.Core.List.{List}
 use Prim.Native.Nat.{ℕ, suc, _+_, _-_, _*_, _≤_, _<_}
 use native.Mathlib.Omega.{arith}
-use borrow.Author.Tests.{eqb-true, leb-true, ltb-true, not-false}
-use lib.Dec.{eqb}
+use borrow.Author.Tests.{eqb-true, ltb-true, not-false}
 use lib.ListN.{length, getD, set}
 use lib.Ieee.{Float, nan}
-use mir.Syntax.{w64}
-use mir.Val.{Fits}
-use Rattle.model.specs.Sizes.{mostRows}
 use Rattle.model.specs.Scalar.{_⊕_}
-use Rattle.model.specs.Matrix.{Row, Mat, view, vec, bytes, putAt, columnMajor}
-use Rattle.model.specs.Factor.{shapeSound}
-use Rattle.model.specs.Assembly.{Entries, entriesSound, firstNot, placeSound, assemblyCheck, addedAt, assembledFrom, panelAfter, assemblyOf}
-use Rattle.model.specs.Answer.{Check, sound, stop, turnedAway, appliedSays}
+use Rattle.model.specs.Matrix.{Row, Mat, view, vec, bytes, columnMajor}
+use Rattle.model.specs.Assembly.{Entries, entriesSound, firstNot, placeSound, assemblyCheck, addedAt, assembledFrom, assemblyOf}
 use Rattle.model.specs.declared.Refusal.{Refusal}
+use Rattle.model.specs.declared.Refusal.the-variants.{AssemblyLength, AssemblyPlace, AssemblyNumber}
+use Rattle.model.specs.declared.Check.{Check}
+use Rattle.model.specs.declared.Check.the-variants.{Sound, Refused}
 use Rattle.model.specs.declared.Applied.{Applied}
 use Rattle.model.specs.declared.Applied.the-variants.{Done}
 use Rattle.model.proofs.Cases.{test, and-left, and-right}
 use Rattle.model.proofs.Entry.{first-sound, second-sound, not-refused}
 use Rattle.model.proofs.Tabulated.{is-columnMajor}
 use Rattle.grid.specs.Grid.{In}
-use Rattle.grid.proofs.Laws.{view-at, view-set, in-panel}
-use Rattle.entry.specs.Entry.{entrySays}
-use Rattle.entry.specs.declared.Entry as answer
-use Rattle.entry.proofs.Laws.{area-fits}
-use Rattle.inertia.proofs.First.{first-all}
-use Rattle.entry.proofs.Refusals.{turned, check-passes, check-stops, first-refuses, second-decides}
-use Rattle.assembly.specs.Call.{finiteAt, answerOf, leaves, AddPre}
+use Rattle.grid.proofs.Laws.{in-panel, own-set}
+use Rattle.checks.specs.Answers.{answerOf, leaves}
+use Rattle.checks.proofs.Answers.{first-refuses, second-decides, leaves-done, leaves-refused}
+use Rattle.checks.proofs.First.{first-all}
+use Rattle.assembly.specs.Call.{finiteAt, AddPre}
 
 -- ---- refusal 10
-
--- the panel's length is worked out once b, the shape's test, holds
-pub area-of-shape : (ncol nrow : ℕ) (b : Bool) → b ≡ shapeSound ncol nrow → not b ≡ false → Fits w64 (nrow * ncol)
-area-of-shape ncol nrow b h t =
-    let shape : shapeSound ncol nrow ≡ true = sym h ∙ not-false b t in
-    area-fits ncol nrow 0 (record {
-      rows = leb-true ncol nrow (search (and-left, and-right));
-      fewRows = leb-true nrow mostRows (search (and-left, and-right));
-      narrow = omega arith;
-    })
 
 -- what the lists' lengths are past it
 pub record Lengths (ncol nrow : ℕ) (es : Entries) (panel : List Float) : Type 0 where
@@ -61,43 +46,29 @@ lengths ncol nrow es panel h = record {
 
 module _ (ncol nrow : ℕ) (es : Entries) (panel : List Float) where
   abbrev placesCheck : Check
-  placesCheck = firstNot (placeSound ncol nrow (bytes (es .rows)) (bytes (es .cols))) 11 (length (es .rows)) 0
+  placesCheck = firstNot (placeSound ncol nrow (bytes (es .rows)) (bytes (es .cols))) AssemblyPlace (length (es .rows)) 0
 
   module _ (b : Bool) (h : b ≡ entriesSound ncol nrow es panel) where
-    pub check-lengths : not b ≡ true → stop 10 0 0 ≡ assemblyCheck ncol nrow es panel
+    pub check-lengths : not b ≡ true → Refused AssemblyLength ≡ assemblyCheck ncol nrow es panel
     unfolding assemblyCheck
     check-lengths x = rw (← h, x)
 
     pub check-columns : not b ≡ false → length (es .cols) ≡ length (es .rows)
     check-columns x = lengths ncol nrow es panel (sym h ∙ not-false b x) .cols
 
-    module _ (k : answer.Entry) (x : not b ≡ false) (e : entrySays k ≡ placesCheck) where
-      pub check-places : (r : Refusal) → k ≡ answer.the-variants.Refused r → entrySays k ≡ assemblyCheck ncol nrow es panel
+    module _ (k : Check) (x : not b ≡ false) (e : k ≡ placesCheck) where
+      pub check-places : (r : Refusal) → k ≡ Refused r → k ≡ assemblyCheck ncol nrow es panel
       unfolding assemblyCheck
       check-places r y = rw (← h, x) (first-refuses k r placesCheck _ y e)
 
-      pub check-numbers : (l : answer.Entry) → k ≡ answer.the-variants.Sound
-          → entrySays l ≡ firstNot (finiteAt (es .numbers)) 12 (length (es .numbers)) 0 → entrySays l ≡ assemblyCheck ncol nrow es panel
+      pub check-numbers : (l : Check) → k ≡ Sound
+          → l ≡ firstNot (finiteAt (es .numbers)) AssemblyNumber (length (es .numbers)) 0 → l ≡ assemblyCheck ncol nrow es panel
       unfolding assemblyCheck finiteAt
       check-numbers l y f =
           let n : length (es .numbers) ≡ length (es .rows) = lengths ncol nrow es panel (sym h ∙ not-false b x) .numbers in
           rw (← h, x) (second-decides k l placesCheck _ y e (rw n at f))
 
 -- ---- the entries
-
-put-own : (a : Mat) (i j : ℕ) (f : Float → Float) → putAt a i j (f (a i j)) ≡ (λ p q. cond (eqb p i && eqb q j) (f (a p q)) (a p q))
-unfolding putAt
-put-own a i j f =
-    fun-ext λ p. fun-ext λ q. test (eqb p i)
-    (λ e. test (eqb q j) (λ g. rw (e, g, eqb-true p i e, eqb-true q j g)) (λ g. rw (e, g)))
-    (λ e. rw e)
-
--- a number of the panel, made another by f
-pub own-set : (n : ℕ) (xs : List Float) (i j : ℕ) (f : Float → Float) → In n i j (length xs)
-    → view n (set xs (i + j * n) (f (getD xs (i + j * n) nan))) ≡ (λ p q. cond (eqb p i && eqb q j) (f (view n xs p q)) (view n xs p q))
-own-set n xs i j f h =
-    view-set n xs i j (f (getD xs (i + j * n) nan)) h
-    ∙ ap (λ (x : Float). putAt (view n xs) i j (f x)) (sym (view-at n xs i j (h .row))) ∙ put-own (view n xs) i j f
 
 pub added-set : (n : ℕ) (xs : List Float) (i j : ℕ) (v : Float) → In n i j (length xs)
     → view n (set xs (i + j * n) (getD xs (i + j * n) nan ⊕ v)) ≡ addedAt (view n xs) i j v
@@ -120,45 +91,32 @@ module _ (rows cols : ℕ → ℕ) (numbers : Row) (n : ℕ) where
   unfolding assembledFrom
   entries-end k a w h f = let m : n - k ≡ 0 = omega arith in rw m at f
 
--- ---- what a call leaves: k is what its checks answer, c the check
-
-pub answer-refuses : (k : answer.Entry) (r : Refusal) → k ≡ answer.the-variants.Refused r → turnedAway r ≡ answerOf (entrySays k)
-answer-refuses k r h = turned r .says (Unit {0}) ∙ sym (ap answerOf (check-stops k r (entrySays k) h refl))
-
-pub leaves-done : (k : answer.Entry) (c : Check) (new panel : List Float) → k ≡ answer.the-variants.Sound → entrySays k ≡ c
-    → leaves Done new ≡ panelAfter c new panel
-leaves-done k c new panel h e = rw (check-passes k c h e)
-
-pub leaves-refused : (k : answer.Entry) (r : Refusal) (c : Check) (a : Applied) (new panel : List Float) → k ≡ answer.the-variants.Refused r
-    → entrySays k ≡ c → appliedSays a ≡ answerOf (entrySays k) → leaves a panel ≡ panelAfter c new panel
-leaves-refused k r c a new panel h e f = rw (f ∙ ap answerOf e, check-stops k r c h e)
-
 -- ---- the call: k is what its checks answer
 
-module _ (ncol nrow : ℕ) (es : Entries) (panel : List Float) (k : answer.Entry) (e : entrySays k ≡ assemblyCheck ncol nrow es panel) where
-  checked-lengths : k ≡ answer.the-variants.Sound → Lengths ncol nrow es panel
+module _ (ncol nrow : ℕ) (es : Entries) (panel : List Float) (k : Check) (e : k ≡ assemblyCheck ncol nrow es panel) where
+  checked-lengths : k ≡ Sound → Lengths ncol nrow es panel
   unfolding assemblyCheck
   checked-lengths h =
-      let pass : assemblyCheck ncol nrow es panel ≡ sound = check-passes k (assemblyCheck ncol nrow es panel) h e in
-      lengths ncol nrow es panel (not-refused (entriesSound ncol nrow es panel) 10 (search (first-sound, second-sound)))
+      let pass : assemblyCheck ncol nrow es panel ≡ Sound = sym e ∙ h in
+      lengths ncol nrow es panel (not-refused (entriesSound ncol nrow es panel) AssemblyLength (search (first-sound, second-sound)))
 
-  pub checked-entries : k ≡ answer.the-variants.Sound → AddPre nrow (es .rows) (es .cols) (es .numbers) (length panel)
+  pub checked-entries : k ≡ Sound → AddPre nrow (es .rows) (es .cols) (es .numbers) (length panel)
   unfolding assemblyCheck placeSound
   checked-entries h =
-      let pass : assemblyCheck ncol nrow es panel ≡ sound = check-passes k (assemblyCheck ncol nrow es panel) h e in
-      let all : placesCheck ncol nrow es panel ≡ sound = search (first-sound, second-sound) in
+      let pass : assemblyCheck ncol nrow es panel ≡ Sound = sym e ∙ h in
+      let all : placesCheck ncol nrow es panel ≡ Sound = search (first-sound, second-sound) in
       let l : Lengths ncol nrow es panel = checked-lengths h in
       record {
         columns = l .cols;
         numbers = l .numbers;
         places = λ i m.
             let in-lower : placeSound ncol nrow (bytes (es .rows)) (bytes (es .cols)) i ≡ true
-            = first-all (placeSound ncol nrow (bytes (es .rows)) (bytes (es .cols))) 11 (length (es .rows)) i all m in
+            = first-all (placeSound ncol nrow (bytes (es .rows)) (bytes (es .cols))) AssemblyPlace (length (es .rows)) i all m in
             in-panel nrow ncol (bytes (es .rows) i) (bytes (es .cols) i) (length panel) (l .area)
             (ltb-true (bytes (es .rows) i) nrow (search (and-left, and-right))) (ltb-true (bytes (es .cols) i) ncol (search (and-left, and-right)));
       }
 
-  pub assembly-done : (new : List Float) → k ≡ answer.the-variants.Sound → length new ≡ length panel
+  pub assembly-done : (new : List Float) → k ≡ Sound → length new ≡ length panel
       → view nrow new ≡ assembledFrom (bytes (es .rows)) (bytes (es .cols)) (vec (es .numbers)) (length (es .rows)) 0 (view nrow panel)
       → leaves Done new ≡ assemblyOf ncol nrow es panel
   unfolding assemblyOf
@@ -168,7 +126,7 @@ module _ (ncol nrow : ℕ) (es : Entries) (panel : List Float) (k : answer.Entry
       = is-columnMajor nrow ncol a new (l ∙ checked-lengths h .area) (λ i j _ _. ap (λ (m : Mat). m i j) v) in
       ap (leaves Done) is ∙ leaves-done k (assemblyCheck ncol nrow es panel) (columnMajor nrow ncol a) panel h e
 
-  pub assembly-refuses : (r : Refusal) (a : Applied) → k ≡ answer.the-variants.Refused r → appliedSays a ≡ answerOf (entrySays k)
+  pub assembly-refuses : (r : Refusal) (a : Applied) → k ≡ Refused r → a ≡ answerOf k
       → leaves a panel ≡ assemblyOf ncol nrow es panel
   unfolding assemblyOf
   assembly-refuses r a h f = leaves-refused k r (assemblyCheck ncol nrow es panel) a _ panel h e f

@@ -1,4 +1,4 @@
--- The assembly call's arguments and what it leaves, as the definitions have them; what the functions below it ask of their callers.
+-- The assembly call's arguments as the definitions have them; what the functions below it ask of their callers.
 -- Definitions only. Assumes nothing.
 use mathlib.Core.Path.{_≡_}
 use mathlib.Core.Bool.{Bool}
@@ -8,9 +8,7 @@ use lib.ListN.{length}
 use lib.Ieee.{Float}
 use Rattle.model.specs.Scalar.{isFinite}
 use Rattle.model.specs.Matrix.{vec, bytes}
-use Rattle.model.specs.Assembly.{Entries, Panelled}
-use Rattle.model.specs.Answer.{Said, refused, accepted, Check, sound, stop, appliedSays}
-use Rattle.model.specs.declared.Applied.{Applied}
+use Rattle.model.specs.Assembly.{Entries}
 use Rattle.grid.specs.Grid.{In}
 
 abbrev pub entriesOf : List ℕ → List ℕ → List Float → Entries
@@ -19,15 +17,6 @@ entriesOf rows cols numbers = record { rows = rows; cols = cols; numbers = numbe
 -- number k of the list is finite
 unfoldable pub finiteAt : List Float → ℕ → Bool
 finiteAt xs = λ k. isFinite (vec xs k)
-
--- what a call answers to its checks
-abbrev pub answerOf : Check → Said (Unit {0})
-answerOf sound = accepted tt
-answerOf (stop n a b) = refused n a b
-
--- the answer and the panel at the end
-abbrev pub leaves : Applied → List Float → Panelled
-leaves r panel = record { answer = appliedSays r; panel = panel }
 
 -- three lists of one length, and every place in the panel
 pub record AddPre (n : ℕ) (is js : List ℕ) (xs : List Float) (len : ℕ) : Type 0 where

@@ -8,12 +8,12 @@ ghost use lib.ListN.{length};
 ghost use Rattle.model.specs.Matrix.{view, vec, bytes};
 ghost use Rattle.model.specs.Assembly.{entriesSound, firstNot, placeSound, assemblyCheck};
 ghost use Rattle.model.specs.Assembly.{addedAt, assembledFrom, assemblyOf};
-ghost use Rattle.model.specs.Answer.{appliedSays};
 ghost use Rattle.grid.specs.Grid.{In};
-ghost use Rattle.entry.specs.Entry.{entrySays};
-ghost use Rattle.assembly.specs.Call.{entriesOf, finiteAt, answerOf, leaves, AddPre};
-use entry::Entry;
+ghost use Rattle.model.specs.declared.Refusal.the-variants.{AssemblyPlace, AssemblyNumber};
+ghost use Rattle.checks.specs.Answers.{leaves};
+ghost use Rattle.assembly.specs.Call.{entriesOf, finiteAt, AddPre};
 use model::Applied;
+use model::Check;
 use model::Elim;
 use model::LocalRow;
 use model::Refusal;
@@ -32,7 +32,7 @@ fn entries_sound(
     ensures { λ r. ⌜ r ≡ entriesSound ncol nrow
         (entriesOf (now (rows .entry)) (now (cols .entry)) (now (numbers .entry))) (now (panel .entry)) ⌝ }
 {
-    if !entry::shape_sound(ncol, nrow) {
+    if !checks::shape_sound(ncol, nrow) {
         return false;
     }
     let n = rows.len();
@@ -47,34 +47,35 @@ fn place_sound(ncol: usize, nrow: usize, row: LocalRow, column: Elim) -> bool
 }
 
 // Refusal 11: the first entry whose place is not in the panel's lower part.
-fn first_bad_place(ncol: usize, nrow: usize, rows: &[usize], cols: &[usize]) -> Entry
+fn first_bad_place(ncol: usize, nrow: usize, rows: &[usize], cols: &[usize]) -> Check
     requires { ⌜ length (now cols) ≡ length (now rows) ⌝ }
-    ensures { λ r. ⌜ entrySays r
-        ≡ firstNot (placeSound ncol nrow (bytes (now (rows .entry))) (bytes (now (cols .entry)))) 11
+    ensures { λ r. ⌜ r
+        ≡ firstNot (placeSound ncol nrow (bytes (now (rows .entry))) (bytes (now (cols .entry)))) AssemblyPlace
         (length (now (rows .entry))) 0 ⌝ }
 {
     let mut k = 0;
     while k < rows.len() {
         if !place_sound(ncol, nrow, LocalRow(rows[k]), Elim(cols[k])) {
-            return Entry::Refused(Refusal::AssemblyPlace(k));
+            return Check::Refused(Refusal::AssemblyPlace(k));
         }
         k += 1;
     }
-    Entry::Sound
+    Check::Sound
 }
 
 // Refusal 12: the first entry that is not finite.
-fn first_bad_number(numbers: &[f64]) -> Entry
-    ensures { λ r. ⌜ entrySays r ≡ firstNot (finiteAt (now (numbers .entry))) 12 (length (now (numbers .entry))) 0 ⌝ }
+fn first_bad_number(numbers: &[f64]) -> Check
+    ensures { λ r. ⌜ r ≡ firstNot (finiteAt (now (numbers .entry))) AssemblyNumber
+        (length (now (numbers .entry))) 0 ⌝ }
 {
     let mut k = 0;
     while k < numbers.len() {
         if !scalar::is_finite(numbers[k]) {
-            return Entry::Refused(Refusal::AssemblyNumber(k));
+            return Check::Refused(Refusal::AssemblyNumber(k));
         }
         k += 1;
     }
-    Entry::Sound
+    Check::Sound
 }
 
 // Refusals 10 to 12.
@@ -85,28 +86,18 @@ fn assembly_check(
     cols: &[usize],
     numbers: &[f64],
     panel: &[f64],
-) -> Entry
-    ensures { λ r. ⌜ entrySays r ≡ assemblyCheck ncol nrow
+) -> Check
+    ensures { λ r. ⌜ r ≡ assemblyCheck ncol nrow
         (entriesOf (now (rows .entry)) (now (cols .entry)) (now (numbers .entry))) (now (panel .entry)) ⌝ }
 {
     if !entries_sound(ncol, nrow, rows, cols, numbers, panel) {
-        return Entry::Refused(Refusal::AssemblyLength);
+        return Check::Refused(Refusal::AssemblyLength);
     }
     let places = first_bad_place(ncol, nrow, rows, cols);
-    let Entry::Sound = places else {
+    let Check::Sound = places else {
         return places;
     };
     first_bad_number(numbers)
-}
-
-// What a call answers to its checks: the refusal that they found, or that all is done.
-pub fn answer(checked: Entry) -> Applied
-    ensures { λ r. ⌜ appliedSays r ≡ answerOf (entrySays checked) ⌝ }
-{
-    match checked {
-        Entry::Sound => Applied::Done,
-        Entry::Refused(refusal) => Applied::Refused(refusal),
-    }
 }
 
 // ---- the entries
@@ -151,8 +142,8 @@ pub fn assemble(
         (entriesOf (now (rows .entry)) (now (cols .entry)) (now (numbers .entry))) (now (panel .entry)) ⌝ }
 {
     let checked = assembly_check(ncol, nrow, rows, cols, numbers, &panel[..]);
-    let Entry::Sound = checked else {
-        return answer(checked);
+    let Check::Sound = checked else {
+        return checks::answer(checked);
     };
     add_entries(nrow, rows, cols, numbers, panel);
     Applied::Done

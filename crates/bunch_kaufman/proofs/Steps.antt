@@ -11,7 +11,7 @@ use mir.Val.{Fits}
 use Rattle.model.specs.Sizes.{mostColumns, mostRounds}
 use Rattle.model.specs.Matrix.{Mat}
 use Rattle.model.specs.Step.{Pivots, isBlock}
-use Rattle.model.specs.Head.{State, Tried, refusedAt, took, tryOf, lastOf, noted, Progress, going, after, panelOf}
+use Rattle.model.specs.Head.{State, Tried, refusedBy, took, tryOf, lastOf, noted, Progress, going, after, panelOf}
 use Rattle.model.specs.Kept.{Starts, Recorded}
 use Rattle.model.specs.declared.Mode.{Mode}
 use Rattle.model.specs.declared.Pivot.{Pivot}
@@ -32,7 +32,7 @@ use Rattle.bunch_kaufman.specs.declared.Ran.the-variants.{Done}
 module _ (ke : ℕ) (mode : Mode) (limit : ℕ) where
   after-alike : (t : Tried) (s : State) (k : ℕ) (f g : ℕ → State → Progress)
       → ((b : Bool) (u : State) → f (lastOf k b + 1) u ≡ g (lastOf k b + 1) u) → after t s k f ≡ after t s k g
-  after-alike (refusedAt n p) s k f g h = refl
+  after-alike (refusedBy r) s k f g h = refl
   after-alike (took v a m) s k f g h = h (isBlock (v .diagonal)) _
 
   -- more steps than columns are left change nothing
@@ -151,9 +151,9 @@ from-step kb ke limit k p v g w = record {
   start = noted-starts kb k (lastOf k (isBlock (v .diagonal))) p v (w .at) (last-ge k (isBlock (v .diagonal))) (w .start);
 }
 
--- a refusal leaves no more to say than that it names a column
-pub notes-stop : (kb ke k : ℕ) (T : Taken) (r : Refusal) (A : Ran) (f g : ℕ → ℕ) → TakenIn ke k T → T ≡ Refused r → A ≡ endedBy T → RanTo kb ke A f g
-notes-stop kb ke k T r A f g h z w = rw (w, z) (subst (λ (u : Taken). TakenIn ke k u) z h)
+-- a refusal leaves nothing to say of the notes
+pub notes-stop : (kb ke : ℕ) (T : Taken) (r : Refusal) (A : Ran) (f g : ℕ → ℕ) → T ≡ Refused r → A ≡ endedBy T → RanTo kb ke A f g
+notes-stop kb ke T r A f g z w = rw (w, z) tt
 
 -- the notes of the state u after a panel's steps from s
 pub notes-end : (ke : ℕ) (mode : Mode) (limit kb k before : ℕ) (s u : State) → NotedTo kb ke before (s .pivots .diagonals .blocks) (s .pivots .partners) → kb ≤ ke

@@ -6,7 +6,7 @@ use native.Mathlib.Omega.{arith}
 use lib.Ieee.{Float}
 use Rattle.model.specs.Sizes.{mostRounds}
 use Rattle.model.specs.Matrix.{Mat, exchanged}
-use Rattle.model.specs.Choice as choice
+use Rattle.model.specs.Choice.{chooseOf}
 use Rattle.model.specs.Step.{blockOf}
 use Rattle.model.specs.Head.{settledOne, settledTwo, headOne, headTwo, keptOne, keptTwo, Tried, afterOne, afterTwo, tryBlock, tryBy, tryOf}
 use Rattle.model.specs.declared.Mode.{Mode}
@@ -16,18 +16,18 @@ use Rattle.model.specs.declared.Diagonal.the-variants.{One, Two}
 use Rattle.model.specs.declared.Elim.{Elim}
 use Rattle.model.specs.declared.LocalRow.{LocalRow}
 use Rattle.model.specs.declared.Refusal.the-variants.{ZeroPivot, Rounds}
+use Rattle.model.specs.declared.Choice.{Choice}
+use Rattle.model.specs.declared.Choice.the-variants.{ZeroColumn, Single, Block}
+use Rattle.model.specs.declared.OneSettled as one
+use Rattle.model.specs.declared.TwoSettled as two
 use Rattle.model.proofs.Bounds.{Good, try-good}
 use Rattle.grid.specs.Grid.{In}
 use Rattle.grid.proofs.Laws.{in-panel}
 use Rattle.scan.specs.Greatest.{Within}
 use Rattle.eliminate.specs.Eliminate.{TwoPre}
-use Rattle.rule.specs.Answers.{chosenIs, ChosenWithin, settledOneIs, settledTwoIs}
-use Rattle.rule.specs.declared.Choice.{Choice}
-use Rattle.rule.specs.declared.Choice.the-variants.{ZeroColumn, Single, Block}
-use Rattle.rule.specs.declared.OneSettled as one
-use Rattle.rule.specs.declared.TwoSettled as two
+use Rattle.rule.specs.Chosen.{ChosenWithin}
 use Rattle.bunch_kaufman.specs.Slices.{blockIn}
-use Rattle.bunch_kaufman.specs.Answers.{tried, byMode, singleOf, pairOf, ByColumn}
+use Rattle.bunch_kaufman.specs.Answers.{tried, byMode, singleOf, pairOf}
 use Rattle.bunch_kaufman.specs.Terms.{TakenIn, LimitPre, PanelPre, StepPre, PivotPre, BlockPre}
 use Rattle.bunch_kaufman.specs.declared.Taken.{Taken}
 use Rattle.bunch_kaufman.specs.declared.Taken.the-variants.{Refused, Took}
@@ -51,18 +51,18 @@ block-is P k x y z b e f g h = h ∙ rw (e, f, g)
 
 -- ---- a 1x1: x is the number at row kp, S its settlement, B the matrix exchanged, B′ and M′ what is left
 
-single-by : (ke k kp : ℕ) (A M : Mat) (mode : Mode) (x : Float) (S o : one.OneSettled) → x ≡ A kp kp → settledOneIs S ≡ settledOne mode x → S ≡ o
-    → afterOne ke A M k kp (settledOneIs o) ≡ singleOf ke A M mode k kp
+single-by : (ke k kp : ℕ) (A M : Mat) (mode : Mode) (x : Float) (S o : one.OneSettled) → x ≡ A kp kp → S ≡ settledOne mode x → S ≡ o
+    → afterOne ke A M k kp o ≡ singleOf ke A M mode k kp
 unfolding singleOf
-single-by ke k kp A M mode x S o e s z = ap (afterOne ke A M k kp) (ap settledOneIs (sym z) ∙ s ∙ ap (settledOne mode) e)
+single-by ke k kp A M mode x S o e s z = ap (afterOne ke A M k kp) (sym z ∙ s ∙ ap (settledOne mode) e)
 
 pub single-stop : (ke : ℕ) (k : Elim) (kp : ℕ) (A M B N : Mat) (mode : Mode) (x : Float) (S : one.OneSettled)
-    → x ≡ A kp kp → settledOneIs S ≡ settledOne mode x → S ≡ one.the-variants.ZeroPivot → tried (Refused (ZeroPivot k)) B N ≡ singleOf ke A M mode (k .0) kp
+    → x ≡ A kp kp → S ≡ settledOne mode x → S ≡ one.the-variants.Zero → tried (Refused (ZeroPivot k)) B N ≡ singleOf ke A M mode (k .0) kp
 unfolding tried
-single-stop ke k kp A M B N mode x S e s z = single-by ke (k .0) kp A M mode x S one.the-variants.ZeroPivot e s z
+single-stop ke k kp A M B N mode x S e s z = single-by ke (k .0) kp A M mode x S one.the-variants.Zero e s z
 
 pub single-took : (ke k kp : ℕ) (A M B B′ M′ : Mat) (mode : Mode) (x d amount : Float) (lifted : ℕ) (S : one.OneSettled)
-    → x ≡ A kp kp → settledOneIs S ≡ settledOne mode x → S ≡ one.the-variants.Number d lifted amount → B ≡ exchanged k kp ke A
+    → x ≡ A kp kp → S ≡ settledOne mode x → S ≡ one.the-variants.Number d lifted amount → B ≡ exchanged k kp ke A
     → B′ ≡ headOne ke k d B → M′ ≡ keptOne ke k d B M
     → tried (Took (record { p = record { 0 = k }; kp = record { 0 = kp }; diagonal = One d; lifted = lifted; amount = amount; rounds = 0 })) B′ M′
     ≡ singleOf ke A M mode k kp
@@ -73,25 +73,25 @@ single-took ke k kp A M B B′ M′ mode x d amount lifted S e s z b b′ m′ =
 -- ---- a block: B is the matrix exchanged, b its block, S the settlement, B′ and M′ what is left
 
 pair-by : (ke k p kp limit : ℕ) (A M B : Mat) (mode : Mode) (b : Numbers) (S o : two.TwoSettled) → B ≡ exchanged (k + 1) kp ke A → b ≡ blockIn B k
-    → settledTwoIs S ≡ settledTwo mode limit b → S ≡ o → afterTwo ke A M k p kp (settledTwoIs o) ≡ pairOf ke A M mode limit k p kp
+    → S ≡ settledTwo mode limit b → S ≡ o → afterTwo ke A M k p kp o ≡ pairOf ke A M mode limit k p kp
 unfolding pairOf
 pair-by ke k p kp limit A M B mode b S o x e s z =
-    ap (afterTwo ke A M k p kp) (ap settledTwoIs (sym z) ∙ s ∙ ap (settledTwo mode limit) (e ∙ ap (λ (P : Mat). blockIn P k) x))
+    ap (afterTwo ke A M k p kp) (sym z ∙ s ∙ ap (settledTwo mode limit) (e ∙ ap (λ (P : Mat). blockIn P k) x))
 
 pub pair-stop : (ke : ℕ) (k : Elim) (p kp limit : ℕ) (A M B N : Mat) (mode : Mode) (b : Numbers) (S : two.TwoSettled)
-    → B ≡ exchanged (k .0 + 1) kp ke A → b ≡ blockIn B (k .0) → settledTwoIs S ≡ settledTwo mode limit b → S ≡ two.the-variants.ZeroPivot
+    → B ≡ exchanged (k .0 + 1) kp ke A → b ≡ blockIn B (k .0) → S ≡ settledTwo mode limit b → S ≡ two.the-variants.Low
     → tried (Refused (ZeroPivot k)) B N ≡ pairOf ke A M mode limit (k .0) p kp
 unfolding tried
-pair-stop ke k p kp limit A M B N mode b S x e s z = pair-by ke (k .0) p kp limit A M B mode b S two.the-variants.ZeroPivot x e s z
+pair-stop ke k p kp limit A M B N mode b S x e s z = pair-by ke (k .0) p kp limit A M B mode b S two.the-variants.Low x e s z
 
 pub pair-rounds : (ke : ℕ) (k : Elim) (p kp limit : ℕ) (A M B N : Mat) (mode : Mode) (b : Numbers) (S : two.TwoSettled)
-    → B ≡ exchanged (k .0 + 1) kp ke A → b ≡ blockIn B (k .0) → settledTwoIs S ≡ settledTwo mode limit b → S ≡ two.the-variants.Rounds
+    → B ≡ exchanged (k .0 + 1) kp ke A → b ≡ blockIn B (k .0) → S ≡ settledTwo mode limit b → S ≡ two.the-variants.OutOfRounds
     → tried (Refused (Rounds k)) B N ≡ pairOf ke A M mode limit (k .0) p kp
 unfolding tried
-pair-rounds ke k p kp limit A M B N mode b S x e s z = pair-by ke (k .0) p kp limit A M B mode b S two.the-variants.Rounds x e s z
+pair-rounds ke k p kp limit A M B N mode b S x e s z = pair-by ke (k .0) p kp limit A M B mode b S two.the-variants.OutOfRounds x e s z
 
 pub pair-took : (ke k p kp limit : ℕ) (A M B B′ M′ : Mat) (mode : Mode) (b v : Numbers) (amount : Float) (lifted rounds : ℕ) (S : two.TwoSettled)
-    → B ≡ exchanged (k + 1) kp ke A → b ≡ blockIn B k → settledTwoIs S ≡ settledTwo mode limit b → S ≡ two.the-variants.Numbers v lifted amount rounds
+    → B ≡ exchanged (k + 1) kp ke A → b ≡ blockIn B k → S ≡ settledTwo mode limit b → S ≡ two.the-variants.Numbers v lifted amount rounds
     → B′ ≡ headTwo ke k v B → M′ ≡ keptTwo ke k v B M
     → tried (Took (record { p = record { 0 = p }; kp = record { 0 = kp }; diagonal = Two v; lifted = lifted; amount = amount; rounds = rounds })) B′ M′
     ≡ pairOf ke A M mode limit k p kp
@@ -111,17 +111,17 @@ pub mode-single : (mode : Mode) (k : Elim) (C : Choice) (kp : LocalRow) → C �
 mode-single Fail k C kp z = sym z
 mode-single (Lift floor) k C kp z = rw z
 
-pub mode-block : (mode : Mode) (k : Elim) (C : Choice) (kp : LocalRow) → C ≡ Block kp → Block kp ≡ byMode mode k C
-mode-block Fail k C kp z = sym z
-mode-block (Lift floor) k C kp z = rw z
+pub mode-block : (mode : Mode) (k : Elim) (C : Choice) (p kp : LocalRow) → C ≡ Block p kp → Block p kp ≡ byMode mode k C
+mode-block Fail k C p kp z = sym z
+mode-block (Lift floor) k C p kp z = rw z
 
 -- the step is the same
 by-mode : (ke : ℕ) (A M : Mat) (mode : Mode) (limit : ℕ) (k : Elim) (C : Choice)
-    → tryBy ke A M mode limit (k .0) (chosenIs (k .0) (byMode mode k C)) ≡ tryBy ke A M mode limit (k .0) (chosenIs (k .0) C)
+    → tryBy ke A M mode limit (k .0) (byMode mode k C) ≡ tryBy ke A M mode limit (k .0) C
 by-mode ke A M Fail limit k C = refl
 by-mode ke A M (Lift floor) limit k ZeroColumn = refl
 by-mode ke A M (Lift floor) limit k (Single kp) = refl
-by-mode ke A M (Lift floor) limit k (Block kp) = refl
+by-mode ke A M (Lift floor) limit k (Block p kp) = refl
 
 -- and so is where it can stand
 pub within-mode : (ke : ℕ) (mode : Mode) (k : Elim) (C D : Choice) → k .0 < ke → ChosenWithin (k .0) ke C → D ≡ byMode mode k C → ChosenWithin (k .0) ke D
@@ -131,31 +131,32 @@ within-mode ke mode k C D h w e = subst (ChosenWithin (k .0) ke) (sym e) (go mod
     go Fail C w = w
     go (Lift floor) ZeroColumn w = record { low = omega arith; high = h }
     go (Lift floor) (Single kp) w = w
-    go (Lift floor) (Block kp) w = w
+    go (Lift floor) (Block p kp) w = w
 
-by-choice : (ke : ℕ) (A M : Mat) (mode : Mode) (limit : ℕ) (k : Elim) (C D o : Choice) → chosenIs (k .0) C ≡ choice.chooseOf A (k .0) ke → D ≡ byMode mode k C
-    → D ≡ o → tryBy ke A M mode limit (k .0) (chosenIs (k .0) o) ≡ tryOf ke A M mode limit (k .0)
+by-choice : (ke : ℕ) (A M : Mat) (mode : Mode) (limit : ℕ) (k : Elim) (C D o : Choice) → C ≡ chooseOf A (k .0) ke → D ≡ byMode mode k C
+    → D ≡ o → tryBy ke A M mode limit (k .0) o ≡ tryOf ke A M mode limit (k .0)
 unfolding tryOf
 by-choice ke A M mode limit k C D o c m z =
-    ap (λ (x : Choice). tryBy ke A M mode limit (k .0) (chosenIs (k .0) x)) (sym z ∙ m)
+    ap (tryBy ke A M mode limit (k .0)) (sym z ∙ m)
     ∙ by-mode ke A M mode limit k C
     ∙ ap (tryBy ke A M mode limit (k .0)) c
 
 -- a zero column is left in Fail alone
 zero-by : (ke : ℕ) (A M B N : Mat) (mode : Mode) (limit : ℕ) (k : Elim) (C : Choice) → byMode mode k C ≡ ZeroColumn
-    → tried (Refused (ZeroPivot k)) B N ≡ tryBy ke A M mode limit (k .0) choice.zeroColumn
+    → tried (Refused (ZeroPivot k)) B N ≡ tryBy ke A M mode limit (k .0) ZeroColumn
 unfolding tried
 zero-by ke A M B N Fail limit k C e = refl
 zero-by ke A M B N (Lift floor) limit k ZeroColumn e = cc
 zero-by ke A M B N (Lift floor) limit k (Single kp) e = cc
-zero-by ke A M B N (Lift floor) limit k (Block kp) e = cc
+zero-by ke A M B N (Lift floor) limit k (Block p kp) e = cc
 
-one-by : (ke : ℕ) (A M : Mat) (mode : Mode) (limit k kp : ℕ) → singleOf ke A M mode k kp ≡ tryBy ke A M mode limit k (choice.single kp)
+one-by : (ke : ℕ) (A M : Mat) (mode : Mode) (limit k : ℕ) (kp : LocalRow) → singleOf ke A M mode k (kp .0) ≡ tryBy ke A M mode limit k (Single kp)
 unfolding singleOf
 one-by ke A M Fail limit k kp = refl
 one-by ke A M (Lift floor) limit k kp = refl
 
-two-by : (ke : ℕ) (A M : Mat) (mode : Mode) (limit k p kp : ℕ) → pairOf ke (exchanged k p ke A) M mode limit k p kp ≡ tryBy ke A M mode limit k (choice.block p kp)
+two-by : (ke : ℕ) (A M : Mat) (mode : Mode) (limit k : ℕ) (p kp : LocalRow)
+    → pairOf ke (exchanged k (p .0) ke A) M mode limit k (p .0) (kp .0) ≡ tryBy ke A M mode limit k (Block p kp)
 unfolding pairOf
 two-by ke A M Fail limit k p kp = refl
 two-by ke A M (Lift floor) limit k p kp = refl
@@ -170,26 +171,26 @@ moved-by ke k p kp limit A B M mode R e r = r ∙ ap (λ (P : Mat). pairOf ke P 
 -- Fail lifts nothing
 fail-limit : (ke : ℕ) (A M : Mat) (limit k : ℕ) → tryOf ke A M Fail limit k ≡ tryOf ke A M Fail 0 k
 unfolding tryOf settledTwo
-fail-limit ke A M limit k = by (choice.chooseOf A k ke)
+fail-limit ke A M limit k = by (chooseOf A k ke)
   where
-    by : (o : choice.Choice) → tryBy ke A M Fail limit k o ≡ tryBy ke A M Fail 0 k o
-    by choice.zeroColumn = refl
-    by (choice.single kp) = refl
-    by (choice.block p kp) = refl
+    by : (o : Choice) → tryBy ke A M Fail limit k o ≡ tryBy ke A M Fail 0 k o
+    by ZeroColumn = refl
+    by (Single kp) = refl
+    by (Block p kp) = refl
 
-tried-in : (ke k limit : ℕ) (T : Taken) (A′ M′ : Mat) (R : Tried) → limit ≤ mostRounds → Good ke limit k R → tried T A′ M′ ≡ R → ByColumn T → TakenIn ke k T
+tried-in : (ke k limit : ℕ) (T : Taken) (A′ M′ : Mat) (R : Tried) → limit ≤ mostRounds → Good ke limit k R → tried T A′ M′ ≡ R → TakenIn ke k T
 unfolding tried
-tried-in ke k limit (Refused r) A′ M′ R l g e h = h
-tried-in ke k limit (Took v) A′ M′ R l g e h =
+tried-in ke k limit (Refused r) A′ M′ R l g e = tt
+tried-in ke k limit (Took v) A′ M′ R l g e =
     let w = subst (Good ke limit k) (sym e) g in
     record { last = w .last; row = w .row; first = w .first; few = omega (arith, w .few) }
 
 kept : (ke : ℕ) (A M : Mat) (mode : Mode) (limit k : ℕ) (T : Taken) (A′ M′ : Mat)
-    → k < ke → LimitPre mode limit → ByColumn T → tried T A′ M′ ≡ tryOf ke A M mode limit k → (tried T A′ M′ ≡ tryOf ke A M mode limit k) × TakenIn ke k T
-kept ke A M Fail limit k T A′ M′ h l b e =
-    (e, tried-in ke k 0 T A′ M′ (tryOf ke A M Fail 0 k) (omega arith) (try-good ke A M Fail 0 k h) (e ∙ fail-limit ke A M limit k) b)
-kept ke A M (Lift floor) limit k T A′ M′ h l b e =
-    (e, tried-in ke k limit T A′ M′ (tryOf ke A M (Lift floor) limit k) l (try-good ke A M (Lift floor) limit k h) e b)
+    → k < ke → LimitPre mode limit → tried T A′ M′ ≡ tryOf ke A M mode limit k → (tried T A′ M′ ≡ tryOf ke A M mode limit k) × TakenIn ke k T
+kept ke A M Fail limit k T A′ M′ h l e =
+    (e, tried-in ke k 0 T A′ M′ (tryOf ke A M Fail 0 k) (omega arith) (try-good ke A M Fail 0 k h) (e ∙ fail-limit ke A M limit k))
+kept ke A M (Lift floor) limit k T A′ M′ h l e =
+    (e, tried-in ke k limit T A′ M′ (tryOf ke A M (Lift floor) limit k) l (try-good ke A M (Lift floor) limit k h) e)
 
 -- ---- a step: C is the choice, T the answer, A′ and M′ what is left
 
@@ -197,32 +198,32 @@ pub single-pre : (nrow ncol nb kb ke k : ℕ) (kp : LocalRow) (len lenM : ℕ) (
     → PivotPre nrow ncol nb kb ke k k (kp .0) len lenM
 single-pre nrow ncol nb kb ke k kp len lenM C h z g = let w = subst (ChosenWithin k ke) z g in record { at = h; from = w .low; row = w .high }
 
-pub pair-pre : (nrow ncol nb kb ke k : ℕ) (kp : LocalRow) (len lenM : ℕ) (C : Choice) → StepPre nrow ncol nb kb ke k k len lenM → C ≡ Block kp → ChosenWithin k ke C
-    → PivotPre nrow ncol nb kb ke k (k + 1) (kp .0) len lenM × Within k ke k
-pair-pre nrow ncol nb kb ke k kp len lenM C h z g =
-    let w = subst (ChosenWithin k ke) z g in (
-      record { at = record { sizes = h .sizes; from = h .from; last = omega (arith, w .low, w .high) }; from = w .low; row = w .high },
-      record { low = omega arith; high = omega (arith, w .low, w .high) },
-    )
+pub pair-pre : (nrow ncol nb kb ke k : ℕ) (p kp : LocalRow) (len lenM : ℕ) (C : Choice) → StepPre nrow ncol nb kb ke k k len lenM
+    → C ≡ Block p kp → ChosenWithin k ke C
+    → PivotPre nrow ncol nb kb ke k (k + 1) (kp .0) len lenM × Within k ke (p .0)
+pair-pre nrow ncol nb kb ke k p kp len lenM C h z g =
+    let w = subst (ChosenWithin k ke) z g in
+    let r = w .1 in
+    (record { at = record { sizes = h .sizes; from = h .from; last = omega (arith, r .low, r .high) }; from = r .low; row = r .high }, w .0)
 
 -- the choice at k, D by the mode and by its case o
 module _ (ke : ℕ) (A M A′ M′ : Mat) (mode : Mode) (limit : ℕ) (k : Elim) (C D : Choice) (h : k .0 < ke) (l : LimitPre mode limit)
-    (c : chosenIs (k .0) C ≡ choice.chooseOf A (k .0) ke) (m : D ≡ byMode mode k C) where
+    (c : C ≡ chooseOf A (k .0) ke) (m : D ≡ byMode mode k C) where
   abbrev Stepped : Taken → Type 0
   Stepped T = (tried T A′ M′ ≡ tryOf ke A M mode limit (k .0)) × TakenIn ke (k .0) T
 
   pub step-zero : D ≡ ZeroColumn → Stepped (Refused (ZeroPivot k))
   step-zero z =
-      kept ke A M mode limit (k .0) (Refused (ZeroPivot k)) A′ M′ h l refl
+      kept ke A M mode limit (k .0) (Refused (ZeroPivot k)) A′ M′ h l
       (zero-by ke A M A′ M′ mode limit k C (sym m ∙ z) ∙ by-choice ke A M mode limit k C D ZeroColumn c m z)
 
-  pub step-single : (kp : LocalRow) (T : Taken) → D ≡ Single kp → tried T A′ M′ ≡ singleOf ke A M mode (k .0) (kp .0) → ByColumn T → Stepped T
-  step-single kp T z r b =
-      kept ke A M mode limit (k .0) T A′ M′ h l b
-      (r ∙ one-by ke A M mode limit (k .0) (kp .0) ∙ by-choice ke A M mode limit k C D (Single kp) c m z)
+  pub step-single : (kp : LocalRow) (T : Taken) → D ≡ Single kp → tried T A′ M′ ≡ singleOf ke A M mode (k .0) (kp .0) → Stepped T
+  step-single kp T z r =
+      kept ke A M mode limit (k .0) T A′ M′ h l
+      (r ∙ one-by ke A M mode limit (k .0) kp ∙ by-choice ke A M mode limit k C D (Single kp) c m z)
 
-  pub step-pair : (kp : LocalRow) (T : Taken) → D ≡ Block kp → tried T A′ M′ ≡ pairOf ke (exchanged (k .0) (k .0) ke A) M mode limit (k .0) (k .0) (kp .0)
-      → ByColumn T → Stepped T
-  step-pair kp T z r b =
-      kept ke A M mode limit (k .0) T A′ M′ h l b
-      (r ∙ two-by ke A M mode limit (k .0) (k .0) (kp .0) ∙ by-choice ke A M mode limit k C D (Block kp) c m z)
+  pub step-pair : (p kp : LocalRow) (T : Taken) → D ≡ Block p kp
+      → tried T A′ M′ ≡ pairOf ke (exchanged (k .0) (p .0) ke A) M mode limit (k .0) (p .0) (kp .0) → Stepped T
+  step-pair p kp T z r =
+      kept ke A M mode limit (k .0) T A′ M′ h l
+      (r ∙ two-by ke A M mode limit (k .0) p kp ∙ by-choice ke A M mode limit k C D (Block p kp) c m z)

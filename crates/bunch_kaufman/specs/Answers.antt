@@ -1,42 +1,17 @@
 -- The declared answers of a step and of a panel's steps in the model's words. Definitions only. Assumes nothing.
-use mathlib.Core.Path.{_≡_}
 use Prim.Native.Nat.{ℕ, _+_}
 use Rattle.model.specs.Matrix.{Mat, exchanged}
-use Rattle.model.specs.Head.{State, settledOne, settledTwo, Tried, refusedAt, took, afterOne, afterTwo, tryBlock, Progress, stopped, going}
-use Rattle.model.specs.Answer.{Said, refused, accepted, turnedAway}
+use Rattle.model.specs.Head.{State, settledOne, settledTwo, Tried, refusedBy, took, afterOne, afterTwo, tryBlock, Progress, stopped, going}
 use Rattle.model.specs.declared.Elim.{Elim}
 use Rattle.model.specs.declared.Mode.{Mode}
 use Rattle.model.specs.declared.Mode.the-variants.{Fail, Lift}
-use Rattle.model.specs.declared.Refusal.{Refusal}
-use Rattle.model.specs.declared.Report.{Report}
-use Rattle.rule.specs.declared.Choice.{Choice}
-use Rattle.rule.specs.declared.Choice.the-variants.{ZeroColumn, Single, Block}
+use Rattle.model.specs.declared.Choice.{Choice}
+use Rattle.model.specs.declared.Choice.the-variants.{ZeroColumn, Single, Block}
 use Rattle.bunch_kaufman.specs.Slices.{blockIn}
 use Rattle.bunch_kaufman.specs.declared.Taken.{Taken}
 use Rattle.bunch_kaufman.specs.declared.Taken.the-variants.{Refused, Took}
 use Rattle.bunch_kaufman.specs.declared.Ran.{Ran}
 use Rattle.bunch_kaufman.specs.declared.Ran.the-variants.{Stopped, Done}
-
--- ---- a refusal, as the factor call says it
-
-abbrev saidNumber : Said Report → ℕ
-saidNumber (refused n a b) = n
-saidNumber (accepted r) = 0
-
-abbrev saidPlace : Said Report → ℕ
-saidPlace (refused n a b) = a
-saidPlace (accepted r) = 0
-
--- its number and its place A
-abbrev pub numberOf : Refusal → ℕ
-numberOf r = saidNumber (turnedAway r)
-
-abbrev pub placeOf : Refusal → ℕ
-placeOf r = saidPlace (turnedAway r)
-
--- a refusal of the run names a column and no row
-abbrev pub ColumnOnly : Refusal → Type 0
-ColumnOnly r = turnedAway {A = Report} r ≡ refused (numberOf r) (placeOf r) 0
 
 -- ---- the cases of a step
 
@@ -45,7 +20,7 @@ abbrev pub byMode : Mode → Elim → Choice → Choice
 byMode Fail k c = c
 byMode (Lift floor) k ZeroColumn = Single (record { 0 = k .0 })
 byMode (Lift floor) k (Single kp) = Single kp
-byMode (Lift floor) k (Block kp) = Block kp
+byMode (Lift floor) k (Block p kp) = Block p kp
 
 -- a 1x1 at k, its number from row kp
 unfoldable pub singleOf : ℕ → Mat → Mat → Mode → ℕ → ℕ → Tried
@@ -59,17 +34,12 @@ pairOf ke a m mode limit k p kp = tryBlock ke a m mode limit k p kp
 
 -- with the matrix and the multipliers that the step leaves
 unfoldable pub tried : Taken → Mat → Mat → Tried
-tried (Refused r) a m = refusedAt (numberOf r) (placeOf r)
+tried (Refused r) a m = refusedBy r
 tried (Took v) a m = took v a m
-
--- a step that refuses names a column and no row
-abbrev pub ByColumn : Taken → Type 0
-ByColumn (Refused r) = ColumnOnly r
-ByColumn (Took v) = Unit {0}
 
 -- at column k, with the state that the steps leave, by its rounds
 unfoldable pub progress : Ran → ℕ → (ℕ → State) → Progress
-progress (Stopped r) k s = stopped (numberOf r) (placeOf r)
+progress (Stopped r) k s = stopped r
 progress (Done rounds) k s = going k (s rounds)
 
 -- a panel that ends with this step

@@ -8,7 +8,6 @@ use Rattle.model.specs.Kept.{Starts, Recorded}
 use Rattle.model.specs.declared.Mode.{Mode}
 use Rattle.model.specs.declared.Mode.the-variants.{Fail, Lift}
 use Rattle.model.specs.declared.Pivot.{Pivot}
-use Rattle.bunch_kaufman.specs.Answers.{ColumnOnly}
 use Rattle.bunch_kaufman.specs.declared.Taken.{Taken}
 use Rattle.bunch_kaufman.specs.declared.Taken.the-variants.{Refused, Took}
 use Rattle.bunch_kaufman.specs.declared.Ran.{Ran}
@@ -25,7 +24,7 @@ pub record PivotIn (ke k : ℕ) (v : Pivot) : Type 0 where
 
 -- of a step's answer
 abbrev pub TakenIn : ℕ → ℕ → Taken → Type 0
-TakenIn ke k (Refused r) = ColumnOnly r
+TakenIn ke k (Refused r) = Unit {0}
 TakenIn ke k (Took v) = PivotIn ke k v
 
 -- of the notes, with the columns before k done in a panel that ends at ke: every block and every partner stands before ke, and no exchange goes back
@@ -42,7 +41,7 @@ pub record PanelNoted (kb ke rounds : ℕ) (blocks partners : ℕ → ℕ) : Typ
 
 -- of the answer and the notes after a panel's steps
 abbrev pub RanTo : ℕ → ℕ → Ran → (ℕ → ℕ) → (ℕ → ℕ) → Type 0
-RanTo kb ke (Stopped r) blocks partners = ColumnOnly r
+RanTo kb ke (Stopped r) blocks partners = Unit {0}
 RanTo kb ke (Done rounds) blocks partners = PanelNoted kb ke rounds blocks partners
 
 -- ---- what callers owe

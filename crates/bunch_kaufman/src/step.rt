@@ -9,21 +9,21 @@ ghost use Rattle.scan.specs.Greatest.{Within};
 ghost use Rattle.model.specs.Head.{tryOf};
 ghost use Rattle.eliminate.specs.Eliminate.{inPanel};
 ghost use Rattle.bunch_kaufman.specs.Slices.{blockIn};
-ghost use Rattle.bunch_kaufman.specs.Answers.{tried, byMode, singleOf, pairOf, ByColumn};
+ghost use Rattle.bunch_kaufman.specs.Answers.{tried, byMode, singleOf, pairOf};
 ghost use Rattle.bunch_kaufman.specs.Terms.{StepPre, PivotPre, BlockPre, LimitPre, TakenIn};
 use super::Taken;
 use model::Block;
+use model::Choice;
 use model::Diagonal;
 use model::Elim;
 use model::Frame;
 use model::LocalRow;
 use model::Mode;
+use model::OneSettled;
 use model::Pivot;
 use model::Refusal;
-use rule::Choice;
-use rule::OneSettled;
+use model::TwoSettled;
 use rule::PivotRule;
-use rule::TwoSettled;
 
 // The block at k and k + 1.
 fn block_at(panel: &[f64], nrow: usize, ncol: usize, k: Elim) -> Block
@@ -52,7 +52,6 @@ fn single(
     requires { ⌜ PivotPre nrow ncol nb kb ke (k .0) (k .0) (kp .0) (length (now panel)) (length (now mult)) ⌝ }
     ensures { λ r. ⌜ tried r (view nrow (now (panel .exit))) (inPanel kb ke (view nb (now (mult .exit))))
         ≡ singleOf ke (view nrow (now (panel .entry))) (inPanel kb ke (view nb (now (mult .entry)))) mode (k .0) (kp .0) ⌝ }
-    ensures { λ r. ⌜ ByColumn r ⌝ }
 {
     let settled = PivotRule::settle_one(mode, grid::get(panel, nrow, kp.0, kp.0));
     let OneSettled::Number { d, lifted, amount } = settled else {
@@ -100,13 +99,12 @@ fn pair(
     requires { ⌜ PivotPre nrow ncol nb kb ke (k .0) (k .0 + 1) (kp .0) (length (now panel)) (length (now mult)) ⌝ }
     ensures { λ r. ⌜ tried r (view nrow (now (panel .exit))) (inPanel kb ke (view nb (now (mult .exit))))
         ≡ pairOf ke (view nrow (now (panel .entry))) (inPanel kb ke (view nb (now (mult .entry)))) mode limit (k .0) (p .0) (kp .0) ⌝ }
-    ensures { λ r. ⌜ ByColumn r ⌝ }
 {
     exchange::exchange_if(panel, nrow, ncol, LocalRow(k.0 + 1), kp, ke);
     let settled = PivotRule::settle_two(mode, limit, block_at(panel, nrow, ncol, k));
     match settled {
-        TwoSettled::ZeroPivot => Taken::Refused(Refusal::ZeroPivot(k)),
-        TwoSettled::Rounds => Taken::Refused(Refusal::Rounds(k)),
+        TwoSettled::Low => Taken::Refused(Refusal::ZeroPivot(k)),
+        TwoSettled::OutOfRounds => Taken::Refused(Refusal::Rounds(k)),
         TwoSettled::Numbers {
             block,
             lifted,
@@ -157,7 +155,6 @@ fn moved_pair(
     requires { ⌜ Within (k .0) ke (p .0) ⌝ }
     ensures { λ r. ⌜ tried r (view nrow (now (panel .exit))) (inPanel kb ke (view nb (now (mult .exit))))
         ≡ pairOf ke (exchanged (k .0) (p .0) ke (view nrow (now (panel .entry)))) (inPanel kb ke (view nb (now (mult .entry)))) mode limit (k .0) (p .0) (kp .0) ⌝ }
-    ensures { λ r. ⌜ ByColumn r ⌝ }
 {
     exchange::exchange_if(panel, nrow, ncol, LocalRow(k.0), p, ke);
     pair(panel, mult, nrow, ncol, nb, kb, ke, k, p, kp, mode, limit)
@@ -173,7 +170,7 @@ fn by_mode(choice: Choice, mode: Mode, k: Elim) -> Choice
             Mode::Lift(_) => Choice::Single(LocalRow(k.0)),
         },
         Choice::Single(kp) => Choice::Single(kp),
-        Choice::Block(kp) => Choice::Block(kp),
+        Choice::Block(p, kp) => Choice::Block(p, kp),
     }
 }
 
@@ -200,9 +197,8 @@ pub fn step(
     match choice {
         Choice::ZeroColumn => Taken::Refused(Refusal::ZeroPivot(k)),
         Choice::Single(kp) => single(panel, mult, nrow, ncol, nb, kb, ke, k, kp, mode),
-        Choice::Block(kp) => {
-            let own = LocalRow(k.0);
-            moved_pair(panel, mult, nrow, ncol, nb, kb, ke, k, own, kp, mode, limit)
+        Choice::Block(p, kp) => {
+            moved_pair(panel, mult, nrow, ncol, nb, kb, ke, k, p, kp, mode, limit)
         }
     }
 }

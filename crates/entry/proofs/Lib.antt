@@ -1,3 +1,2 @@
--- Laws of refusals and of the entry checks.
-pub mod Refusals
+-- Laws of the entry checks.
 pub mod Laws

@@ -1,2 +1,2 @@
--- The entry checks over the lengths of the buffers.
+-- What the entry checks ask.
 pub mod Entry

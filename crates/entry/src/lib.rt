@@ -4,49 +4,22 @@
 // branch the whole test is the definition's own.
 ghost use mathlib.Core.Path.{_≡_};
 ghost use lib.ListN.{length};
-ghost use Rattle.model.specs.Factor.{shapeSound, modeCheck};
-ghost use Rattle.scan.specs.Finite.{checkOf};
-ghost use Rattle.entry.specs.Entry.{entrySays, lengthsHold, settingsCheckOver, entryCheckOver, LengthsPre};
-use model::COLUMNS_MAX;
+ghost use Rattle.model.specs.Matrix.{view};
+ghost use Rattle.model.specs.Factor.{lengthsSound, modeCheck, columnsCheck, settingsCheck};
+ghost use Rattle.model.specs.Answer.{orElse};
+ghost use Rattle.entry.specs.Entry.{LengthsPre};
+use model::Check;
 use model::LIMIT_MAX;
+use model::Lengths;
 use model::Mode;
-use model::ROWS_MAX;
 use model::Refusal;
 use model::Settings;
 use model::WIDTH_MAX;
-use scan::Scan;
-
-// The lengths of the input and of the nine buffers that a call writes.
-pub struct Lengths {
-    pub input: usize,
-    pub panel: usize,
-    pub d: usize,
-    pub sub: usize,
-    pub blocks: usize,
-    pub lifts: usize,
-    pub amounts: usize,
-    pub order: usize,
-    pub marks: usize,
-    pub work: usize,
-}
-
-// What the entry checks say: the first refusal of 1 to 6, or that there is none.
-pub enum Entry {
-    Sound,
-    Refused(Refusal),
-}
-
-// Refusal 1's test, which assembly and update share.
-pub fn shape_sound(ncol: usize, nrow: usize) -> bool
-    ensures { λ r. ⌜ r ≡ shapeSound ncol nrow ⌝ }
-{
-    (ncol <= COLUMNS_MAX) & ((nrow <= ROWS_MAX) & (ncol <= nrow))
-}
 
 // Refusal 3's test, the last buffers first.
 fn lengths_sound(c: Settings, n: Lengths) -> bool
     requires { ⌜ LengthsPre (c .ncol) (c .nrow) (c .nb) ⌝ }
-    ensures { λ r. ⌜ r ≡ lengthsHold c n ⌝ }
+    ensures { λ r. ⌜ r ≡ lengthsSound c n ⌝ }
 {
     let area = c.nrow * c.ncol;
     let tail = c.nrow - c.ncol;
@@ -58,57 +31,48 @@ fn lengths_sound(c: Settings, n: Lengths) -> bool
 }
 
 // Refusals 4 and 5.
-fn check_mode(mode: Mode, limit: usize) -> Entry
-    ensures { λ r. ⌜ entrySays r ≡ modeCheck mode limit ⌝ }
+fn check_mode(mode: Mode, limit: usize) -> Check
+    ensures { λ r. ⌜ r ≡ modeCheck mode limit ⌝ }
 {
     let Mode::Lift(floor) = mode else {
-        return Entry::Sound;
+        return Check::Sound;
     };
     if !(scalar::is_finite(floor) & (0.0 < floor)) {
-        return Entry::Refused(Refusal::Floor);
+        return Check::Refused(Refusal::Floor);
     }
     if !((1 <= limit) & (limit <= LIMIT_MAX)) {
-        return Entry::Refused(Refusal::Limit);
+        return Check::Refused(Refusal::Limit);
     }
-    Entry::Sound
+    Check::Sound
 }
 
 // Refusals 1 to 5.
-fn check_settings(c: Settings, n: Lengths) -> Entry
-    ensures { λ r. ⌜ entrySays r ≡ settingsCheckOver c n ⌝ }
+fn check_settings(c: Settings, n: Lengths) -> Check
+    ensures { λ r. ⌜ r ≡ settingsCheck c n ⌝ }
 {
-    if !shape_sound(c.ncol, c.nrow) {
-        return Entry::Refused(Refusal::Shape);
+    if !checks::shape_sound(c.ncol, c.nrow) {
+        return Check::Refused(Refusal::Shape);
     }
     if !((1 <= c.nb) & (c.nb <= WIDTH_MAX)) {
-        return Entry::Refused(Refusal::Width);
+        return Check::Refused(Refusal::Width);
     }
     if !lengths_sound(c, n) {
-        return Entry::Refused(Refusal::Length);
+        return Check::Refused(Refusal::Length);
     }
     let mode = c.mode;
     check_mode(mode, c.limit)
 }
 
-// Refusal 6, from what the scan of the input found.
-fn check_input(found: Scan) -> Entry
-    ensures { λ r. ⌜ entrySays r ≡ checkOf found ⌝ }
-{
-    match found {
-        Scan::Clean => Entry::Sound,
-        Scan::At(column, row) => Entry::Refused(Refusal::Input(column, row)),
-    }
-}
-
 // Refusals 1 to 6.
 // in: the settings, the lengths of the ten buffers, and the input itself
-pub fn check(c: Settings, n: Lengths, input: &[f64]) -> Entry
+pub fn check(c: Settings, n: Lengths, input: &[f64]) -> Check
     requires { ⌜ n .input ≡ length (now input) ⌝ }
-    ensures { λ r. ⌜ entrySays r ≡ entryCheckOver c n (now (input .entry)) ⌝ }
+    ensures { λ r. ⌜ r ≡ orElse (settingsCheck c n)
+        (columnsCheck (view (c .nrow) (now (input .entry))) (c .nrow) (c .ncol) 0) ⌝ }
 {
     let settings = check_settings(c, n);
-    let Entry::Sound = settings else {
+    let Check::Sound = settings else {
         return settings;
     };
-    check_input(scan::first_not_finite(input, c.ncol, c.nrow))
+    scan::first_not_finite(input, c.ncol, c.nrow)
 }

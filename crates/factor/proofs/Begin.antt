@@ -15,10 +15,12 @@ use Rattle.model.specs.Matrix.{view, bytes}
 use Rattle.model.specs.Step.{pivotsOf}
 use Rattle.model.specs.Head.{State}
 use Rattle.model.specs.Factor.{Buffers, workLength, modeCheck, entryCheck, start}
-use Rattle.model.specs.Answer.{sound, refuseIf}
+use Rattle.model.specs.Answer.{refuseIf}
 use Rattle.model.specs.declared.Settings.{Settings}
 use Rattle.model.specs.declared.Mode.{Mode}
 use Rattle.model.specs.declared.Mode.the-variants.{Fail, Lift}
+use Rattle.model.specs.declared.Refusal.the-variants.{Floor, Limit}
+use Rattle.model.specs.declared.Check.the-variants.{Sound}
 use Rattle.model.proofs.Cases.{and-right}
 use Rattle.model.proofs.Entry.{second-sound, not-refused, passed}
 use Rattle.model.proofs.Recorded.{none-recorded}
@@ -29,17 +31,17 @@ use Rattle.bunch_kaufman.specs.Terms.{LimitPre, NotedTo}
 use Rattle.panels.specs.Turn.{between}
 use Rattle.panels.specs.Run.{RunPre, TurnHolds}
 
-pub copy-pre : (c : Settings) (input : List Float) (b : Buffers) → entryCheck c input b ≡ sound → length (b .panel) ≡ length input
+pub copy-pre : (c : Settings) (input : List Float) (b : Buffers) → entryCheck c input b ≡ Sound → length (b .panel) ≡ length input
 copy-pre c input b e = let w = passed c input b e in w .lengths .panel ∙ sym (w .lengths .input)
 
 -- ---- what the loop asks
 
-limit-pre : (mode : Mode) (limit : ℕ) → modeCheck mode limit ≡ sound → LimitPre mode limit
+limit-pre : (mode : Mode) (limit : ℕ) → modeCheck mode limit ≡ Sound → LimitPre mode limit
 unfolding modeCheck
 limit-pre Fail limit e = tt
 limit-pre (Lift floor) limit e =
     let few = leb 1 limit && leb limit mostRounds in
-    let both : few ≡ true = not-refused few 5 (second-sound (refuseIf (not (isFinite floor && lt zeroF floor)) 4) (refuseIf (not few) 5) e) in
+    let both : few ≡ true = not-refused few Limit (second-sound (refuseIf (not (isFinite floor && lt zeroF floor)) Floor) (refuseIf (not few) Limit) e) in
     leb-true limit mostRounds (and-right (leb 1 limit) (leb limit mostRounds) both)
 
 work-less : (nrow w nb : ℕ) → w ≤ nb → workLength nrow w ≤ workLength nrow nb
@@ -49,7 +51,7 @@ work-less nrow w nb h =
     let c : w * nb ≤ nb * nb = mul-le-mul-right nb h in
     omega arith
 
-pub run-pre : (c : Settings) (input : List Float) (b : Buffers) (w len lenW : ℕ) → entryCheck c input b ≡ sound
+pub run-pre : (c : Settings) (input : List Float) (b : Buffers) (w len lenW : ℕ) → entryCheck c input b ≡ Sound
     → w ≡ min (c .nb) (max (c .ncol) 1) → len ≡ length (b .panel) → lenW ≡ length (b .work)
     → RunPre (record { ncol = c .ncol; nrow = c .nrow; nb = w; mode = c .mode; limit = c .limit }) len lenW
 run-pre c input b w len lenW e h l m =
@@ -67,7 +69,7 @@ run-pre c input b w len lenW e h l m =
       work = omega (arith, work-less (c .nrow) w (c .nb) (omega arith), p .lengths .work);
     }
 
-pub holds-pre : (c : Settings) (input : List Float) (b : Buffers) (ld ls lb : ℕ) (partners : List ℕ) (ll la lo : ℕ) → entryCheck c input b ≡ sound
+pub holds-pre : (c : Settings) (input : List Float) (b : Buffers) (ld ls lb : ℕ) (partners : List ℕ) (ll la lo : ℕ) → entryCheck c input b ≡ Sound
     → ld ≡ length (b .d) → ls ≡ length (b .sub) → lb ≡ length (b .blocks) → partners ≡ replicate mostColumns 0 → ll ≡ length (b .lifts)
     → la ≡ length (b .amounts) → lo ≡ length (b .order) → TurnHolds (c .nrow) (c .ncol) ld ls lb (length partners) ll la lo
 holds-pre c input b ld ls lb partners ll la lo e e1 e2 e3 e4 e5 e6 e7 =
@@ -104,7 +106,7 @@ noted-none n blocks partners e f = record {
 
 -- the slices show the start
 pub start-is : (c : Settings) (input : List Float) (b : Buffers) (panel d sub amounts : List Float) (blocks lifts order partners : List ℕ)
-    → entryCheck c input b ≡ sound → Begun input panel d sub blocks lifts amounts order
+    → entryCheck c input b ≡ Sound → Begun input panel d sub blocks lifts amounts order
     → length d ≡ length (b .d) → length sub ≡ length (b .sub) → length amounts ≡ length (b .amounts) → partners ≡ replicate mostColumns 0
     → between (c .nrow) panel (pivotsOf d sub blocks partners lifts amounts order) 0 ≡ start (c .ncol) (view (c .nrow) input)
 start-is c input b panel d sub amounts blocks lifts order partners e w ld ls la p =

@@ -12,41 +12,28 @@ use Rattle.model.specs.Step.{Diagonals, diagonalsOf, Pivots, pivotsOf}
 use Rattle.model.specs.Head.{State, Run}
 use Rattle.model.specs.Inertia.{talliedOf, bytesFrom, checkBytes}
 use Rattle.model.specs.Factor.{Buffers, Outcome, columnSound, resultCheck, entryCheck, zeros, factorOf}
-use Rattle.model.specs.Answer.{Said, refused, Check, sound, stop, turnedAway}
+use Rattle.model.specs.Answer.{turnedAway}
 use Rattle.model.specs.declared.Settings.{Settings}
 use Rattle.model.specs.declared.Refusal.{Refusal}
-use Rattle.model.specs.declared.Refusal.the-variants.{NotFinite}
-use Rattle.model.specs.declared.Elim.{Elim}
+use Rattle.model.specs.declared.Check as check
 use Rattle.model.specs.declared.Factored.{Factored}
 use Rattle.model.specs.declared.Factored.the-variants.{Refused}
-use Rattle.model.specs.declared.Report.{Report}
-use Rattle.model.proofs.Cases.{test}
 use Rattle.model.proofs.Entry.{Passed, passed}
 use Rattle.model.proofs.Accepted.{AtEnd, Kept, head-kept, bytes-sound}
 use Rattle.whole.specs.Whole.{ended}
 use Rattle.whole.proofs.Result.{Reached, run-ended, reached-pivots}
 use Rattle.scan.specs.Marks.{tailMarks}
-use Rattle.finish.specs.Result.{foundSays, ResultPre}
-use Rattle.finish.specs.declared.Found.{Found}
-use Rattle.finish.specs.declared.Found.the-variants.{Clean, At}
+use Rattle.finish.specs.Result.{ResultPre}
 use Rattle.finish.proofs.Buffers.{zeros-same}
-use Rattle.inertia.proofs.Bytes.{bytes-paired}
-use Rattle.bunch_kaufman.specs.Answers.{numberOf, placeOf, ColumnOnly}
+use Rattle.checks.proofs.Bytes.{bytes-paired}
 use Rattle.panels.specs.Turn.{between}
-use Rattle.panels.specs.Run.{runOf, RunLeaves}
+use Rattle.panels.specs.Run.{runOf}
 use Rattle.factor.specs.Judge.{outcomeOf, refusalOf, acceptOf, judgedBy, judgeOf, Eliminated, JudgePre}
 use Rattle.bunch_kaufman.specs.declared.Ran.{Ran}
 use Rattle.bunch_kaufman.specs.declared.Ran.the-variants.{Stopped, Done}
 use Rattle.factor.proofs.Outcome.{wholeOf, stopped-outcome, unsound-outcome, accepted-outcome}
 
 -- ---- the result check
-
--- refusal 9 names a column alone
-stop-place : (n : ℕ) (D : Diagonals) (a : Mat) (m k : ℕ) (number p q : ℕ) → resultCheck n D a m k ≡ stop number p q → q ≡ 0
-unfolding resultCheck
-stop-place n D a zero k number p q e = absurd (let z : _≡_ {A = ℕ} 0 1 = cc in omega arith)
-stop-place n D a (suc m) k number p q e =
-    test (columnSound n D a k) (λ t. stop-place n D a m (k + 1) number p q (rw t at e)) (λ t. let z : stop 9 k 0 ≡ stop number p q = rw t at e in cc)
 
 -- ---- the buffers' lengths stay
 
@@ -66,9 +53,9 @@ zeros-alike a b l =
     zeros-same (a .panel) (a .d) (a .sub) (a .amounts) (a .work) (a .blocks) (a .lifts) (a .order) (a .marks) b
     (l .panel) (l .d) (l .sub) (l .blocks) (l .lifts) (l .amounts) (l .order) (l .marks) (l .work)
 
-outcome-zeros : (n p : ℕ) (s : Said Report) (a b z : Buffers) → s ≡ refused n p 0 → z ≡ zeros a → SameLengths a b
-    → _≡_ {A = Outcome} (record { answer = s; buffers = z }) (record { answer = refused n p 0; buffers = zeros b })
-outcome-zeros n p s a b z es ez l = rw (es, ez, zeros-alike a b l)
+outcome-zeros : (r : Refusal) (a b z : Buffers) → z ≡ zeros a → SameLengths a b
+    → _≡_ {A = Outcome} (record { answer = turnedAway r; buffers = z }) (record { answer = turnedAway r; buffers = zeros b })
+outcome-zeros r a b z ez l = rw (ez, zeros-alike a b l)
 
 -- ---- the call
 
@@ -80,7 +67,7 @@ Left c input r a = Eliminated c input r (a .panel) (a .d) (a .sub) (a .blocks) (
 abbrev shown : ℕ → Buffers → List ℕ → ℕ → State
 shown nrow a partners = between nrow (a .panel) (pivotsOf (a .d) (a .sub) (a .blocks) partners (a .lifts) (a .amounts) (a .order))
 
-module _ (c : Settings) (input : List Float) (b : Buffers) (e : entryCheck c input b ≡ sound) where
+module _ (c : Settings) (input : List Float) (b : Buffers) (e : entryCheck c input b ≡ check.the-variants.Sound) where
   checked : Passed c input b
   checked = passed c input b e
 
@@ -88,9 +75,8 @@ module _ (c : Settings) (input : List Float) (b : Buffers) (e : entryCheck c inp
   pub stopped-call : (a z : Buffers) (r : Ran) (x : Refusal) → Left c input r a → r ≡ Stopped x → SameLengths a b → z ≡ zeros a
       → record { answer = turnedAway x; buffers = z } ≡ factorOf c input b
   stopped-call a z r x w h l ez =
-      let only : ColumnOnly x = subst (λ (y : Ran). RunLeaves (c .ncol) y (bytes (a .blocks)) (bytes (w .partners))) h (w .leaves) in
-      outcome-zeros (numberOf x) (placeOf x) (turnedAway x) a b z only ez l
-      ∙ stopped-outcome c input b e (numberOf x) (placeOf x)
+      outcome-zeros x a b z ez l
+      ∙ stopped-outcome c input b e x
       (sym (ap (λ (y : Ran). runOf y (shown (c .nrow) a (w .partners))) h) ∙ w .run)
 
   module _ (a : Buffers) (r : Ran) (rounds : ℕ) (w : Left c input r a) (h : r ≡ Done rounds) (l : SameLengths a b) where
@@ -104,7 +90,7 @@ module _ (c : Settings) (input : List Float) (b : Buffers) (e : entryCheck c inp
     reach = run-ended (c .mode) (c .limit) (c .nrow) (c .ncol) (c .nb) (view (c .nrow) input) (checked .head) (checked .some) last (sym ends)
 
     -- its block bytes are well formed
-    bytes-kept : checkBytes (a .blocks) ≡ sound
+    bytes-kept : checkBytes (a .blocks) ≡ check.the-variants.Sound
     bytes-kept =
         let kept : Kept (c .ncol) (c .ncol) (reach .state .pivots) =
         subst (λ (g : Run). AtEnd (c .ncol) g) (reach .run)
@@ -127,9 +113,9 @@ module _ (c : Settings) (input : List Float) (b : Buffers) (e : entryCheck c inp
       check = bytes-kept;
     }
 
-    judged-call : (k : Check) → resultCheck (c .ncol) (last .pivots .diagonals) (last .a) (c .ncol) 0 ≡ k → judgedBy k (c .nrow) (c .ncol) rounds a ≡ factorOf c input b
+    judged-call : (k : check.Check) → resultCheck (c .ncol) (last .pivots .diagonals) (last .a) (c .ncol) 0 ≡ k → judgedBy k (c .nrow) (c .ncol) rounds a ≡ factorOf c input b
     unfolding tailMarks
-    judged-call sound g =
+    judged-call check.the-variants.Sound g =
         let len = checked .lengths in
         accepted-outcome c input b e (a .panel) (a .d) (a .sub) (a .amounts) (replicate (length (a .work)) zeroF) (a .blocks) (a .lifts) (a .order)
         (tailMarks (view (c .nrow) (a .panel)) (c .ncol) (c .nrow) (c .ncol)) (w .partners) rounds
@@ -138,9 +124,7 @@ module _ (c : Settings) (input : List Float) (b : Buffers) (e : entryCheck c inp
         (l .blocks ∙ len .blocks) (l .lifts ∙ len .lifts) (l .order ∙ len .order)
         refl (ap (λ (n : ℕ). replicate n zeroF) (l .work))
         (ap (λ (n : ℕ). talliedOf n (vec (a .d)) (vec (a .sub)) (bytes (a .blocks))) (l .d ∙ len .d))
-    judged-call (stop n p q) g =
-        let z : q ≡ 0 = stop-place (c .ncol) (last .pivots .diagonals) (last .a) (c .ncol) 0 n p q g in
-        outcome-zeros n p (refused n p q) a b (zeros a) (ap (λ (x : ℕ). refused n p x) z) refl l ∙ unsound-outcome c input b e last ends n p q g
+    judged-call (check.the-variants.Refused x) g = outcome-zeros x a b (zeros a) refl l ∙ unsound-outcome c input b e last ends x g
 
     -- judged, it is the call's outcome
     pub judge-call : judgeOf (c .nrow) (c .ncol) rounds a ≡ factorOf c input b
@@ -162,14 +146,14 @@ result-pre nrow ncol lp ld ls lm blocks w = record {
   };
 }
 
-module _ (nrow ncol rounds : ℕ) (b : Buffers) (found : Found)
-    (h : foundSays found
+module _ (nrow ncol rounds : ℕ) (b : Buffers) (found : check.Check)
+    (h : found
     ≡ resultCheck ncol (diagonalsOf (b .d) (b .sub) (b .blocks)) (view nrow (b .panel)) ncol 0) where
-  pub judge-refused : (k : Elim) (z : Buffers) → found ≡ At k → z ≡ zeros b → outcomeOf (Refused (NotFinite k)) z ≡ judgeOf nrow ncol rounds b
+  pub judge-refused : (r : Refusal) (z : Buffers) → found ≡ check.the-variants.Refused r → z ≡ zeros b → outcomeOf (Refused r) z ≡ judgeOf nrow ncol rounds b
   unfolding judgeOf
-  judge-refused k z e ez = rw (← h, e, ez)
+  judge-refused r z e ez = rw (← h, e, ez)
 
-  pub judge-accepted : (o : Outcome) → found ≡ Clean → o ≡ acceptOf nrow ncol rounds b → o ≡ judgeOf nrow ncol rounds b
+  pub judge-accepted : (o : Outcome) → found ≡ check.the-variants.Sound → o ≡ acceptOf nrow ncol rounds b → o ≡ judgeOf nrow ncol rounds b
   unfolding judgeOf
   judge-accepted o e eo = rw (← h, e) eo
 

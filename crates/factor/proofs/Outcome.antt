@@ -12,12 +12,14 @@ use Rattle.model.specs.Head.{State}
 use Rattle.model.specs.Inertia.{talliedOf}
 use Rattle.model.specs.Factor.{Buffers, Outcome, start, entryCheck, resultCheck, HeadAnswer, fails, stands, headAnswerOf}
 use Rattle.model.specs.Factor.{factorRowOf, markOf, factorEntry, zeros, reportOf, afterHead, factorOf}
-use Rattle.model.specs.Answer.{refused, accepted, sound, stop}
+use Rattle.model.specs.Answer.{accepted, turnedAway}
 use Rattle.model.specs.declared.Settings.{Settings}
 use Rattle.model.specs.declared.Tally.{Tally}
+use Rattle.model.specs.declared.Refusal.{Refusal}
+use Rattle.model.specs.declared.Check.the-variants.{Sound, Refused}
 use Rattle.model.proofs.Tabulated.{length-tabulateFrom, getD-tabulate, is-tabulate, is-columnMajor}
 use Rattle.model.proofs.Entry.{Passed, passed, past-entry}
-use Rattle.whole.specs.Whole.{WholeRun, stoppedAt, ended, wholePanelsOf}
+use Rattle.whole.specs.Whole.{WholeRun, stoppedBy, ended, wholePanelsOf}
 use Rattle.whole.proofs.Result.{Reached, run-stopped, run-ended, reached-answer, reached-entry, reached-mark, reached-pivots, reached-rounds}
 use Rattle.scan.specs.Marks.{tailMarks}
 use Rattle.finish.specs.Buffers.{buffersOf}
@@ -61,7 +63,7 @@ outcome-same r r′ t t′ p p′ d d′ s s′ a a′ w w′ b b′ l l′ o o�
 
 -- ---- the call past the entry checks
 
-module _ (c : Settings) (input : List Float) (b : Buffers) (e : entryCheck c input b ≡ sound) where
+module _ (c : Settings) (input : List Float) (b : Buffers) (e : entryCheck c input b ≡ Sound) where
   abbrev given : Mat
   given = view (c .nrow) input
 
@@ -76,28 +78,28 @@ module _ (c : Settings) (input : List Float) (b : Buffers) (e : entryCheck c inp
   by-head h w = past-entry c input b e ∙ ap (λ (x : HeadAnswer). afterHead x c given b) w
 
   -- refused by a step
-  pub stopped-outcome : (n p : ℕ) → stoppedAt n p ≡ wholeOf → record { answer = refused n p 0; buffers = zeros b } ≡ factorOf c input b
-  stopped-outcome n p s =
-      sym (by-head (fails n p) (run-stopped (c .mode) (c .limit) (c .nrow) (c .ncol) (c .nb) given (checked .head) (checked .some) n p (sym s)))
+  pub stopped-outcome : (r : Refusal) → stoppedBy r ≡ wholeOf → record { answer = turnedAway r; buffers = zeros b } ≡ factorOf c input b
+  stopped-outcome r s =
+      sym (by-head (fails r) (run-stopped (c .mode) (c .limit) (c .nrow) (c .ncol) (c .nb) given (checked .head) (checked .some) r (sym s)))
 
   module _ (t : State) (s : ended t ≡ wholeOf) where
     reached : Reached (c .mode) (c .limit) (c .nrow) (c .ncol) (c .nb) given t
     reached = run-ended (c .mode) (c .limit) (c .nrow) (c .ncol) (c .nb) given (checked .head) (checked .some) t (sym s)
 
     -- refused after the last column
-    pub unsound-outcome : (n p q : ℕ) → resultCheck (c .ncol) (t .pivots .diagonals) (t .a) (c .ncol) 0 ≡ stop n p q
-        → record { answer = refused n p 0; buffers = zeros b } ≡ factorOf c input b
-    unsound-outcome n p q h =
-        sym (by-head (fails n p) (reached-answer (c .mode) (c .limit) (c .nrow) (c .ncol) (c .nb) given t reached ∙ rw h))
+    pub unsound-outcome : (r : Refusal) → resultCheck (c .ncol) (t .pivots .diagonals) (t .a) (c .ncol) 0 ≡ Refused r
+        → record { answer = turnedAway r; buffers = zeros b } ≡ factorOf c input b
+    unsound-outcome r h =
+        sym (by-head (fails r) (reached-answer (c .mode) (c .limit) (c .nrow) (c .ncol) (c .nb) given t reached ∙ rw h))
 
-    stands-answer : resultCheck (c .ncol) (t .pivots .diagonals) (t .a) (c .ncol) 0 ≡ sound
+    stands-answer : resultCheck (c .ncol) (t .pivots .diagonals) (t .a) (c .ncol) 0 ≡ Sound
         → headAnswerOf (c .mode) (c .limit) (c .ncol) (c .nb) given ≡ stands (reached .state) (reached .panels)
     stands-answer h = reached-answer (c .mode) (c .limit) (c .nrow) (c .ncol) (c .nb) given t reached ∙ rw h
 
   -- accepted
   pub accepted-outcome : (panel d sub amounts work : List Float) (blocks lifts order marks partners : List ℕ) (rounds : ℕ) (tally : Tally)
       → ended (between (c .nrow) panel (pivotsOf d sub blocks partners lifts amounts order) rounds) ≡ wholeOf
-      → resultCheck (c .ncol) (diagonalsOf d sub blocks) (view (c .nrow) panel) (c .ncol) 0 ≡ sound
+      → resultCheck (c .ncol) (diagonalsOf d sub blocks) (view (c .nrow) panel) (c .ncol) 0 ≡ Sound
       → length panel ≡ c .nrow * c .ncol → length d ≡ c .ncol → length sub ≡ c .ncol → length amounts ≡ c .ncol
       → length blocks ≡ c .ncol → length lifts ≡ c .ncol → length order ≡ c .nrow
       → marks ≡ tabulate (c .nrow - c .ncol) (λ i. markOf (c .ncol) (view (c .nrow) panel (c .ncol + i)))

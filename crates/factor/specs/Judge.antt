@@ -9,9 +9,9 @@ use Rattle.model.specs.Matrix.{view, vec, bytes}
 use Rattle.model.specs.Step.{diagonalsOf, pivotsOf}
 use Rattle.model.specs.Inertia.{empty, talliedOf, checkBytes}
 use Rattle.model.specs.Factor.{Buffers, Outcome, start, resultCheck, zeros, entryCheck}
-use Rattle.model.specs.Answer.{Said, refused, accepted, Check, sound, stop, factoredSays}
+use Rattle.model.specs.Answer.{accepted, turnedAway, factoredSays}
 use Rattle.model.specs.declared.Settings.{Settings}
-use Rattle.model.specs.declared.Report.{Report}
+use Rattle.model.specs.declared.Check as check
 use Rattle.model.specs.declared.Factored.{Factored}
 use Rattle.model.specs.declared.Factored.the-variants.{Accepted, Refused}
 use Rattle.scan.specs.Marks.{tailMarks}
@@ -47,9 +47,9 @@ acceptOf nrow ncol rounds b = record {
   };
 }
 
-abbrev pub judgedBy : Check → ℕ → ℕ → ℕ → Buffers → Outcome
-judgedBy sound nrow ncol rounds b = acceptOf nrow ncol rounds b
-judgedBy (stop n p q) nrow ncol rounds b = record { answer = refused n p q; buffers = zeros b }
+abbrev pub judgedBy : check.Check → ℕ → ℕ → ℕ → Buffers → Outcome
+judgedBy check.the-variants.Sound nrow ncol rounds b = acceptOf nrow ncol rounds b
+judgedBy (check.the-variants.Refused r) nrow ncol rounds b = record { answer = turnedAway r; buffers = zeros b }
 
 unfoldable pub judgeOf : ℕ → ℕ → ℕ → Buffers → Outcome
 judgeOf nrow ncol rounds b =
@@ -71,4 +71,4 @@ pub record JudgePre (nrow ncol lp ld ls lm : ℕ) (blocks : List ℕ) : Type 0 w
   pub sub : ls ≡ ncol
   pub bytes : length blocks ≡ ncol
   pub marks : lm ≡ nrow - ncol
-  pub check : checkBytes blocks ≡ sound
+  pub check : checkBytes blocks ≡ check.the-variants.Sound

@@ -7,17 +7,15 @@ ghost use Prim.Native.Nat.{min, max};
 ghost use lib.ListN.{length};
 ghost use Rattle.model.specs.Matrix.{view};
 ghost use Rattle.model.specs.Factor.{entryCheck, factorOf};
-ghost use Rattle.model.specs.Answer.{sound};
+ghost use Rattle.model.specs.declared.Check.the-variants.{Sound};
 ghost use Rattle.scan.specs.Finite.{KnownFinite};
 ghost use Rattle.finish.specs.Buffers.{buffersOf};
 ghost use Rattle.factor.specs.Judge.{outcomeOf, refusalOf, acceptOf, judgeOf, Eliminated, JudgePre};
 use bunch_kaufman::Ran;
-use entry::Entry;
-use entry::Lengths;
-use finish::Found;
 use model::COLUMNS_MAX;
+use model::Check;
 use model::Factored;
-use model::Refusal;
+use model::Lengths;
 use model::Report;
 use model::Settings;
 use model::Tally;
@@ -53,7 +51,7 @@ fn eliminate(
     work: &mut [f64],
 ) -> Ran
     requires { ⌜ entryCheck c (now input) (buffersOf (now panel) (now d) (now sub) (now blocks) (now lifts)
-        (now amounts) (now order) (now marks) (now work)) ≡ sound ⌝ }
+        (now amounts) (now order) (now marks) (now work)) ≡ Sound ⌝ }
     ensures { λ r. ⌜ Eliminated c (now (input .entry)) r (now (panel .exit)) (now (d .exit)) (now (sub .exit))
         (now (blocks .exit)) (now (lifts .exit)) (now (amounts .exit)) (now (order .exit)) ⌝ }
 {
@@ -138,9 +136,9 @@ fn judge(
 {
     let finite = scan::known_finite(panel, c.ncol, c.nrow);
     let found = finish::first_unsound(panel, d, sub, blocks, c.nrow, c.ncol, finite);
-    if let Found::At(k) = found {
+    if let Check::Refused(r) = found {
         finish::zero_all(panel, d, sub, blocks, lifts, amounts, order, marks, work);
-        return Factored::Refused(Refusal::NotFinite(k));
+        return Factored::Refused(r);
     }
     accept(
         c,
@@ -190,7 +188,7 @@ fn run(
     work: &mut [f64],
 ) -> Factored
     requires { ⌜ entryCheck c (now input) (buffersOf (now panel) (now d) (now sub) (now blocks) (now lifts)
-        (now amounts) (now order) (now marks) (now work)) ≡ sound ⌝ }
+        (now amounts) (now order) (now marks) (now work)) ≡ Sound ⌝ }
     ensures { λ r. ⌜ outcomeOf r (buffersOf (now (panel .exit)) (now (d .exit)) (now (sub .exit)) (now (blocks .exit))
         (now (lifts .exit)) (now (amounts .exit)) (now (order .exit)) (now (marks .exit)) (now (work .exit)))
         ≡ factorOf c (now (input .entry)) (buffersOf (now (panel .entry)) (now (d .entry)) (now (sub .entry))
@@ -268,7 +266,7 @@ pub fn factor(
         work: work.len(),
     };
     let entry = entry::check(c, n, input);
-    if let Entry::Refused(r) = entry {
+    if let Check::Refused(r) = entry {
         return Factored::Refused(r);
     }
     run(

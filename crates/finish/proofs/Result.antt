@@ -11,8 +11,10 @@ use Rattle.model.specs.Scalar.{reciprocalOf, isFinite}
 use Rattle.model.specs.Matrix.{Mat, vec, bytes}
 use Rattle.model.specs.Step.{Diagonals, diagonalsOf, begins, endsBlock, blockAt}
 use Rattle.model.specs.Factor.{pivotSound, columnSound, resultCheck}
-use Rattle.model.specs.Answer.{Check, sound, stop}
 use Rattle.model.specs.declared.Block.{Block}
+use Rattle.model.specs.declared.Refusal.the-variants.{NotFinite}
+use Rattle.model.specs.declared.Check.{Check}
+use Rattle.model.specs.declared.Check.the-variants.{Sound, Refused}
 use Rattle.diagonal.specs.Diagonal.{BlockPre}
 use Rattle.grid.proofs.Laws.{col-in}
 use Rattle.scan.specs.Finite.{columnFinite, KnownFinite}
@@ -76,10 +78,11 @@ module _ (ncol : ℕ) (D : Diagonals) (a : Mat) (k : ℕ) (R : Check) where
   unfolding resultCheck
   result-step t h e n r = sym (result-one h ∙ rw (sym e ∙ not-false t n)) ∙ r
 
-  pub result-found : (t : Bool) → k < ncol → t ≡ columnSound ncol D a k → not t ≡ true → resultCheck ncol D a (ncol - k) k ≡ R → stop 9 k 0 ≡ R
+  pub result-found : (t : Bool) → k < ncol → t ≡ columnSound ncol D a k → not t ≡ true → resultCheck ncol D a (ncol - k) k ≡ R
+      → Refused (NotFinite (record { 0 = k })) ≡ R
   unfolding resultCheck
   result-found t h e n r = sym (result-one h ∙ rw (sym e ∙ not-true t n)) ∙ r
 
-  pub result-end : ncol ≤ k → resultCheck ncol D a (ncol - k) k ≡ R → sound ≡ R
+  pub result-end : ncol ≤ k → resultCheck ncol D a (ncol - k) k ≡ R → Sound ≡ R
   unfolding resultCheck
   result-end h r = let e : ncol - k ≡ 0 = omega arith in sym (rw e) ∙ r

@@ -1,4 +1,5 @@
--- The look at the result after the last column, refusal 9: its declared answer as a check has it, and what it asks of its callers. From document 01, 'What is turned away, in checking order'. Definitions only. Assumes nothing.
+-- What the look at the result after the last column asks of its callers, refusal 9, and its part on a block. From document 01, 'What is turned away, in
+-- checking order'. Definitions only. Assumes nothing.
 use mathlib.Core.Path.{_≡_}
 use mathlib.Core.Bool.{Bool, _&&_}
 use mathlib.Core.List.{List}
@@ -6,16 +7,7 @@ use Prim.Native.Nat.{ℕ, _+_, _*_, _<_, _≤_}
 use lib.ListN.{length}
 use Rattle.model.specs.Scalar.{reciprocalOf, isFinite}
 use Rattle.model.specs.Matrix.{bytes}
-use Rattle.model.specs.Answer.{Check, sound, turnedAway}
 use Rattle.model.specs.declared.Block.{Block}
-use Rattle.model.specs.declared.Refusal.the-variants.{NotFinite}
-use Rattle.entry.specs.Entry.{stopOf}
-use Rattle.finish.specs.declared.Found.{Found}
-use Rattle.finish.specs.declared.Found.the-variants.{Clean, At}
-
-abbrev pub foundSays : Found → Check
-foundSays Clean = sound
-foundSays (At k) = stopOf (turnedAway (NotFinite k))
 
 -- a block's determinant and its reciprocal
 unfoldable pub blockSound : Block → Bool

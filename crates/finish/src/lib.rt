@@ -9,11 +9,13 @@ ghost use Rattle.model.specs.Step.{diagonalsOf};
 ghost use Rattle.model.specs.Factor.{pivotSound, columnSound, resultCheck, zeros};
 ghost use Rattle.finish.specs.Buffers.{buffersOf, inOrder, Begun, PartPre};
 ghost use Rattle.scan.specs.Finite.{columnFinite, KnownFinite};
-ghost use Rattle.finish.specs.Result.{foundSays, blockSound};
+ghost use Rattle.finish.specs.Result.{blockSound};
 ghost use Rattle.finish.specs.Result.{HeadPre, PivotsPre, ResultPre};
 use grid::kernels;
 use model::Block;
+use model::Check;
 use model::Elim;
+use model::Refusal;
 
 // How many numbers are copied at a time: a longer copy is slow where two buffers lie badly in the cache.
 const COPY_PART: usize = 256;
@@ -76,12 +78,6 @@ pub fn begin(
     kernels::zero_bytes(lifts);
     kernels::zero(amounts);
     in_order(order);
-}
-
-// What the look at the result finds: no column, or the least, that holds a number not finite.
-pub enum Found {
-    Clean,
-    At(Elim),
 }
 
 // Whether a block's determinant and its reciprocal are finite.
@@ -150,19 +146,19 @@ pub fn first_unsound(
     nrow: usize,
     ncol: usize,
     finite: bool,
-) -> Found
+) -> Check
     requires { ⌜ ResultPre nrow ncol (length (now panel)) (length (now d)) (length (now sub)) (now blocks) ⌝ }
     requires { ⌜ KnownFinite finite (view nrow (now panel)) nrow ncol ⌝ }
-    ensures { λ r. ⌜ foundSays r ≡ resultCheck ncol
+    ensures { λ r. ⌜ r ≡ resultCheck ncol
         (diagonalsOf (now (d .entry)) (now (sub .entry)) (now (blocks .entry))) (view nrow (now (panel .entry)))
         ncol 0 ⌝ }
 {
     for k in 0..ncol {
         if !column_sound(panel, d, sub, blocks, nrow, ncol, k, finite) {
-            return Found::At(Elim(k));
+            return Check::Refused(Refusal::NotFinite(Elim(k)));
         }
     }
-    Found::Clean
+    Check::Sound
 }
 
 // What a refusal 7, 8 or 9 leaves: every output and the working buffer hold zeros.

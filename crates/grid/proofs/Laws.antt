@@ -219,6 +219,22 @@ pub vec-part : (a e : ℕ) (xs : List Float) (t : ℕ) → t < e - a → vec (mi
 unfolding vec
 vec-part a e xs t l = getD-take (e - a) (drop a xs) t nan l ∙ getD-drop a xs t nan
 
+-- ---- a number of the panel made another
+
+put-own : (a : Mat) (i j : ℕ) (f : Float → Float) → putAt a i j (f (a i j)) ≡ (λ p q. cond (eqb p i && eqb q j) (f (a p q)) (a p q))
+unfolding putAt
+put-own a i j f =
+    fun-ext λ p. fun-ext λ q. test (eqb p i)
+    (λ e. test (eqb q j) (λ g. rw (e, g, eqb-true p i e, eqb-true q j g)) (λ g. rw (e, g)))
+    (λ e. rw e)
+
+-- by f
+pub own-set : (n : ℕ) (xs : List Float) (i j : ℕ) (f : Float → Float) → In n i j (length xs)
+    → view n (set xs (i + j * n) (f (getD xs (i + j * n) nan))) ≡ (λ p q. cond (eqb p i && eqb q j) (f (view n xs p q)) (view n xs p q))
+own-set n xs i j f h =
+    view-set n xs i j (f (getD xs (i + j * n) nan)) h
+    ∙ ap (λ (x : Float). putAt (view n xs) i j (f x)) (sym (view-at n xs i j (h .row))) ∙ put-own (view n xs) i j f
+
 -- ---- what an equation of views says of the list
 
 -- each cell

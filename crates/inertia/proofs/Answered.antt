@@ -1,5 +1,5 @@
 -- Laws of the inertia call: what it answers once its arguments are checked. Assumes nothing.
-use mathlib.Core.Path.{_≡_, _∙_}
+use mathlib.Core.Path.{_≡_, sym, _∙_}
 use mathlib.Core.Bool.{true, _&&_, not}
 use mathlib.Core.List.{List}
 use Prim.Native.Nat.{ℕ}
@@ -10,34 +10,33 @@ use lib.Ieee.{Float}
 use Rattle.model.specs.Sizes.{mostColumns}
 use Rattle.model.specs.Matrix.{vec, bytes}
 use Rattle.model.specs.Inertia.{checkBytes, inertiaCheck, talliedOf, inertiaOf}
-use Rattle.model.specs.Answer.{sound, refuseIf, accepted, turnedAway}
+use Rattle.model.specs.Answer.{refuseIf, accepted, turnedAway}
 use Rattle.model.specs.declared.Refusal.{Refusal}
+use Rattle.model.specs.declared.Refusal.the-variants.{InertiaLength}
+use Rattle.model.specs.declared.Check.{Check}
+use Rattle.model.specs.declared.Check.the-variants.{Sound, Refused}
 use Rattle.model.specs.declared.Tally.{Tally}
 use Rattle.model.proofs.Cases.{and-left, and-right}
 use Rattle.model.proofs.Entry.{first-sound, second-sound, not-refused}
 use Rattle.inertia.specs.Count.{TallyPre}
-use Rattle.entry.specs.Entry.{entrySays}
-use Rattle.entry.specs.declared.Entry.{Entry}
-use Rattle.entry.specs.declared.Entry.the-variants.{Sound, Refused}
-use Rattle.entry.proofs.Refusals.{turned, check-passes, check-stops}
 
-module _ (d sub : List Float) (blocks : List ℕ) (k : Entry) (e : entrySays k ≡ inertiaCheck d sub blocks) where
+module _ (d sub : List Float) (blocks : List ℕ) (k : Check) (e : k ≡ inertiaCheck d sub blocks) where
   pub checked-lists : k ≡ Sound → TallyPre d sub blocks
   unfolding inertiaCheck
   checked-lists h =
       let lists = eqb (length sub) (length d) && (eqb (length blocks) (length d) && leb (length d) mostColumns) in
-      let pass : inertiaCheck d sub blocks ≡ sound = check-passes k (inertiaCheck d sub blocks) h e in
-      let ok : lists ≡ true = not-refused lists 19 (first-sound (refuseIf (not lists) 19) (checkBytes blocks) pass) in
+      let pass : inertiaCheck d sub blocks ≡ Sound = sym e ∙ h in
+      let ok : lists ≡ true = not-refused lists InertiaLength (first-sound (refuseIf (not lists) InertiaLength) (checkBytes blocks) pass) in
       record {
         sub = eqb-true (length sub) (length d) (search (and-left, and-right));
         blocks = eqb-true (length blocks) (length d) (search (and-left, and-right));
-        check = second-sound (refuseIf (not lists) 19) (checkBytes blocks) pass;
+        check = second-sound (refuseIf (not lists) InertiaLength) (checkBytes blocks) pass;
       }
 
   pub inertia-counts : (t : Tally) → k ≡ Sound → t ≡ talliedOf (length d) (vec d) (vec sub) (bytes blocks) → accepted t ≡ inertiaOf d sub blocks
   unfolding inertiaOf
-  inertia-counts t h c = rw (check-passes k (inertiaCheck d sub blocks) h e, c)
+  inertia-counts t h c = rw (← e, h, c)
 
   pub inertia-refuses : (r : Refusal) → k ≡ Refused r → turnedAway r ≡ inertiaOf d sub blocks
   unfolding inertiaOf
-  inertia-refuses r h = turned r .says Tally ∙ rw (check-stops k r (inertiaCheck d sub blocks) h e)
+  inertia-refuses r h = rw (← e, h)

@@ -1,6 +1,4 @@
--- Laws of scans, of the block bytes and of the tally, cited by the proofs here and by the crates above.
-pub mod First
-pub mod Bytes
+-- Laws of the tally and of the call, cited by the proofs here.
 pub mod Running
 pub mod Machine
 pub mod Answered

@@ -8,8 +8,8 @@ use lib.Ieee.{Float}
 use Rattle.model.specs.Matrix.{Row, bytes}
 use Rattle.model.specs.Step.{begins, blockAt}
 use Rattle.model.specs.Inertia.{oneCounted, twoCounted, checkBytes}
-use Rattle.model.specs.Answer.{sound}
 use Rattle.model.specs.declared.Tally.{Tally}
+use Rattle.model.specs.declared.Check.the-variants.{Sound}
 use Rattle.model.specs.declared.Diagonal.{Diagonal}
 use Rattle.model.specs.declared.Diagonal.the-variants.{One, Two}
 
@@ -32,4 +32,4 @@ pub record CountPre (t : Tally) : Type 0 where
 pub record TallyPre (ds subs : List Float) (bs : List ℕ) : Type 0 where
   pub sub : length subs ≡ length ds
   pub blocks : length bs ≡ length ds
-  pub check : checkBytes bs ≡ sound
+  pub check : checkBytes bs ≡ Sound

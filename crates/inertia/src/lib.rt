@@ -2,17 +2,15 @@
 // A reader may rely on each count being the definition's (model, specs/Inertia.antt), not-a-number and signed zeros
 // included, and on `inertia` answering any three lists: it refuses, or it counts.
 ghost use mathlib.Core.Path.{_≡_};
-ghost use Prim.Native.Nat.{_<_};
 ghost use lib.ListN.{length};
 ghost use Rattle.model.specs.Matrix.{vec, bytes};
 ghost use Rattle.model.specs.Answer.{countedSays};
 ghost use Rattle.model.specs.Inertia.{more, oneCounted, twoCounted, talliedOf};
-ghost use Rattle.model.specs.Inertia.{byteSound, checkBytes, inertiaCheck, inertiaOf};
-ghost use Rattle.entry.specs.Entry.{entrySays};
+ghost use Rattle.model.specs.Inertia.{inertiaCheck, inertiaOf};
 ghost use Rattle.inertia.specs.Count.{countedOf, MorePre, CountPre, TallyPre};
-use entry::Entry;
 use model::Block;
 use model::COLUMNS_MAX;
+use model::Check;
 use model::Counted;
 use model::Diagonal;
 use model::Elim;
@@ -125,46 +123,15 @@ pub fn tally(d: &[f64], sub: &[f64], blocks: &[u8]) -> Tally
 
 // ---- the call
 
-// The byte at k is 0 or 1, and a 1 stands neither last nor right before another 1.
-fn byte_sound(blocks: &[u8], k: usize) -> bool
-    requires { ⌜ k < length (now blocks) ⌝ }
-    ensures { λ r. ⌜ r ≡ byteSound (bytes (now (blocks .entry))) (length (now (blocks .entry))) k ⌝ }
-{
-    if 1 < blocks[k] {
-        return false;
-    }
-    if blocks[k] != 1 {
-        return true;
-    }
-    if k + 1 == blocks.len() {
-        return false;
-    }
-    blocks[k + 1] != 1
-}
-
-// Refusal 16: the first block byte that is not sound.
-pub fn first_bad_byte(blocks: &[u8]) -> Entry
-    ensures { λ r. ⌜ entrySays r ≡ checkBytes (now (blocks .entry)) ⌝ }
-{
-    let mut k = 0;
-    while k < blocks.len() {
-        if !byte_sound(blocks, k) {
-            return Entry::Refused(Refusal::BlockByte(Elim(k)));
-        }
-        k += 1;
-    }
-    Entry::Sound
-}
-
 // Refusals 19 and 16.
-fn inertia_check(d: &[f64], sub: &[f64], blocks: &[u8]) -> Entry
-    ensures { λ r. ⌜ entrySays r ≡ inertiaCheck (now (d .entry)) (now (sub .entry)) (now (blocks .entry)) ⌝ }
+fn inertia_check(d: &[f64], sub: &[f64], blocks: &[u8]) -> Check
+    ensures { λ r. ⌜ r ≡ inertiaCheck (now (d .entry)) (now (sub .entry)) (now (blocks .entry)) ⌝ }
 {
     let n = d.len();
     if !((sub.len() == n) & ((blocks.len() == n) & (n <= COLUMNS_MAX))) {
-        return Entry::Refused(Refusal::InertiaLength);
+        return Check::Refused(Refusal::InertiaLength);
     }
-    first_bad_byte(blocks)
+    checks::first_bad_byte(blocks)
 }
 
 // in: d, subdiagonal and block bytes, as a factor call emits them; any lists are answered.
@@ -174,7 +141,7 @@ pub fn inertia(d: &[f64], sub: &[f64], blocks: &[u8]) -> Counted
 {
     let checked = inertia_check(d, sub, blocks);
     match checked {
-        Entry::Refused(r) => Counted::Refused(r),
-        Entry::Sound => Counted::Counts(tally(d, sub, blocks)),
+        Check::Refused(r) => Counted::Refused(r),
+        Check::Sound => Counted::Counts(tally(d, sub, blocks)),
     }
 }

@@ -14,14 +14,17 @@ use Rattle.model.specs.Step.{Pivots, begins, isBlock}
 use Rattle.model.specs.Kept.{Paired, Recorded}
 use Rattle.model.specs.Panel.{Panel}
 use Rattle.model.specs.Head as head
-use Rattle.model.specs.Head.{State, Tried, refusedAt, took, tryOf, lastOf, byteOf, noted, Progress, stopped, going, after, panelOf, Run, done, closed, passed, withPanel, continued, panelsOf}
+use Rattle.model.specs.Head.{State, Tried, took, tryOf, lastOf, byteOf, noted, Progress, stopped, going, after, panelOf, Run, done, closed, passed, withPanel, continued, panelsOf}
 use Rattle.model.specs.Inertia.{byteSound, bytesFrom, checkBytes}
 use Rattle.model.specs.Factor.{Outcome, start, headRunOf, HeadAnswer, fails, stands, judged, judgedRun, headAnswerOf, entryCheck, resultCheck, afterHead, afterCheck, factorOf}
-use Rattle.model.specs.Answer.{Said, refused, accepted, Check, sound, stop}
+use Rattle.model.specs.Answer.{Said, accepted, turnedAway}
 use Rattle.model.specs.Independence.{Call, PastEntry, outcomeOf}
 use Rattle.model.specs.declared.Mode.{Mode}
 use Rattle.model.specs.declared.Pivot.{Pivot}
 use Rattle.model.specs.declared.Report.{Report}
+use Rattle.model.specs.declared.Refusal.{Refusal}
+use Rattle.model.specs.declared.Check.{Check}
+use Rattle.model.specs.declared.Check.the-variants.{Sound, Refused}
 use Rattle.model.proofs.Tabulated.{length-tabulateFrom, getD-tabulate}
 use Rattle.model.proofs.Cases.{test, cmp}
 use Rattle.model.proofs.Entry.{Passed, passed as entry-passed, past-entry}
@@ -87,18 +90,18 @@ panel-kept ncol ke mode limit n k s h l f w =
 
 -- where a run was done, both hold at its end
 abbrev pub AtEnd : ℕ → Run → Type 0
-AtEnd ncol (head.refused n p) = Unit {0}
+AtEnd ncol (head.refused r) = Unit {0}
 AtEnd ncol (done s ps) = Kept ncol ncol (s .pivots)
 
 -- a panel in front of a run changes nothing of its end
 pub with-panel-kept : (ncol : ℕ) (p : Panel) (r : Run) → AtEnd ncol r → AtEnd ncol (withPanel p r)
-with-panel-kept ncol p (head.refused n q) w = tt
+with-panel-kept ncol p (head.refused r) w = tt
 with-panel-kept ncol p (done s ps) w = w
 
 -- what a panel reached, the rest of the run goes on from
 pub continued-kept : (ncol ke : ℕ) (g : Progress) (f : State → Run) → Reached (Kept ncol) ke g
     → ((t : State) → Kept ncol ke (t .pivots) → AtEnd ncol (f t)) → AtEnd ncol (continued g f)
-continued-kept ncol ke (stopped n p) f e next = tt
+continued-kept ncol ke (stopped r) f e next = tt
 continued-kept ncol ke (going k s) f e next = next s (e .1)
 
 -- the later columns of a panel leave the pivots as they are
@@ -141,8 +144,8 @@ pub record Accepted (x : Call) : Type 0 where
   pub head : headAnswerOf (x .settings .mode) (x .settings .limit) (x .settings .ncol) (x .settings .nb) (view (x .settings .nrow) (x .input)) ≡ stands state panels
 
 -- no answer is a refusal and an acceptance
-pub refused-not : (n p q : ℕ) (r : Report) (a : Said Report) → a ≡ refused n p q → a ≡ accepted r → ⊥
-refused-not n p q r a e f = let w : _≡_ {A = ℕ} 0 1 = cc in omega arith
+pub refused-not : (why : Refusal) (r : Report) (a : Said Report) → a ≡ turnedAway why → a ≡ accepted r → ⊥
+refused-not why r a e f = let w : _≡_ {A = ℕ} 0 1 = cc in omega arith
 
 -- a call that answers acceptance is one
 pub accepted-is : (x : Call) (r : Report) → outcomeOf x .answer ≡ accepted r → Accepted x
@@ -155,23 +158,23 @@ accepted-is x r e = by-check (entryCheck (x .settings) (x .input) (x .lent)) ref
     answerBy : Check → HeadAnswer → Said Report
     answerBy c h = afterCheck c (afterHead h (x .settings) (view (x .settings .nrow) (x .input)) (x .lent)) (x .lent) .answer
 
-    by-head : entryCheck (x .settings) (x .input) (x .lent) ≡ sound → (h : HeadAnswer) → headOfCall ≡ h → Accepted x
-    by-head c (fails n p) h =
-        absurd (refused-not n p 0 r (outcomeOf x .answer) (ap (λ (k : Check). answerBy k headOfCall) c ∙ ap (λ (k : HeadAnswer). answerBy sound k) h) e)
+    by-head : entryCheck (x .settings) (x .input) (x .lent) ≡ Sound → (h : HeadAnswer) → headOfCall ≡ h → Accepted x
+    by-head c (fails why) h =
+        absurd (refused-not why r (outcomeOf x .answer) (ap (λ (k : Check). answerBy k headOfCall) c ∙ ap (λ (k : HeadAnswer). answerBy Sound k) h) e)
     by-head c (stands s ps) h = record { state = s; panels = ps; entry = c; head = h }
 
     by-check : (c : Check) → entryCheck (x .settings) (x .input) (x .lent) ≡ c → Accepted x
-    by-check sound h = by-head h headOfCall refl
-    by-check (stop n p q) h = absurd (refused-not n p q r (outcomeOf x .answer) (ap (λ (k : Check). answerBy k headOfCall) h) e)
+    by-check Sound h = by-head h headOfCall refl
+    by-check (Refused why) h = absurd (refused-not why r (outcomeOf x .answer) (ap (λ (k : Check). answerBy k headOfCall) h) e)
 
 -- the run of a head that stands was done
 pub stands-kept : (ncol : ℕ) (g : Run) (s : State) (ps : List Panel) → AtEnd ncol g → judgedRun ncol g ≡ stands s ps → Kept ncol ncol (s .pivots)
-stands-kept ncol (head.refused n p) s ps w e = absurd (let z : _≡_ {A = ℕ} 0 1 = cc in omega arith)
+stands-kept ncol (head.refused r) s ps w e = absurd (let z : _≡_ {A = ℕ} 0 1 = cc in omega arith)
 stands-kept ncol (done t qs) s ps w e = by-check (resultCheck ncol (t .pivots .diagonals) (t .a) ncol 0) e
   where
     by-check : (c : Check) → judged c t qs ≡ stands s ps → Kept ncol ncol (s .pivots)
-    by-check sound h = let z : t ≡ s = cc in subst (λ (u : State). Kept ncol ncol (u .pivots)) z w
-    by-check (stop n p q) h = absurd (let z : _≡_ {A = ℕ} 0 1 = cc in omega arith)
+    by-check Sound h = let z : t ≡ s = cc in subst (λ (u : State). Kept ncol ncol (u .pivots)) z w
+    by-check (Refused why) h = absurd (let z : _≡_ {A = ℕ} 0 1 = cc in omega arith)
 
 -- its order and block bytes at the end
 pub accepted-kept : (x : Call) (w : Accepted x) → Kept (x .settings .ncol) (x .settings .ncol) (w .state .pivots)
@@ -238,7 +241,7 @@ sound-at f n k w h =
     (λ t. rw t))
 
 -- so are all of them
-pub bytes-sound : (f : ℕ → ℕ) (n m k : ℕ) → k + m ≤ n → Paired n f → bytesFrom f n m k ≡ sound
+pub bytes-sound : (f : ℕ → ℕ) (n m k : ℕ) → k + m ≤ n → Paired n f → bytesFrom f n m k ≡ Sound
 unfolding bytesFrom
 bytes-sound f n zero k h w = refl
 bytes-sound f n (suc m) k h w = rw (sound-at f n k w (omega arith)) (bytes-sound f n m (k + 1) (omega arith) w)
@@ -253,7 +256,7 @@ tabulated-paired n f w = record {
 }
 
 -- neither inertia nor an update answers 16 to what an accepted call emits
-pub accepted-bytes : (x : Call) → Accepted x → checkBytes (outcomeOf x .buffers .blocks) ≡ sound
+pub accepted-bytes : (x : Call) → Accepted x → checkBytes (outcomeOf x .buffers .blocks) ≡ Sound
 accepted-bytes x w =
     let n = x .settings .ncol in
     let f = w .state .pivots .diagonals .blocks in

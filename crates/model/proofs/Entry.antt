@@ -10,28 +10,32 @@ use lib.ListN.{length}
 use lib.Ieee.{Float}
 use Rattle.model.specs.Sizes.{mostColumns, mostRows, widestPanel}
 use Rattle.model.specs.Matrix.{view}
-use Rattle.model.specs.Factor.{Buffers, shapeSound, workLength, lengthsSound, modeCheck, columnsCheck, settingsCheck, entryCheck, headAnswerOf, afterHead, factorOf}
-use Rattle.model.specs.Answer.{Check, sound, stop, orElse, refuseIf}
+use Rattle.model.specs.Factor.{Buffers, shapeSound, workLength, lengthsOf, lengthsSound, modeCheck, columnsCheck, settingsCheck, entryCheck, headAnswerOf, afterHead, factorOf}
+use Rattle.model.specs.Answer.{orElse, refuseIf}
 use Rattle.model.specs.declared.Settings.{Settings}
+use Rattle.model.specs.declared.Refusal.{Refusal}
+use Rattle.model.specs.declared.Refusal.the-variants.{Shape, Width, Length}
+use Rattle.model.specs.declared.Check.{Check}
+use Rattle.model.specs.declared.Check.the-variants.{Sound, Refused}
 use Rattle.model.proofs.Cases.{and-left, and-right}
 
 -- the first of two checks, and the second, where both pass
-pub first-sound : (a b : Check) → orElse a b ≡ sound → a ≡ sound
-first-sound sound b h = refl
-first-sound (stop n p q) b h = h
+pub first-sound : (a b : Check) → orElse a b ≡ Sound → a ≡ Sound
+first-sound Sound b h = refl
+first-sound (Refused r) b h = h
 
-pub second-sound : (a b : Check) → orElse a b ≡ sound → b ≡ sound
-second-sound sound b h = h
-second-sound (stop n p q) b h = absurd (never h)
+pub second-sound : (a b : Check) → orElse a b ≡ Sound → b ≡ Sound
+second-sound Sound b h = h
+second-sound (Refused r) b h = absurd (never h)
   where
-    never : stop n p q ≡ sound → ⊥
+    never : Refused r ≡ Sound → ⊥
     never e = let w : _≡_ {A = ℕ} 0 1 = cc in omega arith
 
-pub not-refused : (t : Bool) (n : ℕ) → refuseIf (not t) n ≡ sound → t ≡ true
-not-refused true n h = refl
-not-refused false n h = absurd (never h)
+pub not-refused : (t : Bool) (r : Refusal) → refuseIf (not t) r ≡ Sound → t ≡ true
+not-refused true r h = refl
+not-refused false r h = absurd (never h)
   where
-    never : stop n 0 0 ≡ sound → ⊥
+    never : Refused r ≡ Sound → ⊥
     never e = let w : _≡_ {A = ℕ} 0 1 = cc in omega arith
 
 -- every buffer has its stated length
@@ -47,7 +51,7 @@ pub record Lengths (c : Settings) (xs : List Float) (b : Buffers) : Type 0 where
   pub marks : length (b .marks) ≡ c .nrow - c .ncol
   pub work : length (b .work) ≡ workLength (c .nrow) (c .nb)
 
-pub lengths : (c : Settings) (input : List Float) (b : Buffers) → lengthsSound c input b ≡ true → Lengths c input b
+pub lengths : (c : Settings) (input : List Float) (b : Buffers) → lengthsSound c (lengthsOf input b) ≡ true → Lengths c input b
 unfolding lengthsSound
 lengths c input b h =
     record {
@@ -71,28 +75,27 @@ pub record Passed (c : Settings) (input : List Float) (b : Buffers) : Type 0 whe
   pub some : 1 ≤ c .nb
   pub narrow : c .nb ≤ widestPanel
   pub lengths : Lengths c input b
-  pub mode : modeCheck (c .mode) (c .limit) ≡ sound
-  pub finite : columnsCheck (view (c .nrow) input) (c .nrow) (c .ncol) 0 ≡ sound
+  pub mode : modeCheck (c .mode) (c .limit) ≡ Sound
+  pub finite : columnsCheck (view (c .nrow) input) (c .nrow) (c .ncol) 0 ≡ Sound
 
-pub passed : (c : Settings) (input : List Float) (b : Buffers) → entryCheck c input b ≡ sound → Passed c input b
+pub passed : (c : Settings) (input : List Float) (b : Buffers) → entryCheck c input b ≡ Sound → Passed c input b
 unfolding entryCheck settingsCheck
 passed c input b h =
-    let shape : shapeSound (c .ncol) (c .nrow) ≡ true = not-refused (shapeSound (c .ncol) (c .nrow)) 1 (search (first-sound, second-sound)) in
-    let width : leb 1 (c .nb) && leb (c .nb) widestPanel ≡ true
-    = not-refused (leb 1 (c .nb) && leb (c .nb) widestPanel) 2 (search (first-sound, second-sound)) in
+    let shape : shapeSound (c .ncol) (c .nrow) ≡ true = not-refused (shapeSound (c .ncol) (c .nrow)) Shape (search (first-sound, second-sound)) in
+    let width : leb 1 (c .nb) && leb (c .nb) widestPanel ≡ true = not-refused (leb 1 (c .nb) && leb (c .nb) widestPanel) Width (search (first-sound, second-sound)) in
     record {
       fewColumns = leb-true (c .ncol) mostColumns (search (and-left, and-right));
       fewRows = leb-true (c .nrow) mostRows (search (and-left, and-right));
       head = leb-true (c .ncol) (c .nrow) (search (and-left, and-right));
       some = leb-true 1 (c .nb) (search (and-left, and-right));
       narrow = leb-true (c .nb) widestPanel (search (and-left, and-right));
-      lengths = lengths c input b (not-refused (lengthsSound c input b) 3 (search (first-sound, second-sound)));
+      lengths = lengths c input b (not-refused (lengthsSound c (lengthsOf input b)) Length (search (first-sound, second-sound)));
       mode = search (first-sound, second-sound);
       finite = search (first-sound, second-sound);
     }
 
 -- past the entry checks the head decides
-pub past-entry : (c : Settings) (input : List Float) (b : Buffers) → entryCheck c input b ≡ sound
+pub past-entry : (c : Settings) (input : List Float) (b : Buffers) → entryCheck c input b ≡ Sound
     → factorOf c input b ≡ afterHead (headAnswerOf (c .mode) (c .limit) (c .ncol) (c .nb) (view (c .nrow) input)) c (view (c .nrow) input) b
 unfolding factorOf
 past-entry c input b h = rw h

@@ -16,6 +16,7 @@ use Rattle.model.specs.Factor.{Buffers, Outcome, HeadAnswer, fails, stan
 use Rattle.model.specs.Answer.{accepted}
 use Rattle.model.specs.Independence.{Call, outcomeOf, Alike, SameHead, SameInput, SameTailRow, TailRowsSteerNothing}
 use Rattle.model.specs.declared.Mode.{Mode}
+use Rattle.model.specs.declared.Refusal.{Refusal}
 use Rattle.model.proofs.Tabulated.{off-lt, getD-tabulate, view-columnMajor}
 use Rattle.model.proofs.Cases.{and-left, and-right}
 use Rattle.model.proofs.Entry.{Passed, passed, past-entry}
@@ -91,9 +92,9 @@ abbrev pub PassedCall : Call → Type 0
 PassedCall z = Passed (z .settings) (z .input) (z .lent)
 
 -- row i and column j of its panel where it fails
-pub panel-fails : (z : Call) (pz : PassedCall z) (n p : ℕ) → outcomeOf z ≡ leftBy (fails n p) z → (i j : ℕ) → i < z .settings .nrow → j < z .settings .ncol
+pub panel-fails : (z : Call) (pz : PassedCall z) (r : Refusal) → outcomeOf z ≡ leftBy (fails r) z → (i j : ℕ) → i < z .settings .nrow → j < z .settings .ncol
     → view (z .settings .nrow) (outcomeOf z .buffers .panel) i j ≡ zeroF
-panel-fails z pz n p e i j h l =
+panel-fails z pz r e i j h l =
     ap (λ (o : Outcome). view (z .settings .nrow) (o .buffers .panel) i j) e
     ∙ view-zeros (z .settings .nrow) (z .settings .ncol) (length (z .lent .panel)) (pz .lengths .panel) i j h l
 
@@ -105,9 +106,10 @@ panel-stands z s ps e i j h l =
     ∙ view-columnMajor (z .settings .nrow) (z .settings .ncol) (factorEntry (z .settings .ncol) s ps (given z)) i j h l
 
 -- place k of its order where it fails
-pub order-fails : (z : Call) (pz : PassedCall z) (n p : ℕ) → outcomeOf z ≡ leftBy (fails n p) z → (k : ℕ) → k < z .settings .nrow
+pub order-fails : (z : Call) (pz : PassedCall z) (r : Refusal) → outcomeOf z ≡ leftBy (fails r) z → (k : ℕ) → k < z .settings .nrow
     → bytes (outcomeOf z .buffers .order) k ≡ 0
-order-fails z pz n p e k l = ap (λ (o : Outcome). bytes (o .buffers .order) k) e ∙ bytes-zeros (z .settings .nrow) (length (z .lent .order)) (pz .lengths .order) k l
+order-fails z pz r e k l =
+    ap (λ (o : Outcome). bytes (o .buffers .order) k) e ∙ bytes-zeros (z .settings .nrow) (length (z .lent .order)) (pz .lengths .order) k l
 
 -- the same where it stands: the state's order
 pub order-stands : (z : Call) (s : State) (ps : List Panel) → outcomeOf z ≡ leftBy (stands s ps) z → (k : ℕ) → k < z .settings .nrow
@@ -115,9 +117,9 @@ pub order-stands : (z : Call) (s : State) (ps : List Panel) → outcomeOf z ≡ 
 order-stands z s ps e k l = ap (λ (o : Outcome). bytes (o .buffers .order) k) e ∙ bytes-tabulate (z .settings .nrow) k (s .pivots .notes .order) l
 
 -- the mark of tail row q where it fails
-pub mark-fails : (z : Call) (pz : PassedCall z) (n p : ℕ) → outcomeOf z ≡ leftBy (fails n p) z → (q : ℕ) → z .settings .ncol ≤ q → q < z .settings .nrow
+pub mark-fails : (z : Call) (pz : PassedCall z) (r : Refusal) → outcomeOf z ≡ leftBy (fails r) z → (q : ℕ) → z .settings .ncol ≤ q → q < z .settings .nrow
     → bytes (outcomeOf z .buffers .marks) (q - z .settings .ncol) ≡ 0
-mark-fails z pz n p e q h l =
+mark-fails z pz r e q h l =
     ap (λ (o : Outcome). bytes (o .buffers .marks) (q - z .settings .ncol)) e
     ∙ bytes-zeros (z .settings .nrow - z .settings .ncol) (length (z .lent .marks)) (pz .lengths .marks) (q - z .settings .ncol) (omega arith)
 
@@ -144,17 +146,17 @@ module _ (x y : Call) (px : PassedCall x) (py : PassedCall y) (cols : x .setting
 
   -- two calls whose heads have one answer leave the same of their heads
   pub same-outcome : (h : HeadAnswer) → outcomeOf x ≡ leftBy h x → outcomeOf y ≡ leftBy h y → SameHead x y
-  same-outcome (fails n p) ex ey = record {
+  same-outcome (fails r) ex ey = record {
     answer = through (λ (o : Outcome). o .answer) _ _ _ _ ex ey refl;
     d = through (λ (o : Outcome). o .buffers .d) _ _ _ _ ex ey (zeros-same _ _ (px .lengths .d) (py .lengths .d));
     sub = through (λ (o : Outcome). o .buffers .sub) _ _ _ _ ex ey (zeros-same _ _ (px .lengths .sub) (py .lengths .sub));
     blocks = through (λ (o : Outcome). o .buffers .blocks) _ _ _ _ ex ey (bytes-same _ _ (px .lengths .blocks) (py .lengths .blocks));
     lifts = through (λ (o : Outcome). o .buffers .lifts) _ _ _ _ ex ey (bytes-same _ _ (px .lengths .lifts) (py .lengths .lifts));
     amounts = through (λ (o : Outcome). o .buffers .amounts) _ _ _ _ ex ey (zeros-same _ _ (px .lengths .amounts) (py .lengths .amounts));
-    order = λ k l. order-fails x px n p ex k (omega (arith, px .head)) ∙ sym (order-fails y py n p ey k (omega (arith, py .head)));
+    order = λ k l. order-fails x px r ex k (omega (arith, px .head)) ∙ sym (order-fails y py r ey k (omega (arith, py .head)));
     lower = λ i j h l.
-        panel-fails x px n p ex i j (omega (arith, px .head)) (omega arith)
-        ∙ sym (panel-fails y py n p ey i j (omega (arith, py .head)) (omega arith));
+        panel-fails x px r ex i j (omega (arith, px .head)) (omega arith)
+        ∙ sym (panel-fails y py r ey i j (omega (arith, py .head)) (omega arith));
   }
   same-outcome (stands s ps) ex ey = record {
     answer = through (λ (o : Outcome). o .answer) _ _ _ _ ex ey (ap (λ (n : ℕ). accepted (reportOf n s)) cols);
@@ -171,9 +173,9 @@ module _ (x y : Call) (px : PassedCall x) (py : PassedCall y) (cols : x .setting
 
   -- and tail rows that were given alike get the same factor row and mark
   pub same-tail-row : (h : HeadAnswer) → outcomeOf x ≡ leftBy h x → outcomeOf y ≡ leftBy h y → (p q : ℕ) → SameInput x y p q → SameTailRow x y p q
-  same-tail-row (fails n at) ex ey p q i = record {
-    row = λ j l. panel-fails x px n at ex p j (i .inX) l ∙ sym (panel-fails y py n at ey q j (i .inY) (omega arith));
-    mark = mark-fails x px n at ex p (i .tailOfX) (i .inX) ∙ sym (mark-fails y py n at ey q (i .tailOfY) (i .inY));
+  same-tail-row (fails r) ex ey p q i = record {
+    row = λ j l. panel-fails x px r ex p j (i .inX) l ∙ sym (panel-fails y py r ey q j (i .inY) (omega arith));
+    mark = mark-fails x px r ex p (i .tailOfX) (i .inX) ∙ sym (mark-fails y py r ey q (i .tailOfY) (i .inY));
   }
   same-tail-row (stands s ps) ex ey p q i =
       let rows : factorRowOf (x .settings .ncol) ps (given x p) ≡ factorRowOf (y .settings .ncol) ps (given y q) =

@@ -7,7 +7,7 @@ use borrow.Author.Tests.{eq-eqb, ne-eqb, ltb-true, ltb-false, eqb-true, eqb-fals
 use lib.Dec.{ltb, eqb}
 use Rattle.model.specs.Matrix.{put}
 use Rattle.model.specs.Step.{Pivots, begins, pastOf, firstOf, isBlock}
-use Rattle.model.specs.Head.{State, Tried, refusedAt, took, tryOf, lastOf, byteOf, noted, Progress, stopped, going, after, panelOf}
+use Rattle.model.specs.Head.{State, Tried, refusedBy, took, tryOf, lastOf, byteOf, noted, Progress, stopped, going, after, panelOf}
 use Rattle.model.specs.Kept.{Paired, Starts, Ahead, Recorded}
 use Rattle.model.specs.declared.Mode.{Mode}
 use Rattle.model.specs.declared.Pivot.{Pivot}
@@ -182,7 +182,7 @@ noted-starts kb k e p v h l s c x b =
 
 -- of the state at a panel's end
 abbrev pub Reached : (ℕ → Pivots → Type 0) → ℕ → Progress → Type 0
-Reached P ke (stopped n p) = Unit {0}
+Reached P ke (stopped r) = Unit {0}
 Reached P ke (going k s) = (k ≡ ke) × P ke (s .pivots)
 
 module _ (ke : ℕ) (mode : Mode) (limit : ℕ) (P : ℕ → Pivots → Type 0)
@@ -190,7 +190,7 @@ module _ (ke : ℕ) (mode : Mode) (limit : ℕ) (P : ℕ → Pivots → Type 0)
   -- through what a step leads to: a refusal, or the next column
   pub after-reached : (k : ℕ) (s : State) (f : ℕ → State → Progress) (t : Tried) → Good ke limit k t → P k (s .pivots)
       → ((m : ℕ) (u : State) → k < m → m ≤ ke → P m (u .pivots) → Reached P ke (f m u)) → Reached P ke (after t s k f)
-  after-reached k s f (refusedAt n p) g w next = tt
+  after-reached k s f (refusedBy r) g w next = tt
   after-reached k s f (took v a m) g w next =
       next (lastOf k (isBlock (v .diagonal)) + 1) _ (omega (arith, last-from k (isBlock (v .diagonal)))) (omega (arith, g .last)) (step k (s .pivots) v g w)
 

@@ -4,6 +4,8 @@ use mathlib.Core.Bool.{Bool, cond}
 use Prim.Native.Nat.{ℕ}
 use Rattle.model.specs.declared.Refusal.{Refusal}
 use Rattle.model.specs.declared.Refusal.the-variants.{Shape, Width, Length, Floor, Limit, Input, ZeroPivot, Rounds, NotFinite, AssemblyLength, AssemblyPlace, AssemblyNumber, UpdateLength, TargetRows, DescendantRows, BlockByte, AbsentRow, DescendantNumber, InertiaLength}
+use Rattle.model.specs.declared.Check.{Check}
+use Rattle.model.specs.declared.Check.the-variants.{Sound, Refused}
 use Rattle.model.specs.declared.Report.{Report}
 use Rattle.model.specs.declared.Tally.{Tally}
 use Rattle.model.specs.declared.Factored as factored
@@ -15,43 +17,40 @@ pub data Said (A : Type 0) : Type 0 where
   refused : (number a b : ℕ) → Said A
   accepted : A → Said A
 
--- an entry check passes, or it refuses
-pub data Check : Type 0 where
-  sound : Check
-  stop : (number a b : ℕ) → Check
-
 -- the first of two checks that refuses
 abbrev pub orElse : Check → Check → Check
-orElse sound c = c
-orElse (stop n a b) c = stop n a b
+orElse Sound c = c
+orElse (Refused r) c = Refused r
 
--- 0, 0 if no place is named
-abbrev pub refuseIf : Bool → ℕ → Check
-refuseIf b n = cond b (stop n 0 0) sound
+abbrev pub refuseIf : Bool → Refusal → Check
+refuseIf b r = cond b (Refused r) Sound
 
 -- ---- the declared answers
 
--- the number and the place of each declared refusal
+-- the number of each declared refusal and its place: 0, 0 if no place is named
+abbrev pub numbered : Refusal → ℕ × ℕ × ℕ
+numbered Shape = (1, 0, 0)
+numbered Width = (2, 0, 0)
+numbered Length = (3, 0, 0)
+numbered Floor = (4, 0, 0)
+numbered Limit = (5, 0, 0)
+numbered (Input column row) = (6, column .0, row .0)
+numbered (ZeroPivot at) = (7, at .0, 0)
+numbered (Rounds at) = (8, at .0, 0)
+numbered (NotFinite at) = (9, at .0, 0)
+numbered AssemblyLength = (10, 0, 0)
+numbered (AssemblyPlace at) = (11, at, 0)
+numbered (AssemblyNumber at) = (12, at, 0)
+numbered UpdateLength = (13, 0, 0)
+numbered TargetRows = (14, 0, 0)
+numbered DescendantRows = (15, 0, 0)
+numbered (BlockByte at) = (16, at .0, 0)
+numbered (AbsentRow at) = (17, at, 0)
+numbered (DescendantNumber at) = (18, at .0, 0)
+numbered InertiaLength = (19, 0, 0)
+
 abbrev pub turnedAway : {A : Type 0} → Refusal → Said A
-turnedAway Shape = refused 1 0 0
-turnedAway Width = refused 2 0 0
-turnedAway Length = refused 3 0 0
-turnedAway Floor = refused 4 0 0
-turnedAway Limit = refused 5 0 0
-turnedAway (Input column row) = refused 6 (column .0) (row .0)
-turnedAway (ZeroPivot at) = refused 7 (at .0) 0
-turnedAway (Rounds at) = refused 8 (at .0) 0
-turnedAway (NotFinite at) = refused 9 (at .0) 0
-turnedAway AssemblyLength = refused 10 0 0
-turnedAway (AssemblyPlace at) = refused 11 at 0
-turnedAway (AssemblyNumber at) = refused 12 at 0
-turnedAway UpdateLength = refused 13 0 0
-turnedAway TargetRows = refused 14 0 0
-turnedAway DescendantRows = refused 15 0 0
-turnedAway (BlockByte at) = refused 16 (at .0) 0
-turnedAway (AbsentRow at) = refused 17 at 0
-turnedAway (DescendantNumber at) = refused 18 (at .0) 0
-turnedAway InertiaLength = refused 19 0 0
+turnedAway r = refused (numbered r .0) (numbered r .1) (numbered r .2)
 
 abbrev pub factoredSays : factored.Factored → Said Report
 factoredSays (factored.the-variants.Accepted r) = accepted r

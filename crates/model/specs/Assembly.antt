@@ -8,7 +8,11 @@ use lib.Ieee.{Float}
 use Rattle.model.specs.Scalar.{_⊕_, isFinite}
 use Rattle.model.specs.Matrix.{Row, Mat, view, vec, bytes, columnMajor}
 use Rattle.model.specs.Factor.{shapeSound}
-use Rattle.model.specs.Answer.{Said, refused, accepted, Check, sound, stop, orElse, refuseIf}
+use Rattle.model.specs.Answer.{Said, accepted, orElse, refuseIf, turnedAway}
+use Rattle.model.specs.declared.Refusal.{Refusal}
+use Rattle.model.specs.declared.Refusal.the-variants.{AssemblyLength, AssemblyPlace, AssemblyNumber}
+use Rattle.model.specs.declared.Check.{Check}
+use Rattle.model.specs.declared.Check.the-variants.{Sound, Refused}
 
 -- the entries: local rows, columns and numbers
 pub record Entries : Type 0 where
@@ -21,12 +25,12 @@ unfoldable pub entriesSound : ℕ → ℕ → Entries → List Float → Bool
 entriesSound ncol nrow es panel =
     shapeSound ncol nrow && (eqb (length (es .cols)) (length (es .rows)) && (eqb (length (es .numbers)) (length (es .rows)) && eqb (length panel) (nrow * ncol)))
 
--- the first of m places from k on at which f does not hold
-unfoldable pub firstNot : (ℕ → Bool) → ℕ → ℕ → ℕ → Check
-firstNot f number zero k = sound
-firstNot f number (suc m) k =
-    let rest = firstNot f number m (k + 1) in
-    cond (f k) rest (stop number k 0)
+-- the first of m places from k on at which f does not hold, and what is refused there
+unfoldable pub firstNot : (ℕ → Bool) → (ℕ → Refusal) → ℕ → ℕ → Check
+firstNot f at zero k = Sound
+firstNot f at (suc m) k =
+    let rest = firstNot f at m (k + 1) in
+    cond (f k) rest (Refused (at k))
 
 -- 'row ≥ nrow, column ≥ ncol or row < column'
 unfoldable pub placeSound : ℕ → ℕ → (ℕ → ℕ) → (ℕ → ℕ) → ℕ → Bool
@@ -34,9 +38,9 @@ placeSound ncol nrow rows cols k = ltb (rows k) nrow && (ltb (cols k) ncol && le
 
 unfoldable pub assemblyCheck : ℕ → ℕ → Entries → List Float → Check
 assemblyCheck ncol nrow es panel =
-    orElse (refuseIf (not (entriesSound ncol nrow es panel)) 10)
-    (orElse (firstNot (placeSound ncol nrow (bytes (es .rows)) (bytes (es .cols))) 11 (length (es .rows)) 0)
-    (firstNot (λ k. isFinite (vec (es .numbers) k)) 12 (length (es .rows)) 0))
+    orElse (refuseIf (not (entriesSound ncol nrow es panel)) AssemblyLength)
+    (orElse (firstNot (placeSound ncol nrow (bytes (es .rows)) (bytes (es .cols))) AssemblyPlace (length (es .rows)) 0)
+    (firstNot (λ k. isFinite (vec (es .numbers) k)) AssemblyNumber (length (es .rows)) 0))
 
 -- a with v added at row i, column j
 unfoldable pub addedAt : Mat → ℕ → ℕ → Float → Mat
@@ -53,8 +57,8 @@ pub record Panelled : Type 0 where
   pub panel : List Float
 
 abbrev pub panelAfter : Check → List Float → List Float → Panelled
-panelAfter sound new panel = record { answer = accepted tt; panel = new }
-panelAfter (stop n a b) new panel = record { answer = refused n a b; panel = panel }
+panelAfter Sound new panel = record { answer = accepted tt; panel = new }
+panelAfter (Refused r) new panel = record { answer = turnedAway r; panel = panel }
 
 unfoldable pub assemblyOf : ℕ → ℕ → Entries → List Float → Panelled
 assemblyOf ncol nrow es panel =

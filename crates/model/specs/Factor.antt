@@ -13,10 +13,15 @@ use Rattle.model.specs.Step.{Diagonals, blockAt, begins, endsBlock}
 use Rattle.model.specs.Panel.{Panel, tailRowOf}
 use Rattle.model.specs.Head as head
 use Rattle.model.specs.Inertia.{talliedOf}
-use Rattle.model.specs.Answer.{Said, refused, accepted, Check, sound, stop, orElse, refuseIf}
+use Rattle.model.specs.Answer.{Said, accepted, orElse, refuseIf, turnedAway}
 use Rattle.model.specs.declared.Mode.{Mode}
 use Rattle.model.specs.declared.Mode.the-variants.{Fail, Lift}
 use Rattle.model.specs.declared.Settings.{Settings}
+use Rattle.model.specs.declared.Lengths.{Lengths}
+use Rattle.model.specs.declared.Refusal.{Refusal}
+use Rattle.model.specs.declared.Refusal.the-variants.{Shape, Width, Length, Floor, Limit, Input, NotFinite}
+use Rattle.model.specs.declared.Check.{Check}
+use Rattle.model.specs.declared.Check.the-variants.{Sound, Refused}
 use Rattle.model.specs.declared.Report.{Report}
 
 -- the nine buffers that a call writes
@@ -41,40 +46,54 @@ shapeSound ncol nrow = leb ncol mostColumns && (leb nrow mostRows && leb ncol nr
 abbrev pub workLength : ℕ → ℕ → ℕ
 workLength nrow nb = 3 * nrow * (nb + 1) + nb * nb
 
+abbrev pub lengthsOf : List Float → Buffers → Lengths
+lengthsOf input b = record {
+  input = length input;
+  panel = length (b .panel);
+  d = length (b .d);
+  sub = length (b .sub);
+  blocks = length (b .blocks);
+  lifts = length (b .lifts);
+  amounts = length (b .amounts);
+  order = length (b .order);
+  marks = length (b .marks);
+  work = length (b .work);
+}
+
 -- refusal 3
-unfoldable pub lengthsSound : Settings → List Float → Buffers → Bool
-lengthsSound c input b =
-    eqb (length input) (c .nrow * c .ncol) && (eqb (length (b .panel)) (c .nrow * c .ncol) && (eqb (length (b .d)) (c .ncol)
-    && (eqb (length (b .sub)) (c .ncol) && (eqb (length (b .blocks)) (c .ncol) && (eqb (length (b .lifts)) (c .ncol)
-    && (eqb (length (b .amounts)) (c .ncol) && (eqb (length (b .order)) (c .nrow) && (eqb (length (b .marks)) (c .nrow - c .ncol)
-    && eqb (length (b .work)) (workLength (c .nrow) (c .nb))))))))))
+unfoldable pub lengthsSound : Settings → Lengths → Bool
+lengthsSound c n =
+    eqb (n .input) (c .nrow * c .ncol) && (eqb (n .panel) (c .nrow * c .ncol) && (eqb (n .d) (c .ncol) && (eqb (n .sub) (c .ncol)
+    && (eqb (n .blocks) (c .ncol) && (eqb (n .lifts) (c .ncol) && (eqb (n .amounts) (c .ncol) && (eqb (n .order) (c .nrow)
+    && (eqb (n .marks) (c .nrow - c .ncol) && eqb (n .work) (workLength (c .nrow) (c .nb))))))))))
 
 -- refusals 4 and 5
 unfoldable pub modeCheck : Mode → ℕ → Check
-modeCheck Fail limit = sound
-modeCheck (Lift floor) limit = orElse (refuseIf (not (isFinite floor && lt zeroF floor)) 4) (refuseIf (not (leb 1 limit && leb limit mostRounds)) 5)
+modeCheck Fail limit = Sound
+modeCheck (Lift floor) limit = orElse (refuseIf (not (isFinite floor && lt zeroF floor)) Floor) (refuseIf (not (leb 1 limit && leb limit mostRounds)) Limit)
 
 -- refusal 6: the first of n rows from i on, in column j, that is not finite
 unfoldable pub columnCheck : Mat → ℕ → ℕ → ℕ → Check
-columnCheck a j zero i = sound
+columnCheck a j zero i = Sound
 columnCheck a j (suc n) i =
     let rest = columnCheck a j n (i + 1) in
-    cond (isFinite (a i j)) rest (stop 6 j i)
+    cond (isFinite (a i j)) rest (Refused (Input (record { 0 = j }) (record { 0 = i })))
 
 -- the least of n columns from j on that has one, each from its diagonal down
 unfoldable pub columnsCheck : Mat → ℕ → ℕ → ℕ → Check
-columnsCheck a nrow zero j = sound
+columnsCheck a nrow zero j = Sound
 columnsCheck a nrow (suc n) j = let rest = columnsCheck a nrow n (j + 1) in orElse (columnCheck a j (nrow - j) j) rest
 
--- 1 to 5, and 6
-unfoldable pub settingsCheck : Settings → List Float → Buffers → Check
-settingsCheck c input b =
-    orElse (refuseIf (not (shapeSound (c .ncol) (c .nrow))) 1)
-    (orElse (refuseIf (not (leb 1 (c .nb) && leb (c .nb) widestPanel)) 2)
-    (orElse (refuseIf (not (lengthsSound c input b)) 3) (modeCheck (c .mode) (c .limit))))
+-- 1 to 5
+unfoldable pub settingsCheck : Settings → Lengths → Check
+settingsCheck c n =
+    orElse (refuseIf (not (shapeSound (c .ncol) (c .nrow))) Shape)
+    (orElse (refuseIf (not (leb 1 (c .nb) && leb (c .nb) widestPanel)) Width)
+    (orElse (refuseIf (not (lengthsSound c n)) Length) (modeCheck (c .mode) (c .limit))))
 
+-- 1 to 6
 unfoldable pub entryCheck : Settings → List Float → Buffers → Check
-entryCheck c input b = orElse (settingsCheck c input b) (columnsCheck (view (c .nrow) input) (c .nrow) (c .ncol) 0)
+entryCheck c input b = orElse (settingsCheck c (lengthsOf input b)) (columnsCheck (view (c .nrow) input) (c .nrow) (c .ncol) 0)
 
 -- ---- the head's run and refusal 9
 
@@ -117,22 +136,22 @@ columnSound ncol D a k =
 
 -- the least of n columns from k on that is not: refusal 9
 unfoldable pub resultCheck : ℕ → Diagonals → Mat → ℕ → ℕ → Check
-resultCheck ncol D a zero k = sound
+resultCheck ncol D a zero k = Sound
 resultCheck ncol D a (suc n) k =
     let rest = resultCheck ncol D a n (k + 1) in
-    cond (columnSound ncol D a k) rest (stop 9 k 0)
+    cond (columnSound ncol D a k) rest (Refused (NotFinite (record { 0 = k })))
 
--- the head's answer: a run refusal with its place, or the state and the panels
+-- the head's answer: a refusal, or the state and the panels
 pub data HeadAnswer : Type 0 where
-  fails : (number at : ℕ) → HeadAnswer
+  fails : Refusal → HeadAnswer
   stands : head.State → List Panel → HeadAnswer
 
 abbrev pub judged : Check → head.State → List Panel → HeadAnswer
-judged sound s ps = stands s ps
-judged (stop n a b) s ps = fails n a
+judged Sound s ps = stands s ps
+judged (Refused r) s ps = fails r
 
 abbrev pub judgedRun : ℕ → head.Run → HeadAnswer
-judgedRun ncol (head.refused n p) = fails n p
+judgedRun ncol (head.refused r) = fails r
 judgedRun ncol (head.done s ps) = judged (resultCheck ncol (s .pivots .diagonals) (s .a) ncol 0) s ps
 
 unfoldable pub headAnswerOf : Mode → ℕ → ℕ → ℕ → Mat → HeadAnswer
@@ -190,12 +209,12 @@ abbrev pub reportOf : ℕ → head.State → Report
 reportOf ncol s = let D = s .pivots .diagonals in record { rounds = s .rounds; inertia = talliedOf ncol (D .d) (D .sub) (D .blocks) }
 
 abbrev pub afterHead : HeadAnswer → Settings → Mat → Buffers → Outcome
-afterHead (fails n p) c a b = record { answer = refused n p 0; buffers = zeros b }
+afterHead (fails r) c a b = record { answer = turnedAway r; buffers = zeros b }
 afterHead (stands s ps) c a b = record { answer = accepted (reportOf (c .ncol) s); buffers = written c a s ps b }
 
 abbrev pub afterCheck : Check → Outcome → Buffers → Outcome
-afterCheck sound o b = o
-afterCheck (stop n x y) o b = record { answer = refused n x y; buffers = b }
+afterCheck Sound o b = o
+afterCheck (Refused r) o b = record { answer = turnedAway r; buffers = b }
 
 -- the factor call
 unfoldable pub factorOf : Settings → List Float → Buffers → Outcome

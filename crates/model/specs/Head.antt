@@ -7,7 +7,7 @@ use lib.Ieee.{Float, lt, le, eq}
 use Rattle.model.specs.Scalar.{_⊕_, _⊖_, _⊗_, zeroF, reciprocalOf, magnitudeOf, maximumOf, liftOf, growthEps}
 use Rattle.model.specs.Root.{sqrtOf}
 use Rattle.model.specs.Matrix.{Row, Mat, put, swapped, exchanged, withColumn}
-use Rattle.model.specs.Choice.{Choice, zeroColumn, single, block, chooseOf}
+use Rattle.model.specs.Choice.{chooseOf}
 use Rattle.model.specs.Step.{one, two, Diagonals, Notes, Pivots, blockOf, isBlock, firstNumber, lastNumber, underNumber, firstMultiplier, secondMultiplier, eliminated, rowAfterSteps}
 use Rattle.model.specs.Panel.{Panel, rowAfterPanel}
 use Rattle.model.specs.declared.Mode.{Mode}
@@ -16,6 +16,14 @@ use Rattle.model.specs.declared.Block.{Block}
 use Rattle.model.specs.declared.Diagonal.{Diagonal}
 use Rattle.model.specs.declared.Diagonal.the-variants.{One, Two}
 use Rattle.model.specs.declared.Pivot.{Pivot}
+use Rattle.model.specs.declared.Choice.{Choice}
+use Rattle.model.specs.declared.Choice.the-variants as choice
+use Rattle.model.specs.declared.OneSettled.{OneSettled}
+use Rattle.model.specs.declared.OneSettled.the-variants.{Zero, Number}
+use Rattle.model.specs.declared.TwoSettled.{TwoSettled}
+use Rattle.model.specs.declared.TwoSettled.the-variants.{Low, OutOfRounds, Numbers}
+use Rattle.model.specs.declared.Refusal.{Refusal}
+use Rattle.model.specs.declared.Refusal.the-variants.{ZeroPivot, Rounds}
 
 -- the head, the multipliers of the panel at work, the pivots so far, the rounds so far
 pub record State : Type 0 where
@@ -26,23 +34,13 @@ pub record State : Type 0 where
 
 -- ---- the numbers of a pivot, lifted where the mode asks it
 
--- refused under a number, or a 1x1 number with its lift byte and amount
-pub data SettledOne : Type 0 where
-  oneRefused : ℕ → SettledOne
-  oneIs : Float → (lifted : ℕ) → (amount : Float) → SettledOne
-
--- a 1x1: in Fail a zero is refusal 7; in Lift 'applies if |d| < floor strictly', and the amount is new less old
-unfoldable pub settledOne : Mode → Float → SettledOne
-settledOne Fail d = cond (eq d zeroF) (oneRefused 7) (oneIs d 0 zeroF)
+-- a 1x1: in Fail a zero is refused; in Lift 'applies if |d| < floor strictly', and the amount is new less old
+unfoldable pub settledOne : Mode → Float → OneSettled
+settledOne Fail d = cond (eq d zeroF) Zero (Number d 0 zeroF)
 settledOne (Lift floor) d =
     let new = liftOf floor d in
-    let lifted = oneIs new 1 (new ⊖ d) in
-    cond (lt (magnitudeOf d) floor) lifted (oneIs d 0 zeroF)
-
--- refused under a number, or a block with its lift byte, amount and rounds
-pub data SettledTwo : Type 0 where
-  twoRefused : ℕ → SettledTwo
-  twoIs : Block → (lifted : ℕ) → (amount : Float) → (rounds : ℕ) → SettledTwo
+    let lifted = Number new 1 (new ⊖ d) in
+    cond (lt (magnitudeOf d) floor) lifted (Number d 0 zeroF)
 
 -- 'scale is the greatest magnitude'; 'growth floor (1e-14·scale)·scale'
 abbrev pub scaleOf : Block → Float
@@ -53,12 +51,12 @@ growthFloorOf b = growthEps ⊗ scaleOf b ⊗ scaleOf b
 
 -- rounds of a block's lift: `left` may still be tried, `r` is the round at hand, `sum` the r-fold running sum of step.
 -- 'until |det| ≥ bar or is not-a-number': a not-a-number is not below the bar
-unfoldable pub raisedFrom : Block → Float → Float → ℕ → ℕ → Float → SettledTwo
-raisedFrom b bar step zero r sum = twoRefused 8
+unfoldable pub raisedFrom : Block → Float → Float → ℕ → ℕ → Float → TwoSettled
+raisedFrom b bar step zero r sum = OutOfRounds
 raisedFrom b bar step (suc left) r sum =
     let tried = blockOf (b .d11 ⊕ sum) (b .d21) (b .d22 ⊕ sum) in
     let again = raisedFrom b bar step left (r + 1) (sum ⊕ step) in
-    let enough = twoIs tried 1 sum r in
+    let enough = Numbers tried 1 sum r in
     cond (lt (magnitudeOf (tried .det)) bar) again enough
 
 -- 'bar = max(floor², growth floor)' and 'step = max(floor, scale·√1e-14)'
@@ -68,17 +66,17 @@ barOf floor b = maximumOf (floor ⊗ floor) (growthFloorOf b)
 abbrev pub liftStepOf : Float → Block → Float
 liftStepOf floor b = maximumOf floor (scaleOf b ⊗ sqrtOf growthEps)
 
--- a block against its growth floor: refusal 7 in Fail; in Lift a lift, refusal 8 where the limit is too small
-unfoldable pub settledTwo : Mode → ℕ → Block → SettledTwo
-settledTwo Fail limit b = cond (le (magnitudeOf (b .det)) (growthFloorOf b)) (twoRefused 7) (twoIs b 0 zeroF 0)
+-- a block against its growth floor: refused in Fail; in Lift a lift, refused where the limit is too small
+unfoldable pub settledTwo : Mode → ℕ → Block → TwoSettled
+settledTwo Fail limit b = cond (le (magnitudeOf (b .det)) (growthFloorOf b)) Low (Numbers b 0 zeroF 0)
 settledTwo (Lift floor) limit b =
     let raised = raisedFrom b (barOf floor b) (liftStepOf floor b) limit 1 (liftStepOf floor b) in
-    cond (lt (magnitudeOf (b .det)) (barOf floor b)) raised (twoIs b 0 zeroF 0)
+    cond (lt (magnitudeOf (b .det)) (barOf floor b)) raised (Numbers b 0 zeroF 0)
 
--- ---- a step: a refusal with its number and place, or a pivot with the head and the multipliers after it
+-- ---- a step: a refusal, or a pivot with the head and the multipliers after it
 
 pub data Tried : Type 0 where
-  refusedAt : (number at : ℕ) → Tried
+  refusedBy : Refusal → Tried
   took : Pivot → Mat → Mat → Tried
 
 -- the panel's rows after a 1x1 pivot d at k, each up to its own column; the diagonal holds d
@@ -104,17 +102,18 @@ keptTwo ke k b a mult =
 
 module _ (ke : ℕ) (a₀ mult : Mat) where
   -- a 1x1 at k, exchanged with row kp
-  abbrev pub afterOne : ℕ → ℕ → SettledOne → Tried
-  afterOne k kp (oneRefused n) = refusedAt n k
-  afterOne k kp (oneIs d lifted amount) =
+  abbrev pub afterOne : ℕ → ℕ → OneSettled → Tried
+  afterOne k kp Zero = refusedBy (ZeroPivot (record { 0 = k }))
+  afterOne k kp (Number d lifted amount) =
       let a = exchanged k kp ke a₀ in
       took (record { p = record { 0 = k }; kp = record { 0 = kp }; diagonal = One d; lifted = lifted; amount = amount; rounds = 0 })
       (headOne ke k d a) (keptOne ke k d a mult)
 
   -- a block at k and k + 1, k + 1 exchanged with row kp; k was exchanged with row p before
-  abbrev pub afterTwo : ℕ → ℕ → ℕ → SettledTwo → Tried
-  afterTwo k p kp (twoRefused n) = refusedAt n k
-  afterTwo k p kp (twoIs b lifted amount rounds) =
+  abbrev pub afterTwo : ℕ → ℕ → ℕ → TwoSettled → Tried
+  afterTwo k p kp Low = refusedBy (ZeroPivot (record { 0 = k }))
+  afterTwo k p kp OutOfRounds = refusedBy (Rounds (record { 0 = k }))
+  afterTwo k p kp (Numbers b lifted amount rounds) =
       let a = exchanged (k + 1) kp ke a₀ in
       took (record { p = record { 0 = p }; kp = record { 0 = kp }; diagonal = Two b; lifted = lifted; amount = amount; rounds = rounds })
       (headTwo ke k b a) (keptTwo ke k b a mult)
@@ -125,12 +124,12 @@ module _ (ke : ℕ) (a₀ mult : Mat) where
       let a = exchanged (k + 1) kp ke a₀ in
       afterTwo k p kp (settledTwo mode limit (blockOf (a k k) (a (k + 1) k) (a (k + 1) (k + 1))))
 
--- the chosen 1x1 stands at row kp; a block's first exchange comes before all else; a zero column is refusal 7 in Fail and a 1x1 in Lift
+-- the chosen 1x1 stands at row kp; a block's first exchange comes before all else; a zero column is refused in Fail and a 1x1 in Lift
 abbrev pub tryBy : ℕ → Mat → Mat → Mode → ℕ → ℕ → Choice → Tried
-tryBy ke a mult Fail limit k zeroColumn = refusedAt 7 k
-tryBy ke a mult (Lift floor) limit k zeroColumn = afterOne ke a mult k k (settledOne (Lift floor) (a k k))
-tryBy ke a mult mode limit k (single kp) = afterOne ke a mult k kp (settledOne mode (a kp kp))
-tryBy ke a mult mode limit k (block p kp) = tryBlock ke (exchanged k p ke a) mult mode limit k p kp
+tryBy ke a mult Fail limit k choice.ZeroColumn = refusedBy (ZeroPivot (record { 0 = k }))
+tryBy ke a mult (Lift floor) limit k choice.ZeroColumn = afterOne ke a mult k k (settledOne (Lift floor) (a k k))
+tryBy ke a mult mode limit k (choice.Single kp) = afterOne ke a mult k (kp .0) (settledOne mode (a (kp .0) (kp .0)))
+tryBy ke a mult mode limit k (choice.Block p kp) = tryBlock ke (exchanged k (p .0) ke a) mult mode limit k (p .0) (kp .0)
 
 -- the step at k
 unfoldable pub tryOf : ℕ → Mat → Mat → Mode → ℕ → ℕ → Tried
@@ -172,13 +171,13 @@ noted p k e v =
 
 -- ---- a panel's steps in turn
 
--- a run refusal with its number and place, or the next column and the state there
+-- a refusal, or the next column and the state there
 pub data Progress : Type 0 where
-  stopped : (number at : ℕ) → Progress
+  stopped : Refusal → Progress
   going : ℕ → State → Progress
 
 abbrev pub after : Tried → State → ℕ → (ℕ → State → Progress) → Progress
-after (refusedAt n p) s k f = stopped n p
+after (refusedBy r) s k f = stopped r
 after (took v a m) s k f =
     let e = lastOf k (isBlock (v .diagonal)) in
     f (e + 1) (record { a = a; mult = m; pivots = noted (s .pivots) k e v; rounds = s .rounds + v .rounds })
@@ -193,7 +192,7 @@ panelOf ke mode limit (suc n) k s =
 -- ---- panels in turn
 
 pub data Run : Type 0 where
-  refused : (number at : ℕ) → Run
+  refused : Refusal → Run
   done : State → List Panel → Run
 
 -- no multiplier yet
@@ -221,11 +220,11 @@ passed p s =
     record { a = later; mult = blank; pivots = s .pivots; rounds = s .rounds }
 
 abbrev pub withPanel : Panel → Run → Run
-withPanel p (refused n q) = refused n q
+withPanel p (refused r) = refused r
 withPanel p (done s ps) = done s (p ∷ ps)
 
 abbrev pub continued : Progress → (State → Run) → Run
-continued (stopped n p) f = refused n p
+continued (stopped r) f = refused r
 continued (going k s) f = f s
 
 -- at most n panels of width nb from column kb on

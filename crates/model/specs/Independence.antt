@@ -14,7 +14,7 @@ use Prim.Native.Nat.{ℕ, _-_, _≤_, _<_}
 use lib.Ieee.{Float}
 use Rattle.model.specs.Matrix.{view, bytes}
 use Rattle.model.specs.Factor.{Buffers, Outcome, entryCheck, factorOf}
-use Rattle.model.specs.Answer.{sound}
+use Rattle.model.specs.declared.Check.the-variants.{Sound}
 use Rattle.model.specs.declared.Settings.{Settings}
 
 -- a factor call: its settings, its input and the buffers lent to it
@@ -25,7 +25,7 @@ pub record Call : Type 0 where
 
 -- it passes the entry checks
 abbrev pub PastEntry : Call → Type 0
-PastEntry x = entryCheck (x .settings) (x .input) (x .lent) ≡ sound
+PastEntry x = entryCheck (x .settings) (x .input) (x .lent) ≡ Sound
 
 -- what it leaves behind
 abbrev pub outcomeOf : Call → Outcome

@@ -9,9 +9,12 @@ use Rattle.model.specs.Sizes.{mostColumns}
 use Rattle.model.specs.Scalar.{_⊕_, zeroF}
 use Rattle.model.specs.Matrix.{Row, vec, bytes}
 use Rattle.model.specs.Step.{begins, pastOf, blockAt}
-use Rattle.model.specs.Answer.{Said, refused, accepted, Check, sound, stop, orElse, refuseIf}
+use Rattle.model.specs.Answer.{Said, accepted, orElse, refuseIf, turnedAway}
 use Rattle.model.specs.declared.Block.{Block}
 use Rattle.model.specs.declared.Tally.{Tally}
+use Rattle.model.specs.declared.Refusal.the-variants.{BlockByte, InertiaLength}
+use Rattle.model.specs.declared.Check.{Check}
+use Rattle.model.specs.declared.Check.the-variants.{Sound, Refused}
 
 -- a tally with p, n and z more
 abbrev pub more : Tally → ℕ → ℕ → ℕ → Tally
@@ -55,10 +58,10 @@ byteSound blocks n k = leb (blocks k) 1 && not (begins blocks k && (eqb (k + 1) 
 
 -- the least of m places from k on that is not sound: refusal 16
 unfoldable pub bytesFrom : (ℕ → ℕ) → ℕ → ℕ → ℕ → Check
-bytesFrom blocks n zero k = sound
+bytesFrom blocks n zero k = Sound
 bytesFrom blocks n (suc m) k =
     let rest = bytesFrom blocks n m (k + 1) in
-    cond (byteSound blocks n k) rest (stop 16 k 0)
+    cond (byteSound blocks n k) rest (Refused (BlockByte (record { 0 = k })))
 
 abbrev pub checkBytes : List ℕ → Check
 checkBytes blocks = bytesFrom (bytes blocks) (length blocks) (length blocks) 0
@@ -66,11 +69,11 @@ checkBytes blocks = bytesFrom (bytes blocks) (length blocks) (length blocks) 0
 -- 'its three lists differ in length or exceed 128', then 16
 unfoldable pub inertiaCheck : List Float → List Float → List ℕ → Check
 inertiaCheck d sub blocks =
-    orElse (refuseIf (not (eqb (length sub) (length d) && (eqb (length blocks) (length d) && leb (length d) mostColumns))) 19) (checkBytes blocks)
+    orElse (refuseIf (not (eqb (length sub) (length d) && (eqb (length blocks) (length d) && leb (length d) mostColumns))) InertiaLength) (checkBytes blocks)
 
 abbrev inertiaSays : Check → Tally → Said Tally
-inertiaSays sound t = accepted t
-inertiaSays (stop n a b) t = refused n a b
+inertiaSays Sound t = accepted t
+inertiaSays (Refused r) t = turnedAway r
 
 -- what the call answers
 unfoldable pub inertiaOf : List Float → List Float → List ℕ → Said Tally

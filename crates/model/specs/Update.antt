@@ -13,7 +13,11 @@ use Rattle.model.specs.Panel.{timesD, sumFrom}
 use Rattle.model.specs.Inertia.{checkBytes}
 use Rattle.model.specs.Factor.{shapeSound, everyFrom}
 use Rattle.model.specs.Assembly.{Panelled, panelAfter, firstNot}
-use Rattle.model.specs.Answer.{Check, sound, stop, orElse, refuseIf}
+use Rattle.model.specs.Answer.{orElse, refuseIf}
+use Rattle.model.specs.declared.Refusal.{Refusal}
+use Rattle.model.specs.declared.Refusal.the-variants.{UpdateLength, TargetRows, DescendantRows, AbsentRow, DescendantNumber}
+use Rattle.model.specs.declared.Check.{Check}
+use Rattle.model.specs.declared.Check.the-variants.{Sound, Refused}
 
 -- the target: ncol columns, nrow rows, the global row of its first column, its global rows
 pub record Target : Type 0 where
@@ -60,12 +64,12 @@ lands t g = leb (t .first) g && ltb g (t .first + t .ncol)
 
 -- 'row A (the first at or past that landing) is absent from the target': the first of m rows from i on; `landed` says that a row before it landed
 unfoldable pub absentFrom : Target → (ℕ → ℕ) → ℕ → ℕ → Bool → Check
-absentFrom t rows zero i landed = sound
+absentFrom t rows zero i landed = Sound
 absentFrom t rows (suc m) i landed =
     let now = landed || lands t (rows i) in
     let there = ltb (placeFrom (bytes (t .rows)) (rows i) (t .nrow) 0) (t .nrow) in
     let rest = absentFrom t rows m (i + 1) now in
-    cond (now && not there) (stop 17 i 0) rest
+    cond (now && not there) (Refused (AbsentRow i)) rest
 
 -- column c of the descendant: 'a number below its head, or a d, or a subdiagonal under a 1'
 unfoldable pub descendantSound : Descendant → ℕ → Bool
@@ -73,13 +77,17 @@ descendantSound k c =
     isFinite (vec (k .d) c) && ((not (begins (bytes (k .blocks)) c) || isFinite (vec (k .sub) c))
     && everyFrom (λ i. isFinite (view (k .nk + k .mk) (k .panel) i c)) (k .mk) (k .nk))
 
+-- what is refused there
+abbrev pub numberAt : ℕ → Refusal
+numberAt c = DescendantNumber (record { 0 = c })
+
 unfoldable pub updateCheck : Target → Descendant → List Float → Check
 updateCheck t k panel =
-    orElse (refuseIf (not (updateSound t k panel)) 13)
-    (orElse (refuseIf (not (rising (bytes (t .rows)) (t .nrow) && beginsAt (t .first) (bytes (t .rows)) (t .ncol))) 14)
-    (orElse (refuseIf (not (rising (bytes (k .rows)) (k .mk))) 15)
+    orElse (refuseIf (not (updateSound t k panel)) UpdateLength)
+    (orElse (refuseIf (not (rising (bytes (t .rows)) (t .nrow) && beginsAt (t .first) (bytes (t .rows)) (t .ncol))) TargetRows)
+    (orElse (refuseIf (not (rising (bytes (k .rows)) (k .mk))) DescendantRows)
     (orElse (checkBytes (k .blocks))
-    (orElse (cond (leb 1 (k .nk)) (absentFrom t (bytes (k .rows)) (k .mk) 0 (not true)) sound) (firstNot (descendantSound k) 18 (k .nk) 0)))))
+    (orElse (cond (leb 1 (k .nk)) (absentFrom t (bytes (k .rows)) (k .mk) 0 (not true)) Sound) (firstNot (descendantSound k) numberAt (k .nk) 0)))))
 
 -- ---- the update
 

@@ -35,6 +35,20 @@ pub struct Settings {
     pub limit: usize,
 }
 
+// The lengths of a factor call's input and of the nine buffers that it writes.
+pub struct Lengths {
+    pub input: usize,
+    pub panel: usize,
+    pub d: usize,
+    pub sub: usize,
+    pub blocks: usize,
+    pub lifts: usize,
+    pub amounts: usize,
+    pub order: usize,
+    pub marks: usize,
+    pub work: usize,
+}
+
 // The panel at work: the node's rows and columns, the width by which its multipliers are laid out, and the panel's own
 // columns, kb up to ke.
 pub struct Frame {
@@ -57,6 +71,40 @@ pub struct Block {
 pub enum Diagonal {
     One(f64),
     Two(Block),
+}
+
+// A greatest square and the row where it stood. (A place along a row is, by symmetry, a row too.)
+pub struct Greatest {
+    pub square: f64,
+    pub at: LocalRow,
+}
+
+// What the pivot tests choose at k: nothing, since the column test finds zero; a 1x1 with the row that is exchanged
+// with k; a block with the row that is exchanged with k, which is k's own as the tests stand, and the row that is then
+// exchanged with k + 1.
+pub enum Choice {
+    ZeroColumn,
+    Single(LocalRow),
+    Block(LocalRow, LocalRow),
+}
+
+// The chosen 1x1 as the mode settles it: zero in Fail, or its number with the lift byte and the lift's amount.
+pub enum OneSettled {
+    Zero,
+    Number { d: f64, lifted: u8, amount: f64 },
+}
+
+// The chosen block as the mode settles it: at or below its growth floor in Fail, or in need of more rounds than the
+// limit, or its numbers with the lift byte, the lift's amount and the rounds used.
+pub enum TwoSettled {
+    Low,
+    OutOfRounds,
+    Numbers {
+        block: Block,
+        lifted: u8,
+        amount: f64,
+        rounds: usize,
+    },
 }
 
 // What a step took: the row exchanged with its first column before anything else (its own but for a rook block), the row
@@ -83,7 +131,8 @@ pub struct Report {
     pub inertia: Tally,
 }
 
-// Document 01's refusals 1 to 19 in their order. `turnedAway` of specs/Answer.antt gives the number and the place of each.
+// Document 01's refusals 1 to 19 in their order. `numbered` of specs/Answer.antt gives the number and the place of
+// each.
 pub enum Refusal {
     Shape,
     Width,
@@ -104,6 +153,12 @@ pub enum Refusal {
     AbsentRow(usize),
     DescendantNumber(Elim),
     InertiaLength,
+}
+
+// What a check says: that it found nothing, or the refusal.
+pub enum Check {
+    Sound,
+    Refused(Refusal),
 }
 
 // The answer of a factor call.

@@ -8,14 +8,20 @@ use borrow.Author.Tests.{lt-ltb, le-leb, eq-eqb, ne-eqb, ltb-true, ltb-false, eq
 use lib.Dec.{ltb}
 use lib.Ieee.{Float}
 use Rattle.model.specs.Matrix.{Row, Mat, put, withColumn, exchanged}
-use Rattle.model.specs.Choice.{Choice, zeroColumn, single, block, chooseOf}
+use Rattle.model.specs.Choice.{chooseOf}
 use Rattle.model.specs.Step.{Diagonals, Pivots, begins, blockAt, pastOf, stepAt, arrived, rowAfterStep, rowStepped, rowAfterSteps}
-use Rattle.model.specs.Head.{SettledOne, oneRefused, oneIs, settledOne, SettledTwo, twoRefused, twoIs, settledTwo, keptOne, keptTwo, afterOne, afterTwo}
+use Rattle.model.specs.Head.{settledOne, settledTwo, keptOne, keptTwo, afterOne, afterTwo}
 use Rattle.model.specs.Head.{State, Tried, tryBy, tryOf, lastOf, noted, Progress, going, after, panelOf, blank}
 use Rattle.model.specs.declared.Block.{Block}
 use Rattle.model.specs.declared.Diagonal.the-variants.{One, Two}
 use Rattle.model.specs.declared.Mode.{Mode}
 use Rattle.model.specs.declared.Mode.the-variants.{Fail, Lift}
+use Rattle.model.specs.declared.Choice.{Choice}
+use Rattle.model.specs.declared.Choice.the-variants as choice
+use Rattle.model.specs.declared.OneSettled.{OneSettled}
+use Rattle.model.specs.declared.OneSettled.the-variants.{Zero, Number}
+use Rattle.model.specs.declared.TwoSettled.{TwoSettled}
+use Rattle.model.specs.declared.TwoSettled.the-variants.{Low, OutOfRounds, Numbers}
 use Rattle.model.proofs.Cases.{test, cmp}
 use Rattle.model.proofs.Recorded.{last-from}
 use Rattle.whole.specs.Whole.{below, wholeClosed, deferredRows, wholePassed}
@@ -137,23 +143,24 @@ module _ (nrow ncol kb ke : ℕ) where
     abbrev Alike : Mat → Tried → Tried → Type 0
     Alike s t u = onward nrow ncol kb ke (after t (at s m p r) k f) ≡ onward nrow ncol kb ke (after u (at s n p r) k f)
 
-    one-alike : (s a : Mat) (kp : ℕ) (d : SettledOne) → Alike s (afterOne ke a m k kp d) (afterOne ke a n k kp d)
+    one-alike : (s a : Mat) (kp : ℕ) (d : OneSettled) → Alike s (afterOne ke a m k kp d) (afterOne ke a n k kp d)
     unfolding noted lastOf
-    one-alike s a kp (oneRefused z) = refl
-    one-alike s a kp (oneIs d l x) = more false _ _ _ _ _ (kept-one kb ke k (p .diagonals .blocks) m n (exchanged k kp ke a) kept d)
+    one-alike s a kp Zero = refl
+    one-alike s a kp (Number d l x) = more false _ _ _ _ _ (kept-one kb ke k (p .diagonals .blocks) m n (exchanged k kp ke a) kept d)
 
-    two-alike : (s a : Mat) (q kp : ℕ) (d : SettledTwo) → Alike s (afterTwo ke a m k q kp d) (afterTwo ke a n k q kp d)
+    two-alike : (s a : Mat) (q kp : ℕ) (d : TwoSettled) → Alike s (afterTwo ke a m k q kp d) (afterTwo ke a n k q kp d)
     unfolding noted lastOf
-    two-alike s a q kp (twoRefused z) = refl
-    two-alike s a q kp (twoIs b l x z) = more true _ _ _ _ _ (kept-two kb ke k (p .diagonals .blocks) m n (exchanged (k + 1) kp ke a) kept b)
+    two-alike s a q kp Low = refl
+    two-alike s a q kp OutOfRounds = refl
+    two-alike s a q kp (Numbers b l x z) = more true _ _ _ _ _ (kept-two kb ke k (p .diagonals .blocks) m n (exchanged (k + 1) kp ke a) kept b)
 
     by-alike : (a : Mat) (mode : Mode) (limit : ℕ) (c : Choice) → Alike a (tryBy ke a m mode limit k c) (tryBy ke a n mode limit k c)
-    by-alike a Fail limit zeroColumn = refl
-    by-alike a (Lift floor) limit zeroColumn = one-alike a a k (settledOne (Lift floor) (a k k))
-    by-alike a Fail limit (single kp) = one-alike a a kp (settledOne Fail (a kp kp))
-    by-alike a (Lift floor) limit (single kp) = one-alike a a kp (settledOne (Lift floor) (a kp kp))
-    by-alike a Fail limit (block q kp) = two-alike a (exchanged k q ke a) q kp (settledTwo Fail limit _)
-    by-alike a (Lift floor) limit (block q kp) = two-alike a (exchanged k q ke a) q kp (settledTwo (Lift floor) limit _)
+    by-alike a Fail limit choice.ZeroColumn = refl
+    by-alike a (Lift floor) limit choice.ZeroColumn = one-alike a a k (settledOne (Lift floor) (a k k))
+    by-alike a Fail limit (choice.Single kp) = one-alike a a (kp .0) (settledOne Fail (a (kp .0) (kp .0)))
+    by-alike a (Lift floor) limit (choice.Single kp) = one-alike a a (kp .0) (settledOne (Lift floor) (a (kp .0) (kp .0)))
+    by-alike a Fail limit (choice.Block q kp) = two-alike a (exchanged k (q .0) ke a) (q .0) (kp .0) (settledTwo Fail limit _)
+    by-alike a (Lift floor) limit (choice.Block q kp) = two-alike a (exchanged k (q .0) ke a) (q .0) (kp .0) (settledTwo (Lift floor) limit _)
 
   panel-any : (mode : Mode) (limit l k : ℕ) (a m n : Mat) (p : Pivots) (r : ℕ) → ke - k ≤ l → Kept kb ke k (p .diagonals .blocks) m n
       → onward nrow ncol kb ke (panelOf ke mode limit l k (at a m p r)) ≡ onward nrow ncol kb ke (panelOf ke mode limit l k (at a n p r))

@@ -23,7 +23,7 @@ module _ (mode : Mode) (limit nrow ncol nb : ℕ) (some : 1 ≤ nb) where
   runFrom kb s = wholePanelsOf mode limit nrow ncol nb (ncol - kb) kb s
 
   continued-same : (g : Progress) (e f : State → WholeRun) → ((t : State) → e t ≡ f t) → wholeContinued g e ≡ wholeContinued g f
-  continued-same (stopped n p) e f h = refl
+  continued-same (stopped r) e f h = refl
   continued-same (going k s) e f h = h s
 
   -- more panels than are left change nothing
@@ -45,7 +45,7 @@ module _ (mode : Mode) (limit nrow ncol nb : ℕ) (some : 1 ≤ nb) where
 
   turned : (kb ke : ℕ) (g : Progress) (f : State → WholeRun)
       → wholeContinued g (λ u. f (wholePassed nrow ncol (wholeClosed nrow kb ke u) u)) ≡ wholeContinued (onward nrow ncol kb ke g) f
-  turned kb ke (stopped n p) f = refl
+  turned kb ke (stopped r) f = refl
   turned kb ke (going k s) f = refl
 
   -- a turn taken off the front
@@ -130,10 +130,8 @@ end-leaves k n rounds blocks partners w h l =
     let e : k ≡ n = omega arith in
     subst (λ (m : ℕ). NotedTo m (m + 1) rounds blocks partners) e w
 
-pub stopped-leaves : (kb ke ncol : ℕ) (r : Ran) (x : Refusal) (blocks partners : ℕ → ℕ) → RanTo kb ke r blocks partners → r ≡ Stopped x
-    → RunLeaves ncol r blocks partners
-stopped-leaves kb ke ncol r x blocks partners w e =
-    subst (λ (y : Ran). RunLeaves ncol y blocks partners) (sym e) (subst (λ (y : Ran). RanTo kb ke y blocks partners) e w)
+pub stopped-leaves : (ncol : ℕ) (r : Ran) (x : Refusal) (blocks partners : ℕ → ℕ) → r ≡ Stopped x → RunLeaves ncol r blocks partners
+stopped-leaves ncol r x blocks partners e = rw e tt
 
 pub begun : (ncol nb kb ke : ℕ) → 1 ≤ nb → kb < ncol → ke ≡ min (kb + nb) ncol → kb + 1 ≤ ke
 begun ncol nb kb ke some h e = omega arith

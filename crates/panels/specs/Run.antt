@@ -6,20 +6,19 @@ use Rattle.model.specs.Head.{State}
 use Rattle.model.specs.Factor.{workLength}
 use Rattle.model.specs.declared.Frame.{Frame}
 use Rattle.model.specs.declared.Settings.{Settings}
-use Rattle.whole.specs.Whole.{WholeRun, stoppedAt, ended}
-use Rattle.bunch_kaufman.specs.Answers.{numberOf, placeOf, ColumnOnly}
+use Rattle.whole.specs.Whole.{WholeRun, stoppedBy, ended}
 use Rattle.bunch_kaufman.specs.Terms.{LimitPre, NotedTo}
 use Rattle.bunch_kaufman.specs.declared.Ran.{Ran}
 use Rattle.bunch_kaufman.specs.declared.Ran.the-variants.{Stopped, Done}
 
 -- the state that the run leaves, by its rounds
 abbrev pub runOf : Ran → (ℕ → State) → WholeRun
-runOf (Stopped r) s = stoppedAt (numberOf r) (placeOf r)
+runOf (Stopped r) s = stoppedBy r
 runOf (Done rounds) s = ended (s rounds)
 
--- what the run leaves beside it: a refusal names a column alone; else the columns are noted to the end
+-- what the run leaves beside it: where it did not stop, the columns are noted to the end
 abbrev pub RunLeaves : ℕ → Ran → (ℕ → ℕ) → (ℕ → ℕ) → Type 0
-RunLeaves ncol (Stopped r) blocks partners = ColumnOnly r
+RunLeaves ncol (Stopped r) blocks partners = Unit {0}
 RunLeaves ncol (Done rounds) blocks partners = NotedTo ncol (ncol + 1) rounds blocks partners
 
 -- shape, width and limit past the entry checks; the width is the one that is used

@@ -14,7 +14,7 @@ between nrow panel p rounds = record { a = view nrow panel; mult = blank; pivots
 
 -- a panel whose steps were taken goes on to the rows below it and the later columns
 abbrev pub onward : ℕ → ℕ → ℕ → ℕ → Progress → Progress
-onward nrow ncol kb ke (stopped n p) = stopped n p
+onward nrow ncol kb ke (stopped r) = stopped r
 onward nrow ncol kb ke (going k s) = going ke (wholePassed nrow ncol (wholeClosed nrow kb ke s) s)
 
 unfoldable pub turnOf : Mode → ℕ → ℕ → ℕ → ℕ → ℕ → State → Progress

@@ -13,7 +13,7 @@ use lib.Seq.{length-take-le, take-all, getD-take}
 use Rattle.model.specs.declared.Settings.{Settings}
 use Rattle.model.proofs.Cases.{test, no, and-left, and-right}
 use Rattle.little_endian.specs.LittleEndian.{le16, le32, le64}
-use Rattle.record.specs.Record.{recordAt, settingsOf, firstSound, sizesSound, secondSound, panelLength, streamCheck, askedOf, longest}
+use Rattle.record.specs.Record.{recordAt, settingsOf, firstSound, sizesSound, secondSound, panelLength, askedOf, longest}
 use Rattle.record.specs.declared.Asked.{Asked}
 use Rattle.record.specs.declared.Asked.the-variants.{Factor, Refused}
 
@@ -47,7 +47,7 @@ numbers-few c d e x = sizes c (sym e ∙ not-false d x) .numbers
 
 module _ (s : List ℕ) (b : Bool) (first : b ≡ firstSound s) where
   pub first-refuses : not b ≡ true → Refused 20 ≡ askedOf s
-  unfolding askedOf streamCheck
+  unfolding askedOf
   first-refuses x = rw (← first, x)
 
   module _ (x : not b ≡ false) where
@@ -57,16 +57,16 @@ module _ (s : List ℕ) (b : Bool) (first : b ≡ firstSound s) where
 
     module _ (c : Settings) (read : c ≡ settingsOf s) (d : Bool) (small : d ≡ sizesSound c) where
       pub sizes-refuse : not d ≡ true → Refused 21 ≡ askedOf s
-      unfolding askedOf streamCheck
+      unfolding askedOf
       sizes-refuse y = rw (← first, x, ← read, ← small, y)
 
       module _ (y : not d ≡ false) (e : Bool) (second : e ≡ secondSound s (panelLength c)) where
         pub second-refuses : not e ≡ true → Refused 22 ≡ askedOf s
-        unfolding askedOf streamCheck
+        unfolding askedOf
         second-refuses z = rw (← first, x, ← read, ← small, y, ← second, z)
 
         pub none-refuses : not e ≡ false → Factor c ≡ askedOf s
-        unfolding askedOf streamCheck
+        unfolding askedOf
         none-refuses z = rw (← first, x, ← read, ← small, y, ← second, z)
 
 -- ---- a stream that asks for a factor
@@ -149,7 +149,7 @@ second-long s c h l =
     rw (lt-leb (length s) (30 + 8 * panelLength c) (omega arith)) (no (recordAt s 24 (2 + 8 * panelLength c) 2))
 
 asked-take : (n : ℕ) (s : List ℕ) → longest < n → n ≤ length s → askedOf s ≡ askedOf (take n s)
-unfolding askedOf streamCheck
+unfolding askedOf
 asked-take n s more l =
     let c = settingsOf s in
     let long : longest < length (take n s) = rw (length-take-le n s l) more in

@@ -6,7 +6,6 @@ use Prim.Native.Nat.{ℕ, _+_, _*_, _≤_, _<_, _^_}
 use lib.Dec.{leb, eqb}
 use lib.ListN.{length}
 use lib.Ieee.{Float, binary64, ofBits}
-use Rattle.model.specs.Answer.{Check, sound, stop, orElse, refuseIf}
 use Rattle.model.specs.declared.Mode.{Mode}
 use Rattle.model.specs.declared.Mode.the-variants.{Fail, Lift}
 use Rattle.model.specs.declared.Settings.{Settings}
@@ -56,20 +55,12 @@ sizesSound c = leb (c .ncol) 16 && (leb (c .nrow) 64 && leb (c .nb) 16)
 unfoldable pub secondSound : List ℕ → ℕ → Bool
 secondSound s n = recordAt s 24 (2 + 8 * n) 2 && leb (length s) (30 + 8 * n)
 
--- the checks in their order
-unfoldable pub streamCheck : List ℕ → Check
-streamCheck s =
-    orElse (refuseIf (not (firstSound s)) 20)
-    (orElse (refuseIf (not (sizesSound (settingsOf s))) 21) (refuseIf (not (secondSound s (panelLength (settingsOf s)))) 22))
-
--- a refusal by its number, its place 0, 0; or the settings to factor with
-abbrev pub answered : Check → Settings → Asked
-answered sound c = Factor c
-answered (stop n a b) c = Refused n
-
--- what a stream asks
+-- what a stream asks: the first refusal that is met, by its number, its place 0, 0; or the settings to factor with
 unfoldable pub askedOf : List ℕ → Asked
-askedOf s = answered (streamCheck s) (settingsOf s)
+askedOf s =
+    let c = settingsOf s in
+    cond (not (firstSound s)) (Refused 20)
+    (cond (not (sizesSound c)) (Refused 21) (cond (not (secondSound s (panelLength c))) (Refused 22) (Factor c)))
 
 -- the bytes of the longest stream that asks for a factor: 64 rows of 16 columns
 abbrev pub longest : ℕ

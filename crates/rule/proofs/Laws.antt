@@ -9,10 +9,13 @@ use lib.Ieee.Fits.{div-fits, round-fits}
 use Rattle.model.specs.Scalar.{_⊕_, _⊖_, zeroF, magnitudeOf, liftOf, growthEps}
 use Rattle.model.specs.Root.{alpha}
 use Rattle.model.specs.Step.{blockOf}
-use Rattle.model.specs.Head.{oneRefused, oneIs, settledOne, SettledTwo, twoRefused, twoIs, raisedFrom, growthFloorOf, barOf, liftStepOf, settledTwo}
+use Rattle.model.specs.Head.{settledOne, raisedFrom, growthFloorOf, barOf, liftStepOf, settledTwo}
 use Rattle.model.specs.declared.Mode.{Mode}
 use Rattle.model.specs.declared.Mode.the-variants.{Fail, Lift}
 use Rattle.model.specs.declared.Block.{Block}
+use Rattle.model.specs.declared.OneSettled.the-variants.{Zero, Number}
+use Rattle.model.specs.declared.TwoSettled.{TwoSettled}
+use Rattle.model.specs.declared.TwoSettled.the-variants.{Low, OutOfRounds, Numbers}
 use Rattle.model.proofs.Nearest.{alpha-bits, growthEps-bits}
 
 -- ---- the constants, by the bits that their rounded steps have
@@ -27,20 +30,20 @@ growth-is = ap (ofBits binary64) (sym growthEps-bits) ∙ ofBits-toBits binary64
 
 -- ---- the ways through a 1x1's tests
 
-pub one-zero : (mode : Mode) (d : Float) → mode ≡ Fail → eq d zeroF ≡ true → oneRefused 7 ≡ settledOne mode d
+pub one-zero : (mode : Mode) (d : Float) → mode ≡ Fail → eq d zeroF ≡ true → Zero ≡ settledOne mode d
 unfolding settledOne
 one-zero mode d e t = rw (e, t)
 
-pub one-nonzero : (mode : Mode) (d : Float) → mode ≡ Fail → eq d zeroF ≡ false → oneIs d 0 zeroF ≡ settledOne mode d
+pub one-nonzero : (mode : Mode) (d : Float) → mode ≡ Fail → eq d zeroF ≡ false → Number d 0 zeroF ≡ settledOne mode d
 unfolding settledOne
 one-nonzero mode d e t = rw (e, t)
 
 module _ (mode : Mode) (floor d m : Float) (e : mode ≡ Lift floor) (em : m ≡ magnitudeOf d) where
-  pub one-lifted : (new : Float) → new ≡ liftOf floor d → lt m floor ≡ true → oneIs new 1 (new ⊖ d) ≡ settledOne mode d
+  pub one-lifted : (new : Float) → new ≡ liftOf floor d → lt m floor ≡ true → Number new 1 (new ⊖ d) ≡ settledOne mode d
   unfolding settledOne
   one-lifted new en t = rw (e, ← em, ← en, t)
 
-  pub one-kept : lt m floor ≡ false → oneIs d 0 zeroF ≡ settledOne mode d
+  pub one-kept : lt m floor ≡ false → Number d 0 zeroF ≡ settledOne mode d
   unfolding settledOne
   one-kept t = rw (e, ← em, t)
 
@@ -67,31 +70,31 @@ module _ (b : Block) (bar step : Float) (limit : ℕ) where
     unfolding raisedFrom
     raised-step t = rw (one-left done h, seen true t) at i
 
-    pub raised-enough : lt m bar ≡ false → twoIs block 1 sum (done + 1) ≡ raisedFrom b bar step limit 1 step
+    pub raised-enough : lt m bar ≡ false → Numbers block 1 sum (done + 1) ≡ raisedFrom b bar step limit 1 step
     unfolding raisedFrom
-    raised-enough t = ap (λ (x : Block). twoIs x 1 sum (done + 1)) eb ∙ (rw (one-left done h, seen false t) at i)
+    raised-enough t = ap (λ (x : Block). Numbers x 1 sum (done + 1)) eb ∙ (rw (one-left done h, seen false t) at i)
 
-  pub raised-out : (done : ℕ) (sum : Float) → Left done sum → limit ≤ done → twoRefused 8 ≡ raisedFrom b bar step limit 1 step
+  pub raised-out : (done : ℕ) (sum : Float) → Left done sum → limit ≤ done → OutOfRounds ≡ raisedFrom b bar step limit 1 step
   unfolding raisedFrom
   raised-out done sum i h = let z : limit - done ≡ zero = omega arith in rw z at i
 
 -- ---- the ways through a block's tests
 
 module _ (mode : Mode) (limit : ℕ) (b : Block) (m : Float) (em : m ≡ magnitudeOf (b .det)) where
-  pub two-low : (g : Float) → mode ≡ Fail → g ≡ growthFloorOf b → le m g ≡ true → twoRefused 7 ≡ settledTwo mode limit b
+  pub two-low : (g : Float) → mode ≡ Fail → g ≡ growthFloorOf b → le m g ≡ true → Low ≡ settledTwo mode limit b
   unfolding settledTwo
   two-low g e eg t = rw (e, ← em, ← eg, t)
 
-  pub two-high : (g : Float) → mode ≡ Fail → g ≡ growthFloorOf b → le m g ≡ false → twoIs b 0 zeroF 0 ≡ settledTwo mode limit b
+  pub two-high : (g : Float) → mode ≡ Fail → g ≡ growthFloorOf b → le m g ≡ false → Numbers b 0 zeroF 0 ≡ settledTwo mode limit b
   unfolding settledTwo
   two-high g e eg t = rw (e, ← em, ← eg, t)
 
   module _ (floor bar : Float) (e : mode ≡ Lift floor) (eb : bar ≡ barOf floor b) where
-    pub two-raised : (step : Float) (s : SettledTwo) → step ≡ liftStepOf floor b → s ≡ raisedFrom b bar step limit 1 step → lt m bar ≡ true
+    pub two-raised : (step : Float) (s : TwoSettled) → step ≡ liftStepOf floor b → s ≡ raisedFrom b bar step limit 1 step → lt m bar ≡ true
         → s ≡ settledTwo mode limit b
     unfolding settledTwo
     two-raised step s es er t = er ∙ rw (e, ← em, ← eb, ← es, t)
 
-    pub two-kept : lt m bar ≡ false → twoIs b 0 zeroF 0 ≡ settledTwo mode limit b
+    pub two-kept : lt m bar ≡ false → Numbers b 0 zeroF 0 ≡ settledTwo mode limit b
     unfolding settledTwo
     two-kept t = rw (e, ← em, ← eb, t)

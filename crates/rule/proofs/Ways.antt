@@ -7,18 +7,18 @@ use lib.Ieee.{Float, nan, inf, fin, up, down, mul, lt, le, eq, ofBits}
 use Rattle.model.specs.Scalar.{_⊗_, _⊘_, zeroF, magnitudeOf, squareOf, maximumOf}
 use Rattle.model.specs.Root.{sqrtOf, alpha}
 use Rattle.model.specs.Matrix.{Row, Mat}
-use Rattle.model.specs.Choice as model
 use Rattle.model.specs.Choice.{noneYet, columnGreatest, rowGreatest, chooseOf}
+use Rattle.model.specs.declared.LocalRow.{LocalRow}
+use Rattle.model.specs.declared.Greatest.{Greatest}
+use Rattle.model.specs.declared.Choice.{Choice}
+use Rattle.model.specs.declared.Choice.the-variants.{ZeroColumn, Single, Block}
 use Rattle.model.proofs.Bounds.{Chosen, choose-in}
 use Rattle.grid.specs.Grid.{In}
 use Rattle.grid.proofs.Laws.{in-panel, col-in}
-use Rattle.scan.specs.Greatest.{found, Within, SquareOf, ColumnPre, AcrossPre}
+use Rattle.scan.specs.Greatest.{Within, SquareOf, ColumnPre, AcrossPre}
 use Rattle.scan.proofs.Squares.{greatest-keeps}
-use Rattle.scan.specs.declared.Greatest.{Greatest}
-use Rattle.rule.specs.Answers.{chosenIs, byRow, ChosenWithin}
+use Rattle.rule.specs.Chosen.{byRow, ChosenWithin}
 use Rattle.rule.specs.Reach.{Reaches, ReachPre}
-use Rattle.rule.specs.declared.Choice.{Choice}
-use Rattle.rule.specs.declared.Choice.the-variants.{ZeroColumn, Single, Block}
 use Rattle.rule.proofs.Units.{ahead-unsigned, ahead-round}
 
 -- a diagonal of the panel is there to read
@@ -42,14 +42,17 @@ across-in n ncol k ke len r i p h l = record {
 pub square-read : (s x y : Float) → SquareOf s y → x ≡ y → SquareOf s x
 square-read s x y h e = subst (λ (z : Float). SquareOf s z) (sym e) h
 
--- a choice stands within the panel, a block's row below k
-pub chosen : (a : Mat) (k ke : ℕ) (c : Choice) → k < ke → chosenIs k c ≡ chooseOf a k ke → (chosenIs k c ≡ chooseOf a k ke) × ChosenWithin k ke c
-chosen a k ke c h e = (e, go c (subst (λ (x : model.Choice). Chosen k ke x) (sym e) (choose-in a k ke h)))
+-- a choice stands within the panel, a block's second row below k
+pub chosen : (a : Mat) (k ke : ℕ) (c : Choice) → k < ke → c ≡ chooseOf a k ke → (c ≡ chooseOf a k ke) × ChosenWithin k ke c
+chosen a k ke c h e = (e, go c (subst (λ (x : Choice). Chosen k ke x) (sym e) (choose-in a k ke h)))
   where
-    go : (c : Choice) → Chosen k ke (chosenIs k c) → ChosenWithin k ke c
+    go : (c : Choice) → Chosen k ke c → ChosenWithin k ke c
     go ZeroColumn w = tt
-    go (Single row) w = record { low = w .0; high = w .1 }
-    go (Block row) w = record { low = omega (arith, w .0); high = w .1 }
+    go (Single kp) w = record { low = w .0; high = w .1 }
+    go (Block p kp) w = (record { low = w .2; high = w .3 }, record { low = omega (arith, w .0); high = w .1 })
+
+abbrev here : ℕ → Choice
+here k = Single (record { 0 = k })
 
 -- ---- the first test without the root: neither the diagonal's magnitude nor the greatest square has a sign
 
@@ -71,18 +74,18 @@ magnitude-unsigned nan = refl
 magnitude-unsigned (inf s) = refl
 magnitude-unsigned (fin s m e) = refl
 
-pub unsigned-both : (a : Mat) (k ke : ℕ) (x own : Float) (g : Greatest) → own ≡ magnitudeOf x → found g ≡ columnGreatest a k ke → ReachPre own (g .square)
+pub unsigned-both : (a : Mat) (k ke : ℕ) (x own : Float) (g : Greatest) → own ≡ magnitudeOf x → g ≡ columnGreatest a k ke → ReachPre own (g .square)
 unfolding columnGreatest
 unsigned-both a k ke x own g eo eg = record {
   diagonal = subst (λ (y : Float). magnitudeOf y ≡ y) (sym eo) (magnitude-unsigned x);
   column =
-      subst (λ (c : model.Greatest). magnitudeOf (c .square) ≡ c .square) (sym eg)
+      subst (λ (c : Greatest). magnitudeOf (c .square) ≡ c .square) (sym eg)
       (greatest-keeps (λ c. magnitudeOf (c .square) ≡ c .square) (λ i. a i k) (ke - (k + 1)) (k + 1) (noneYet k) zero-unsigned
       (λ i l u. square-unsigned (a i k)));
 }
 
-pub way-reached : (a : Mat) (k ke : ℕ) (x own : Float) (g : Greatest) → x ≡ a k k → own ≡ magnitudeOf x → found g ≡ columnGreatest a k ke
-    → Reaches own (g .square) → model.single k ≡ chooseOf a k ke
+pub way-reached : (a : Mat) (k ke : ℕ) (x own : Float) (g : Greatest) → x ≡ a k k → own ≡ magnitudeOf x → g ≡ columnGreatest a k ke
+    → Reaches own (g .square) → here k ≡ chooseOf a k ke
 unfolding chooseOf
 way-reached a k ke x own g ex eo eg r = rw (← eg, ← ex, ← eo, r .nonzero, r .taken)
 
@@ -90,37 +93,37 @@ way-reached a k ke x own g ex eo eg r = rw (← eg, ← ex, ← eo, r .nonzero, 
 
 -- x is the diagonal as read and own its magnitude, g the greatest square of the column and colmax its root, t the greater of own and colmax
 module _ (a : Mat) (k ke : ℕ) (x own colmax t : Float) (g : Greatest) (ex : x ≡ a k k) (eo : own ≡ magnitudeOf x)
-    (eg : found g ≡ columnGreatest a k ke) (ec : colmax ≡ sqrtOf (g .square)) (et : t ≡ maximumOf own colmax) where
-  pub way-zero : eq t zeroF ≡ true → model.zeroColumn ≡ chooseOf a k ke
+    (eg : g ≡ columnGreatest a k ke) (ec : colmax ≡ sqrtOf (g .square)) (et : t ≡ maximumOf own colmax) where
+  pub way-zero : eq t zeroF ≡ true → ZeroColumn ≡ chooseOf a k ke
   unfolding chooseOf
   way-zero h = rw (← eg, ← ex, ← eo, ← ec, ← et, h)
 
   module _ (bar : Float) (eb : bar ≡ alpha ⊗ colmax) (h : eq t zeroF ≡ false) where
-    pub way-own : le bar own ≡ true → model.single k ≡ chooseOf a k ke
+    pub way-own : le bar own ≡ true → here k ≡ chooseOf a k ke
     unfolding chooseOf
     way-own p = rw (← eg, ← ex, ← eo, ← ec, ← et, ← eb, h, p)
 
     -- c is what the tests of row g .at choose
-    pub way-rest : (c : model.Choice) → le bar own ≡ false → c ≡ byRow a k ke own colmax (g .at .0) → c ≡ chooseOf a k ke
+    pub way-rest : (c : Choice) → le bar own ≡ false → c ≡ byRow a k ke own colmax (g .at) → c ≡ chooseOf a k ke
     unfolding chooseOf byRow
     way-rest c p e = e ∙ rw (← eg, ← ex, ← eo, ← ec, ← et, ← eb, h, p)
 
 -- ---- the tests of row imax
 
 -- r is the greatest square of row and column imax, rowmax its root
-module _ (a : Mat) (k ke : ℕ) (own colmax bar rowmax : Float) (imax : ℕ) (r : Greatest) (eb : bar ≡ alpha ⊗ colmax)
-    (er : found r ≡ rowGreatest a k ke imax) (ew : rowmax ≡ sqrtOf (r .square)) where
-  pub way-row : le (bar ⊗ (colmax ⊘ rowmax)) own ≡ true → model.single k ≡ byRow a k ke own colmax imax
+module _ (a : Mat) (k ke : ℕ) (own colmax bar rowmax : Float) (imax : LocalRow) (r : Greatest) (eb : bar ≡ alpha ⊗ colmax)
+    (er : r ≡ rowGreatest a k ke (imax .0)) (ew : rowmax ≡ sqrtOf (r .square)) where
+  pub way-row : le (bar ⊗ (colmax ⊘ rowmax)) own ≡ true → here k ≡ byRow a k ke own colmax imax
   unfolding byRow
   way-row q = rw (← er, ← ew, ← eb, q)
 
   -- y is the other diagonal and other its magnitude
-  module _ (y other reach : Float) (ey : y ≡ a imax imax) (eu : other ≡ magnitudeOf y) (ef : reach ≡ alpha ⊗ rowmax)
+  module _ (y other reach : Float) (ey : y ≡ a (imax .0) (imax .0)) (eu : other ≡ magnitudeOf y) (ef : reach ≡ alpha ⊗ rowmax)
       (q : le (bar ⊗ (colmax ⊘ rowmax)) own ≡ false) where
-    pub way-other : le reach other ≡ true → model.single imax ≡ byRow a k ke own colmax imax
+    pub way-other : le reach other ≡ true → Single imax ≡ byRow a k ke own colmax imax
     unfolding byRow
     way-other w = rw (← er, ← ew, ← eb, ← ey, ← eu, ← ef, q, w)
 
-    pub way-block : le reach other ≡ false → model.block k imax ≡ byRow a k ke own colmax imax
+    pub way-block : le reach other ≡ false → Block (record { 0 = k }) imax ≡ byRow a k ke own colmax imax
     unfolding byRow
     way-block w = rw (← er, ← ew, ← eb, ← ey, ← eu, ← ef, q, w)

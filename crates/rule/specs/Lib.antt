@@ -1,3 +1,3 @@
--- The declared answers of the pivot rule as the definitions have them, and what its first test asks.
-pub mod Answers
+-- What the pivot rule chooses, and what its first test asks.
+pub mod Chosen
 pub mod Reach

@@ -9,42 +9,18 @@ ghost use Rattle.model.specs.Matrix.{view};
 ghost use Rattle.model.specs.Choice.{chooseOf};
 ghost use Rattle.model.specs.Head.{settledOne, settledTwo, raisedFrom, scaleOf, growthFloorOf, barOf, liftStepOf};
 ghost use Rattle.scan.specs.Greatest.{ColumnPre, Within, SquareOf};
-ghost use Rattle.rule.specs.Answers.{chosenIs, byRow, ChosenWithin, settledOneIs, settledTwoIs};
+ghost use Rattle.rule.specs.Chosen.{byRow, ChosenWithin};
 ghost use Rattle.rule.specs.Reach.{Reaches, ReachPre};
 use model::Block;
+use model::Choice;
 use model::Elim;
 use model::LocalRow;
 use model::Mode;
+use model::OneSettled;
+use model::TwoSettled;
 
 // Bunch and Kaufman's rule: a name for its two constants and its tests.
 pub struct PivotRule;
-
-// What is chosen at k: nothing, since the column test finds zero; a 1x1 with the row that is exchanged with k; a block
-// with the row that is exchanged with k + 1.
-pub enum Choice {
-    ZeroColumn,
-    Single(LocalRow),
-    Block(LocalRow),
-}
-
-// A 1x1 pivot: zero in Fail, or its number with its lift byte and the lift's amount.
-pub enum OneSettled {
-    ZeroPivot,
-    Number { d: f64, lifted: u8, amount: f64 },
-}
-
-// A block: at or below its growth floor in Fail, or in need of more rounds than the limit, or its numbers with the lift
-// byte, the lift's amount and the rounds used.
-pub enum TwoSettled {
-    ZeroPivot,
-    Rounds,
-    Numbers {
-        block: Block,
-        lifted: u8,
-        amount: f64,
-        rounds: usize,
-    },
-}
 
 // The greatest magnitude of a block's numbers.
 pub fn scale(b: Block) -> f64
@@ -112,8 +88,7 @@ impl PivotRule {
     ) -> Choice
         requires { ⌜ ColumnPre nrow ncol (k .0) ke (length (now panel)) ⌝ }
         requires { ⌜ Within (k .0) ke (imax .0) ⌝ }
-        ensures { λ r. ⌜ chosenIs (k .0) r
-            ≡ byRow (view nrow (now (panel .entry))) (k .0) ke own colmax (imax .0) ⌝ }
+        ensures { λ r. ⌜ r ≡ byRow (view nrow (now (panel .entry))) (k .0) ke own colmax imax ⌝ }
     {
         let row = scan::row_greatest(panel, nrow, ncol, k, ke, imax);
         let rowmax = PivotRule::root_of(row.square, scan::across(panel, nrow, imax, row.at));
@@ -125,7 +100,7 @@ impl PivotRule {
         {
             Choice::Single(imax)
         } else {
-            Choice::Block(imax)
+            Choice::Block(LocalRow(k.0), imax)
         }
     }
 
@@ -133,7 +108,7 @@ impl PivotRule {
     // origin: src/numeric/ldlt/bunch_kaufman.rs, fn ll_bk_panel_step
     pub fn choose(panel: &[f64], nrow: usize, ncol: usize, k: Elim, ke: usize) -> Choice
         requires { ⌜ ColumnPre nrow ncol (k .0) ke (length (now panel)) ⌝ }
-        ensures { λ r. ⌜ chosenIs (k .0) r ≡ chooseOf (view nrow (now (panel .entry))) (k .0) ke ⌝ }
+        ensures { λ r. ⌜ r ≡ chooseOf (view nrow (now (panel .entry))) (k .0) ke ⌝ }
         ensures { λ r. ⌜ ChosenWithin (k .0) ke r ⌝ }
     {
         let own = scalar::magnitude(grid::get(panel, nrow, k.0, k.0));
@@ -176,7 +151,7 @@ impl PivotRule {
     // A block whose diagonals are raised, a step a round, until its determinant is not below the bar. The Rust has no
     // limit on the rounds.
     fn raised(b: Block, bar: f64, step: f64, limit: usize) -> TwoSettled
-        ensures { λ r. ⌜ settledTwoIs r ≡ raisedFrom b bar step limit 1 step ⌝ }
+        ensures { λ r. ⌜ r ≡ raisedFrom b bar step limit 1 step ⌝ }
     {
         let mut sum = step;
         let mut done = 0;
@@ -194,18 +169,18 @@ impl PivotRule {
                 };
             }
         }
-        TwoSettled::Rounds
+        TwoSettled::OutOfRounds
     }
 
     // The number of a 1x1 pivot d, lifted only where it is strictly below the floor.
     // origin: src/numeric/ldlt/bunch_kaufman.rs, fn ll_bk_panel_step
     pub fn settle_one(mode: Mode, d: f64) -> OneSettled
-        ensures { λ r. ⌜ settledOneIs r ≡ settledOne mode d ⌝ }
+        ensures { λ r. ⌜ r ≡ settledOne mode d ⌝ }
     {
         match mode {
             Mode::Fail => {
                 if d == 0.0 {
-                    return OneSettled::ZeroPivot;
+                    return OneSettled::Zero;
                 }
             }
             Mode::Lift(floor) => {
@@ -229,13 +204,13 @@ impl PivotRule {
     // The numbers of a block b, lifted in Lift where its determinant is below the bar.
     // origin: src/numeric/ldlt/bunch_kaufman.rs, fn ll_bk_panel_step
     pub fn settle_two(mode: Mode, limit: usize, b: Block) -> TwoSettled
-        ensures { λ r. ⌜ settledTwoIs r ≡ settledTwo mode limit b ⌝ }
+        ensures { λ r. ⌜ r ≡ settledTwo mode limit b ⌝ }
     {
         let size = scalar::magnitude(b.det);
         match mode {
             Mode::Fail => {
                 if size <= PivotRule::growth_floor(b) {
-                    return TwoSettled::ZeroPivot;
+                    return TwoSettled::Low;
                 }
             }
             Mode::Lift(floor) => {

@@ -12,8 +12,11 @@ use lib.ListN.{getD}
 use lib.Ieee.{Float, nan}
 use Rattle.model.specs.Scalar.{zeroF, isFinite}
 use Rattle.model.specs.Matrix.{Row, Mat, view, vec}
-use Rattle.model.specs.Answer.{Check, sound, stop, orElse}
+use Rattle.model.specs.Answer.{orElse}
 use Rattle.model.specs.Factor.{everyFrom, columnCheck, columnsCheck, markOf}
+use Rattle.model.specs.declared.Refusal.the-variants.{Input}
+use Rattle.model.specs.declared.Check.{Check}
+use Rattle.model.specs.declared.Check.the-variants.{Sound, Refused}
 use Rattle.grid.proofs.Laws.{test, view-at, col-in}
 use Rattle.grid.proofs.Parts.{column-at}
 use Rattle.scan.specs.Greatest.{DownPre}
@@ -86,7 +89,7 @@ known-column a b n c j lo hi w e g l h =
 -- ---- the scan of the panel
 
 -- a column that is finite has nothing to stop at
-column-sound : (a : Mat) (j n i : ℕ) → everyFrom (λ k. isFinite (a k j)) n i ≡ true → columnCheck a j n i ≡ sound
+column-sound : (a : Mat) (j n i : ℕ) → everyFrom (λ k. isFinite (a k j)) n i ≡ true → columnCheck a j n i ≡ Sound
 unfolding everyFrom columnCheck
 column-sound a j zero i e = refl
 column-sound a j (suc n) i e =
@@ -109,13 +112,13 @@ unfolding firstRow
 first-high a n c j r h l e = rw e (test (columnFinite a j j n) (λ p. rw p (omega arith)) (λ p. rw p (omega arith)))
 
 -- columns that are finite have nothing to stop at
-columns-sound : (a : Mat) (n k j : ℕ) → everyFrom (λ i. columnFinite a i i n) k j ≡ true → columnsCheck a n k j ≡ sound
+columns-sound : (a : Mat) (n k j : ℕ) → everyFrom (λ i. columnFinite a i i n) k j ≡ true → columnsCheck a n k j ≡ Sound
 unfolding everyFrom columnsCheck columnFinite
 columns-sound a n zero j e = refl
 columns-sound a n (suc k) j e =
     rw (column-sound a j (n - j) j (and-l (columnFinite a j j n) _ e)) (columns-sound a n k (j + 1) (and-r (columnFinite a j j n) _ e))
 
-pub panel-sound : (a : Mat) (n c : ℕ) (b : Bool) → b ≡ sumFinite a n c → b ≡ true → sound ≡ columnsCheck a n c 0
+pub panel-sound : (a : Mat) (n c : ℕ) (b : Bool) → b ≡ sumFinite a n c → b ≡ true → Sound ≡ columnsCheck a n c 0
 unfolding lowerFinite
 panel-sound a n c b e t = sym (columns-sound a n c 0 (sum-known a n c b e .all t))
 
@@ -133,7 +136,7 @@ module _ (xs : List Float) (n c j i : ℕ) (b : Bool) (C : Check) (h : i < n) (e
   unfolding columnCheck
   row-step f = let t : isFinite (view n xs i j) ≡ true = sym at ∙ not-false b f in p ∙ rw (left n i h, t)
 
-  pub row-stop : not b ≡ true → stop 6 j i ≡ C
+  pub row-stop : not b ≡ true → Refused (Input (record { 0 = j }) (record { 0 = i })) ≡ C
   unfolding columnCheck
   row-stop f = let t : isFinite (view n xs i j) ≡ false = sym at ∙ not-true b f in sym (p ∙ rw (left n i h, t))
 
@@ -151,6 +154,6 @@ row-end a n c j i C h p = p ∙ rw (none n i h)
 pub column-none : (a : Mat) (n c : ℕ) → columnsCheck a n c 0 ≡ columnsCheck a n (c - 0) 0
 column-none a n c = ap (λ (k : ℕ). columnsCheck a n k 0) (omega arith)
 
-pub column-end : (a : Mat) (n c j : ℕ) (C : Check) → c ≤ j → C ≡ columnsCheck a n (c - j) j → sound ≡ C
+pub column-end : (a : Mat) (n c j : ℕ) (C : Check) → c ≤ j → C ≡ columnsCheck a n (c - j) j → Sound ≡ C
 unfolding columnsCheck
 column-end a n c j C h p = sym (p ∙ rw (none c j h))

@@ -8,7 +8,8 @@ use lib.ListN.{getD}
 use lib.Ieee.{Float, nan, lt}
 use Rattle.model.specs.Scalar.{squareOf}
 use Rattle.model.specs.Matrix.{Row, Mat, view}
-use Rattle.model.specs.Choice.{Greatest, greatest, noneYet, columnGreatest, rowGreatest}
+use Rattle.model.specs.Choice.{greatest, noneYet, columnGreatest, rowGreatest}
+use Rattle.model.specs.declared.Greatest.{Greatest}
 use borrow.Author.Tests.{lt-ltb, le-ltb}
 use Rattle.grid.specs.Grid.{In}
 use Rattle.grid.proofs.Laws.{test, view-at, col-in, in-col}
@@ -46,12 +47,12 @@ along-end a row hi i g G h p = sym (greatest-end (a row) hi i g h) ∙ p
 
 -- ---- what every square that is looked at keeps, the greatest keeps
 
-better-keeps : (P : Greatest → Type 0) (g : Greatest) (s : Float) (i : ℕ) → P g → P (record { square = s; at = i }) → P (better g s i)
+better-keeps : (P : Greatest → Type 0) (g : Greatest) (s : Float) (i : ℕ) → P g → P (record { square = s; at = record { 0 = i } }) → P (better g s i)
 unfolding better
 better-keeps P g s i h l = test (lt (g .square) s) (λ p. rw p l) (λ p. rw p h)
 
 pub greatest-keeps : (P : Greatest → Type 0) (f : Row) (n lo : ℕ) (g : Greatest) → P g
-    → ((i : ℕ) → lo ≤ i → i < lo + n → P (record { square = squareOf (f i); at = i })) → P (greatest f lo n g)
+    → ((i : ℕ) → lo ≤ i → i < lo + n → P (record { square = squareOf (f i); at = record { 0 = i } })) → P (greatest f lo n g)
 unfolding greatest better
 greatest-keeps P f zero lo g h k = h
 greatest-keeps P f (suc n) lo g h k =
@@ -67,11 +68,10 @@ pub column-is : (a : Mat) (k ke : ℕ) (G : Greatest) → G ≡ greatestDown a k
 unfolding greatestDown columnGreatest
 column-is a k ke G e = e
 
-pub column-found : (a : Mat) (k ke : ℕ) (v : Float) (x : ℕ) → k < ke → record { square = v; at = x } ≡ greatestDown a k (k + 1) ke (noneYet k)
-    → FoundIn k ke (record { square = v; at = x }) (a x k)
+pub column-found : (a : Mat) (k ke : ℕ) (G : Greatest) → k < ke → G ≡ greatestDown a k (k + 1) ke (noneYet k) → FoundIn k ke G (a (G .at .0) k)
 unfolding greatestDown
-column-found a k ke v x h e =
-    let P : Greatest → Type 0 = λ g. FoundIn k ke g (a (g .at) k) in
+column-found a k ke G h e =
+    let P : Greatest → Type 0 = λ g. FoundIn k ke g (a (g .at .0) k) in
     subst P (sym e)
     (greatest-keeps P (λ i. a i k) (ke - (k + 1)) (k + 1) (noneYet k) (none-found k ke (a k k) h)
     (λ i l u. record { place = record { low = omega arith; high = omega arith }; of = inr refl }))
@@ -85,10 +85,10 @@ unfolding across
 across-below a r i x h e = e ∙ rw (le-ltb i r h)
 
 pub row-found : (a : Mat) (k ke r : ℕ) (F G : Greatest) → k ≤ r → r < ke → F ≡ greatestAlong a r k r (noneYet k) → G ≡ greatestDown a r (r + 1) ke F
-    → FoundIn k ke G (across a r (G .at))
+    → FoundIn k ke G (across a r (G .at .0))
 unfolding greatestDown greatestAlong
 row-found a k ke r F G h l e p =
-    let P : Greatest → Type 0 = λ g. FoundIn k ke g (across a r (g .at)) in
+    let P : Greatest → Type 0 = λ g. FoundIn k ke g (across a r (g .at .0)) in
     let left : P F =
     subst P (sym e)
     (greatest-keeps P (a r) (r - k) k (noneYet k) (none-found k ke (across a r k) (omega arith))

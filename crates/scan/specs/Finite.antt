@@ -1,5 +1,5 @@
--- Numbers that are finite: one by one, down a column, in the lower positions of a panel, and the scan of a whole panel with its declared answer as refusal 6
--- has it; and the sum of the lower positions, which is finite only where each of them is.
+-- Numbers that are finite: one by one, down a column, in the lower positions of a panel, and the row that the scan of a whole
+-- panel looks at first; and the sum of the lower positions, which is finite only where each of them is.
 -- Definitions only. Assumes nothing.
 use mathlib.Core.Path.{_≡_}
 use mathlib.Core.Bool.{Bool, true, cond}
@@ -9,10 +9,7 @@ use lib.Ieee.{Float}
 use Rattle.model.specs.Scalar.{_⊕_, zeroF, isFinite}
 use Rattle.model.specs.Matrix.{Row, Mat}
 use Rattle.model.specs.Panel.{sumFrom}
-use Rattle.model.specs.Answer.{Check, sound, stop}
 use Rattle.model.specs.Factor.{everyFrom}
-use Rattle.scan.specs.declared.Scan.{Scan}
-use Rattle.scan.specs.declared.Scan.the-variants.{Clean, At}
 
 -- a mark after one number more of its row
 unfoldable pub markedBy : ℕ → Float → ℕ
@@ -61,11 +58,6 @@ lowerFinite a n c = everyFrom (λ j. columnFinite a j j n) c 0
 -- a column of n rows that is finite is passed over
 unfoldable pub firstRow : Mat → ℕ → ℕ → ℕ
 firstRow a n j = cond (columnFinite a j j n) n j
-
--- 'A is the least such column, B its least such row'
-abbrev pub checkOf : Scan → Check
-checkOf Clean = sound
-checkOf (At column row) = stop 6 (column .0) (row .0)
 
 -- where b is true the lower positions of a panel of n rows and c columns are finite; where it is false nothing is said of them
 pub record KnownFinite (b : Bool) (a : Mat) (n c : ℕ) : Type 0 where

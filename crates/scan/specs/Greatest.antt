@@ -1,4 +1,4 @@
--- The declared answer of a scan for the greatest square as the definitions have it, its two parts, and what the scan asks of its callers.
+-- A scan for the greatest square: its two parts, what it finds, and what it asks of its callers.
 -- Definitions only. Assumes nothing.
 use mathlib.Core.Path.{_≡_}
 use mathlib.Core.Logic.{_⊎_}
@@ -8,16 +8,12 @@ use lib.Dec.{ltb}
 use lib.Ieee.{Float, lt}
 use Rattle.model.specs.Scalar.{zeroF, squareOf}
 use Rattle.model.specs.Matrix.{Mat}
-use Rattle.model.specs.Choice.{Greatest, greatest}
-use Rattle.scan.specs.declared.Greatest as declared
-
--- the declared struct is the definitions' record
-abbrev pub found : declared.Greatest → Greatest
-found g = record { square = g .square; at = g .at .0 }
+use Rattle.model.specs.Choice.{greatest}
+use Rattle.model.specs.declared.Greatest.{Greatest}
 
 -- the better of `best` and a square at place i
 unfoldable pub better : Greatest → Float → ℕ → Greatest
-better best square i = cond (lt (best .square) square) (record { square = square; at = i }) best
+better best square i = cond (lt (best .square) square) (record { square = square; at = record { 0 = i } }) best
 
 -- the greatest square of rows lo up to hi of a column, and of columns lo up to hi of a row, beginning with `best`
 unfoldable pub greatestDown : Mat → ℕ → ℕ → ℕ → Greatest → Greatest
@@ -41,7 +37,7 @@ SquareOf square x = (square ≡ zeroF) ⊎ (square ≡ squareOf x)
 
 -- a greatest square was met at a place from lo up to hi, where x stands; or it is 0, since none was above that
 pub record FoundIn (lo hi : ℕ) (g : Greatest) (x : Float) : Type 0 where
-  pub place : Within lo hi (g .at)
+  pub place : Within lo hi (g .at .0)
   pub of : SquareOf (g .square) x
 
 -- rows lo up to hi of a column that is there

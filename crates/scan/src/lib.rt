@@ -9,23 +9,20 @@ ghost use Rattle.model.specs.Matrix.{view, vec};
 ghost use Rattle.model.specs.Panel.{sumFrom};
 ghost use Rattle.model.specs.Choice.{columnGreatest, rowGreatest};
 ghost use Rattle.model.specs.Factor.{columnsCheck};
-ghost use Rattle.scan.specs.Finite.{markedBy, finiteFrom, columnFinite, firstRow, checkOf};
+ghost use Rattle.scan.specs.Finite.{markedBy, finiteFrom, columnFinite, firstRow};
 ghost use Rattle.scan.specs.Finite.{everySecond, longSum, sumOf, columnSum, sumFinite, KnownFinite, PanelPre};
 ghost use Rattle.scan.specs.Marks.{partMarked, marked, tailMarks, ColumnMarksPre, TailColumnPre, MarksPre};
-ghost use Rattle.scan.specs.Greatest.{found, better, greatestDown, greatestAlong, across};
+ghost use Rattle.scan.specs.Greatest.{better, greatestDown, greatestAlong, across};
 ghost use Rattle.scan.specs.Greatest.{DownPre, AlongPre, ColumnPre, RowPre, AcrossPre, FoundIn};
+use model::Check;
 use model::Elim;
+use model::Greatest;
 use model::LocalRow;
-
-// A greatest square and the row where it stood. (A place along a row is, by symmetry, a row too.)
-pub struct Greatest {
-    pub square: f64,
-    pub at: LocalRow,
-}
+use model::Refusal;
 
 // The better of `best` and a number x at a place: the greater square, the first on ties; a not-a-number never wins.
 fn better(best: Greatest, x: f64, at: usize) -> Greatest
-    ensures { λ g. ⌜ found g ≡ better (found best) (squareOf x) at ⌝ }
+    ensures { λ g. ⌜ g ≡ better best (squareOf x) at ⌝ }
 {
     let square = scalar::square(x);
     if square > best.square {
@@ -47,7 +44,7 @@ fn greatest_down(
     best: Greatest,
 ) -> Greatest
     requires { ⌜ DownPre nrow column lo hi (length (now panel)) ⌝ }
-    ensures { λ g. ⌜ found g ≡ greatestDown (view nrow (now (panel .entry))) column lo hi (found best) ⌝ }
+    ensures { λ g. ⌜ g ≡ greatestDown (view nrow (now (panel .entry))) column lo hi best ⌝ }
 {
     let mut g = best;
     for i in lo..hi {
@@ -66,7 +63,7 @@ fn greatest_along(
     best: Greatest,
 ) -> Greatest
     requires { ⌜ AlongPre nrow row lo hi (length (now panel)) ⌝ }
-    ensures { λ g. ⌜ found g ≡ greatestAlong (view nrow (now (panel .entry))) row lo hi (found best) ⌝ }
+    ensures { λ g. ⌜ g ≡ greatestAlong (view nrow (now (panel .entry))) row lo hi best ⌝ }
 {
     let mut g = best;
     for j in lo..hi {
@@ -79,8 +76,8 @@ fn greatest_along(
 // origin: src/numeric/ldlt/bunch_kaufman.rs, fn ll_bk_panel_step
 pub fn column_greatest(panel: &[f64], nrow: usize, ncol: usize, k: Elim, ke: usize) -> Greatest
     requires { ⌜ ColumnPre nrow ncol (k .0) ke (length (now panel)) ⌝ }
-    ensures { λ g. ⌜ found g ≡ columnGreatest (view nrow (now (panel .entry))) (k .0) ke ⌝ }
-    ensures { λ g. ⌜ FoundIn (k .0) ke (found g) (view nrow (now (panel .entry)) (g .at .0) (k .0)) ⌝ }
+    ensures { λ g. ⌜ g ≡ columnGreatest (view nrow (now (panel .entry))) (k .0) ke ⌝ }
+    ensures { λ g. ⌜ FoundIn (k .0) ke g (view nrow (now (panel .entry)) (g .at .0) (k .0)) ⌝ }
 {
     greatest_down(
         panel,
@@ -117,8 +114,8 @@ pub fn row_greatest(
     r: LocalRow,
 ) -> Greatest
     requires { ⌜ RowPre nrow ncol (k .0) ke (r .0) (length (now panel)) ⌝ }
-    ensures { λ g. ⌜ found g ≡ rowGreatest (view nrow (now (panel .entry))) (k .0) ke (r .0) ⌝ }
-    ensures { λ g. ⌜ FoundIn (k .0) ke (found g) (across (view nrow (now (panel .entry))) (r .0) (g .at .0)) ⌝ }
+    ensures { λ g. ⌜ g ≡ rowGreatest (view nrow (now (panel .entry))) (k .0) ke (r .0) ⌝ }
+    ensures { λ g. ⌜ FoundIn (k .0) ke g (across (view nrow (now (panel .entry))) (r .0) (g .at .0)) ⌝ }
 {
     let none = Greatest {
         square: 0.0,
@@ -240,12 +237,6 @@ pub fn column_finite(panel: &[f64], nrow: usize, j: usize, lo: usize, hi: usize)
     all_finite(&panel[start..end], hi - lo)
 }
 
-// What a scan for numbers that are not finite finds: none, or the least column with one and its least row.
-pub enum Scan {
-    Clean,
-    At(Elim, LocalRow),
-}
-
 // The row from which column j is looked at: its diagonal, or past its end where all of it is finite.
 fn first_row(input: &[f64], nrow: usize, j: usize) -> usize
     requires { ⌜ DownPre nrow j j nrow (length (now input)) ⌝ }
@@ -259,9 +250,9 @@ fn first_row(input: &[f64], nrow: usize, j: usize) -> usize
 }
 
 // The first number of the lower panel that is not finite, each column looked at in turn.
-fn first_by_columns(input: &[f64], ncol: usize, nrow: usize) -> Scan
+fn first_by_columns(input: &[f64], ncol: usize, nrow: usize) -> Check
     requires { ⌜ PanelPre nrow ncol (length (now input)) ⌝ }
-    ensures { λ r. ⌜ checkOf r ≡ columnsCheck (view nrow (now (input .entry))) nrow ncol 0 ⌝ }
+    ensures { λ r. ⌜ r ≡ columnsCheck (view nrow (now (input .entry))) nrow ncol 0 ⌝ }
 {
     let mut column = 0;
     let mut row = 0;
@@ -276,19 +267,19 @@ fn first_by_columns(input: &[f64], ncol: usize, nrow: usize) -> Scan
         column += 1;
     }
     if column < ncol {
-        return Scan::At(Elim(column), LocalRow(row));
+        return Check::Refused(Refusal::Input(Elim(column), LocalRow(row)));
     }
-    Scan::Clean
+    Check::Sound
 }
 
 // The first number of the lower panel that is not finite, by column and then by row: refusal 6. One pass over its
 // numbers comes first: where they are known to be finite, there is none.
-pub fn first_not_finite(input: &[f64], ncol: usize, nrow: usize) -> Scan
+pub fn first_not_finite(input: &[f64], ncol: usize, nrow: usize) -> Check
     requires { ⌜ PanelPre nrow ncol (length (now input)) ⌝ }
-    ensures { λ r. ⌜ checkOf r ≡ columnsCheck (view nrow (now (input .entry))) nrow ncol 0 ⌝ }
+    ensures { λ r. ⌜ r ≡ columnsCheck (view nrow (now (input .entry))) nrow ncol 0 ⌝ }
 {
     if known_finite(input, ncol, nrow) {
-        return Scan::Clean;
+        return Check::Sound;
     }
     first_by_columns(input, ncol, nrow)
 }

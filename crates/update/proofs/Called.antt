@@ -13,20 +13,20 @@ use Rattle.model.specs.Sizes.{mostRows}
 use Rattle.model.specs.Matrix.{Mat, view, bytes, columnMajor}
 use Rattle.model.specs.Inertia.{checkBytes}
 use Rattle.model.specs.Assembly.{firstNot, Panelled}
-use Rattle.model.specs.Update.{Target, Descendant, updateSound, rising, beginsAt, placeFrom, absentFrom, descendantSound, updateCheck, updated, updateOf}
-use Rattle.model.specs.Answer.{Check, sound, stop, orElse, refuseIf, appliedSays}
+use Rattle.model.specs.Update.{Target, Descendant, updateSound, rising, beginsAt, placeFrom, absentFrom, descendantSound, numberAt, updateCheck, updated, updateOf}
+use Rattle.model.specs.Answer.{orElse, refuseIf}
 use Rattle.model.specs.declared.Refusal.{Refusal}
+use Rattle.model.specs.declared.Refusal.the-variants.{UpdateLength, TargetRows, DescendantRows, AbsentRow}
+use Rattle.model.specs.declared.Check.{Check}
+use Rattle.model.specs.declared.Check.the-variants.{Sound, Refused}
 use Rattle.model.specs.declared.Applied.{Applied}
 use Rattle.model.specs.declared.Applied.the-variants.{Done}
 use Rattle.model.proofs.Cases.{test, cmp, and-left, and-right}
 use Rattle.model.proofs.Entry.{first-sound, second-sound, not-refused}
 use Rattle.model.proofs.Tabulated.{is-columnMajor}
 use Rattle.scan.proofs.Laws.{every-at}
-use Rattle.entry.specs.Entry.{entrySays}
-use Rattle.entry.specs.declared.Entry as answer
-use Rattle.entry.proofs.Refusals.{check-passes, first-refuses, second-decides}
-use Rattle.assembly.specs.Call.{answerOf, leaves}
-use Rattle.assembly.proofs.Laws.{leaves-done, leaves-refused}
+use Rattle.checks.specs.Answers.{answerOf, leaves}
+use Rattle.checks.proofs.Answers.{first-refuses, second-decides, leaves-done, leaves-refused}
 use Rattle.update.specs.Rows.{risesAt, standsAt, landsOn, landsAt, firstFrom, thereAt, LocatePre, Located}
 use Rattle.update.specs.Call.{listsCheck, columnsCheck, updatedPanel, columnsOf, Sizes, ListsPre, NumbersPre}
 use Rattle.update.specs.Apply.{rowsApplied, ApplyPre}
@@ -39,7 +39,7 @@ use Rattle.update.proofs.Closed.{Inverse, Lands, rows-hit, rows-miss}
 
 module _ (t : Target) (krows : ℕ → ℕ) (len : length (t .rows) ≡ t .nrow) where
   -- past a landing every row is sought
-  absent-landed : (m i : ℕ) → absentFrom t krows m i true ≡ firstNot (thereAt (t .rows) krows) 17 m i
+  absent-landed : (m i : ℕ) → absentFrom t krows m i true ≡ firstNot (thereAt (t .rows) krows) AbsentRow m i
   unfolding absentFrom firstNot thereAt
   absent-landed zero i = refl
   absent-landed (suc m) i =
@@ -61,7 +61,7 @@ module _ (t : Target) (krows : ℕ → ℕ) (len : length (t .rows) ≡ t .nrow)
       rw (e, z) (absent-start m (i + 1)))
 
   pub absent-is : (m start : ℕ) → start ≡ firstFrom (landsAt (t .first) (t .ncol) krows) m 0
-      → absentFrom t krows m 0 false ≡ firstNot (thereAt (t .rows) krows) 17 (m - start) start
+      → absentFrom t krows m 0 false ≡ firstNot (thereAt (t .rows) krows) AbsentRow (m - start) start
   absent-is m start e =
       let z : 0 + m - start ≡ m - start = omega arith in
       absent-start m 0 ∙ rw (← e, z) (absent-landed (m - start) start)
@@ -197,33 +197,33 @@ module _ (t : Target) (k : Descendant) (len : ℕ) (w : ListsPre t k len) where
 -- ---- refusals 17 and 18: f and g are what their scans answer
 
 module _ (t : Target) (k : Descendant) (panel : List Float) (w : ListsPre t k (length panel)) (start : ℕ)
-    (e : start ≡ firstFrom (landsAt (t .first) (t .ncol) (bytes (k .rows))) (length (k .rows)) 0) (f : answer.Entry)
-    (x : entrySays f ≡ firstNot (thereAt (t .rows) (bytes (k .rows))) 17 (length (k .rows) - start) start) where
+    (e : start ≡ firstFrom (landsAt (t .first) (t .ncol) (bytes (k .rows))) (length (k .rows)) 0) (f : Check)
+    (x : f ≡ firstNot (thereAt (t .rows) (bytes (k .rows))) AbsentRow (length (k .rows) - start) start) where
   absent : Check
-  absent = cond (leb 1 (k .nk)) (absentFrom t (bytes (k .rows)) (k .mk) 0 (not true)) sound
+  absent = cond (leb 1 (k .nk)) (absentFrom t (bytes (k .rows)) (k .mk) 0 (not true)) Sound
 
-  absent-says : entrySays f ≡ absent
+  absent-says : f ≡ absent
   unfolding absent
   absent-says =
       let n : length (k .rows) ≡ k .mk = w .sizes .descendant in
       x ∙ sym (rw (le-leb 1 (k .nk) (w .some)) (absent-is t (bytes (k .rows)) (w .sizes .target) (k .mk) start (rw n at e) ∙ rw n))
 
-  pub columns-absent : (r : Refusal) (a : Applied) → f ≡ answer.the-variants.Refused r → appliedSays a ≡ answerOf (entrySays f)
+  pub columns-absent : (r : Refusal) (a : Applied) → f ≡ Refused r → a ≡ answerOf f
       → leaves a panel ≡ columnsOf t k panel
   unfolding columnsOf columnsCheck absent
   columns-absent r a h y = leaves-refused f r (columnsCheck t k) a (updatedPanel t k panel) panel h (first-refuses f r absent _ h absent-says) y
 
-  module _ (g : answer.Entry) (h : f ≡ answer.the-variants.Sound) (z : entrySays g ≡ firstNot (descendantSound k) 18 (k .nk) 0) where
-    columns-says : entrySays g ≡ columnsCheck t k
+  module _ (g : Check) (h : f ≡ Sound) (z : g ≡ firstNot (descendantSound k) numberAt (k .nk) 0) where
+    columns-says : g ≡ columnsCheck t k
     unfolding columnsCheck absent
     columns-says = second-decides f g absent _ h absent-says z
 
-    pub columns-number : (r : Refusal) (a : Applied) → g ≡ answer.the-variants.Refused r → appliedSays a ≡ answerOf (entrySays g)
+    pub columns-number : (r : Refusal) (a : Applied) → g ≡ Refused r → a ≡ answerOf g
         → leaves a panel ≡ columnsOf t k panel
     unfolding columnsOf
     columns-number r a i y = leaves-refused g r (columnsCheck t k) a (updatedPanel t k panel) panel i columns-says y
 
-    pub columns-done : (new : List Float) → g ≡ answer.the-variants.Sound → new ≡ updatedPanel t k panel
+    pub columns-done : (new : List Float) → g ≡ Sound → new ≡ updatedPanel t k panel
         → leaves Done new ≡ columnsOf t k panel
     unfolding columnsOf
     columns-done new i y = ap (leaves Done) y ∙ leaves-done g (columnsCheck t k) (updatedPanel t k panel) panel i columns-says
@@ -231,20 +231,20 @@ module _ (t : Target) (k : Descendant) (panel : List Float) (w : ListsPre t k (l
 -- ---- the call: f is what refusals 13 to 16 answer
 
 four : (a b c d e : Check) → orElse a (orElse b (orElse c (orElse d e))) ≡ orElse (orElse a (orElse b (orElse c d))) e
-four (stop n p q) b c d e = refl
-four sound (stop n p q) c d e = refl
-four sound sound (stop n p q) d e = refl
-four sound sound sound d e = refl
+four (Refused r) b c d e = refl
+four Sound (Refused r) c d e = refl
+four Sound Sound (Refused r) d e = refl
+four Sound Sound Sound d e = refl
 
 check-is : (t : Target) (k : Descendant) (panel : List Float) → updateCheck t k panel ≡ orElse (listsCheck t k panel) (columnsCheck t k)
 unfolding updateCheck listsCheck columnsCheck
 check-is t k panel =
-    four (refuseIf (not (updateSound t k panel)) 13)
-    (refuseIf (not (rising (bytes (t .rows)) (t .nrow) && beginsAt (t .first) (bytes (t .rows)) (t .ncol))) 14)
-    (refuseIf (not (rising (bytes (k .rows)) (k .mk))) 15) (checkBytes (k .blocks)) (columnsCheck t k)
+    four (refuseIf (not (updateSound t k panel)) UpdateLength)
+    (refuseIf (not (rising (bytes (t .rows)) (t .nrow) && beginsAt (t .first) (bytes (t .rows)) (t .ncol))) TargetRows)
+    (refuseIf (not (rising (bytes (k .rows)) (k .mk))) DescendantRows) (checkBytes (k .blocks)) (columnsCheck t k)
 
 -- a descendant with no columns meets neither 17 nor 18, and changes nothing
-none-check : (t : Target) (k : Descendant) → k .nk ≡ 0 → columnsCheck t k ≡ sound
+none-check : (t : Target) (k : Descendant) → k .nk ≡ 0 → columnsCheck t k ≡ Sound
 unfolding columnsCheck firstNot
 none-check t k z = rw z
 
@@ -252,16 +252,16 @@ none-changed : (t : Target) (k : Descendant) (a : Mat) (i j : ℕ) → k .nk ≡
 unfolding updated
 none-changed t k a i j z = rw (lt-leb 1 (k .nk) (omega arith))
 
-module _ (t : Target) (k : Descendant) (panel : List Float) (f : answer.Entry) (x : entrySays f ≡ listsCheck t k panel) where
-  pub update-refuses : (r : Refusal) (a : Applied) → f ≡ answer.the-variants.Refused r → appliedSays a ≡ answerOf (entrySays f)
+module _ (t : Target) (k : Descendant) (panel : List Float) (f : Check) (x : f ≡ listsCheck t k panel) where
+  pub update-refuses : (r : Refusal) (a : Applied) → f ≡ Refused r → a ≡ answerOf f
       → leaves a panel ≡ updateOf t k panel
   unfolding updateOf
   update-refuses r a h y =
       leaves-refused f r (updateCheck t k panel) a _ panel h (first-refuses f r (listsCheck t k panel) (columnsCheck t k) h x ∙ sym (check-is t k panel)) y
 
-  module _ (h : f ≡ answer.the-variants.Sound) where
-    passes : listsCheck t k panel ≡ sound
-    passes = check-passes f (listsCheck t k panel) h x
+  module _ (h : f ≡ Sound) where
+    passes : listsCheck t k panel ≡ Sound
+    passes = sym x ∙ h
 
     check-columns : updateCheck t k panel ≡ columnsCheck t k
     check-columns = check-is t k panel ∙ rw passes
@@ -269,23 +269,23 @@ module _ (t : Target) (k : Descendant) (panel : List Float) (f : answer.Entry) (
     lists-sizes : Sizes t k (length panel)
     unfolding listsCheck
     lists-sizes =
-        let pass : listsCheck t k panel ≡ sound = passes in
-        sizes t k panel (not-refused (updateSound t k panel) 13 (search (first-sound, second-sound)))
+        let pass : listsCheck t k panel ≡ Sound = passes in
+        sizes t k panel (not-refused (updateSound t k panel) UpdateLength (search (first-sound, second-sound)))
 
     pub lists-pre : (k .nk ≡ 0 → ⊥) → ListsPre t k (length panel)
     unfolding listsCheck risesAt standsAt
     lists-pre n =
-        let pass : listsCheck t k panel ≡ sound = passes in
+        let pass : listsCheck t k panel ≡ Sound = passes in
         let s : Sizes t k (length panel) = lists-sizes in
         let rises = rising (bytes (t .rows)) (t .nrow) in
         let begins = beginsAt (t .first) (bytes (t .rows)) (t .ncol) in
-        let both : rises && begins ≡ true = not-refused (rises && begins) 14 (search (first-sound, second-sound)) in
+        let both : rises && begins ≡ true = not-refused (rises && begins) TargetRows (search (first-sound, second-sound)) in
         record {
           some = cmp 0 (k .nk) (λ l. omega arith) (λ z. absurd (n (sym z))) (λ l. omega arith);
           sizes = s;
           target = rw (s .target) (and-left rises begins both);
           columns = and-right rises begins both;
-          descendant = rw (s .descendant) (not-refused (rising (bytes (k .rows)) (k .mk)) 15 (search (first-sound, second-sound)));
+          descendant = rw (s .descendant) (not-refused (rising (bytes (k .rows)) (k .mk)) DescendantRows (search (first-sound, second-sound)));
           check = search (first-sound, second-sound);
         }
 

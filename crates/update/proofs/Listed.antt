@@ -3,7 +3,6 @@ use mathlib.Core.Path.{_≡_, refl, sym, _∙_}
 use mathlib.Core.Bool.{Bool, true, false, not, _&&_, _||_}
 use mathlib.Core.List.{List}
 use Prim.Native.Nat.{ℕ, _+_, _-_, _*_, _≤_}
-use native.Mathlib.Nat.{mul-le-mul-left, mul-le-mul-right, le-trans}
 use native.Mathlib.Omega.{arith}
 use borrow.Author.Tests.{le-leb, lt-leb, leb-true, leb-false, eqb-true, not-true, not-false}
 use lib.Dec.{leb, eqb}
@@ -18,20 +17,18 @@ use Rattle.model.specs.Step.{begins}
 use Rattle.model.specs.Factor.{shapeSound, everyFrom}
 use Rattle.model.specs.Inertia.{checkBytes}
 use Rattle.model.specs.Update.{Target, Descendant, updateSound, rising, beginsAt, descendantSound}
-use Rattle.model.specs.Answer.{stop}
+use Rattle.model.specs.declared.Refusal.the-variants.{UpdateLength, TargetRows, DescendantRows}
+use Rattle.model.specs.declared.Check.{Check}
+use Rattle.model.specs.declared.Check.the-variants.{Refused}
 use Rattle.model.proofs.Cases.{test, and-left, and-right}
 use Rattle.scan.specs.Finite.{columnFinite}
 use Rattle.scan.specs.Greatest.{DownPre}
-use Rattle.entry.specs.Entry.{entrySays}
-use Rattle.entry.specs.declared.Entry as answer
+use Rattle.checks.proofs.Shape.{product}
 use Rattle.grid.proofs.Laws.{col-in}
 use Rattle.update.specs.Rows.{risesAt, standsAt, ColumnsPre}
 use Rattle.update.specs.Call.{listsCheck, Sizes, ColumnPre}
 
 -- ---- the stated lengths fit a machine word, once the descendant's sizes are sound
-
-product : {a b : ℕ} (m n : ℕ) → a ≤ m → b ≤ n → a * b ≤ m * n
-product {a} {b} m n ha hb = le-trans (mul-le-mul-left a hb) (mul-le-mul-right n ha)
 
 module _ (nk mk : ℕ) (s : not (leb nk mostColumns && leb mk mostRows) ≡ false) where
   columns-few : nk ≤ mostColumns
@@ -95,7 +92,7 @@ sizes t k panel h =
 -- ---- refusals 13 to 16 in turn: b, c and d are the answers of the tests of 13, 14 and 15
 
 module _ (t : Target) (k : Descendant) (panel : List Float) (b : Bool) (h : b ≡ updateSound t k panel) where
-  pub lists-lengths : not b ≡ true → stop 13 0 0 ≡ listsCheck t k panel
+  pub lists-lengths : not b ≡ true → Refused UpdateLength ≡ listsCheck t k panel
   unfolding listsCheck
   lists-lengths x = rw (← h, x)
 
@@ -112,7 +109,7 @@ module _ (t : Target) (k : Descendant) (panel : List Float) (b : Bool) (h : b �
       unfolding risesAt standsAt
       target-test = rw (passed .target) at i
 
-      pub lists-target : not c ≡ true → stop 14 0 0 ≡ listsCheck t k panel
+      pub lists-target : not c ≡ true → Refused TargetRows ≡ listsCheck t k panel
       unfolding listsCheck
       lists-target y = rw (← h, x, ← target-test, y)
 
@@ -121,11 +118,11 @@ module _ (t : Target) (k : Descendant) (panel : List Float) (b : Bool) (h : b �
         unfolding risesAt
         descendant-test = rw (passed .descendant) at j
 
-        pub lists-descendant : not d ≡ true → stop 15 0 0 ≡ listsCheck t k panel
+        pub lists-descendant : not d ≡ true → Refused DescendantRows ≡ listsCheck t k panel
         unfolding listsCheck
         lists-descendant z = rw (← h, x, ← target-test, y, ← descendant-test, z)
 
-        pub lists-bytes : (r : answer.Entry) → not d ≡ false → entrySays r ≡ checkBytes (k .blocks) → entrySays r ≡ listsCheck t k panel
+        pub lists-bytes : (r : Check) → not d ≡ false → r ≡ checkBytes (k .blocks) → r ≡ listsCheck t k panel
         unfolding listsCheck
         lists-bytes r z e = rw (← h, x, ← target-test, y, ← descendant-test, z) e
 

@@ -14,9 +14,8 @@ use Rattle.model.specs.Panel.{timesD, sumFrom}
 use Rattle.model.proofs.Cases.{test}
 use Rattle.grid.specs.Grid.{In}
 use Rattle.grid.specs.Rules.{columnOf, zeroed, plusTimes, ColumnPre}
-use Rattle.grid.proofs.Laws.{in-col, col-in, vec-set, withPart-step}
-use Rattle.inertia.proofs.Bytes.{bytes-paired}
-use Rattle.assembly.proofs.Laws.{own-set}
+use Rattle.grid.proofs.Laws.{in-col, col-in, vec-set, withPart-step, own-set}
+use Rattle.checks.proofs.Bytes.{bytes-paired}
 use Rattle.update.specs.Apply.{weighed, sums, lessAt, lessFrom, WeightPre, WeighPre, SumPre, SubtractPre}
 
 -- ---- v at one column: l is the row's number there

@@ -12,10 +12,11 @@ use Rattle.model.specs.Matrix.{bytes}
 use Rattle.model.specs.Factor.{everyFrom}
 use Rattle.model.specs.Assembly.{firstNot}
 use Rattle.model.specs.Update.{placeFrom}
-use Rattle.model.specs.Answer.{sound, stop}
+use Rattle.model.specs.declared.Refusal.the-variants.{AbsentRow}
+use Rattle.model.specs.declared.Check.the-variants.{Sound, Refused}
 use Rattle.model.proofs.Cases.{test, cmp}
 use Rattle.scan.proofs.Laws.{every-at}
-use Rattle.inertia.proofs.First.{first-step, first-bad, first-end}
+use Rattle.checks.proofs.First.{first-step, first-bad, first-end}
 use Rattle.update.specs.Rows.{risesAt, thereAt, LocatePre, Located}
 use Rattle.update.proofs.Scans.{Place, place-within, place-all, place-one}
 
@@ -119,7 +120,7 @@ pub record Locating (rows krows : List ℕ) (start room : ℕ) (places : List �
   pub high : i ≤ length krows
   pub next : from ≤ length rows
   pub size : length places ≡ room
-  pub scan : firstNot (thereAt rows (bytes krows)) 17 (length krows - i) i ≡ firstNot (thereAt rows (bytes krows)) 17 (length krows - start) start
+  pub scan : firstNot (thereAt rows (bytes krows)) AbsentRow (length krows - i) i ≡ firstNot (thereAt rows (bytes krows)) AbsentRow (length krows - start) start
   pub passed : Passed rows krows from i
   pub located : Located rows krows start i places
 
@@ -143,20 +144,20 @@ module _ (rows krows : List ℕ) (start room : ℕ) (places : List ℕ) (w : Loc
       high = omega arith;
       next = omega (arith, inside rows krows start room w from i p h (v .next) (v .passed) e x);
       size = length-set places i p ∙ v .size;
-      scan = first-step (thereAt rows (bytes krows)) 17 (length krows) i true _ h
+      scan = first-step (thereAt rows (bytes krows)) AbsentRow (length krows) i true _ h
           (sym (there rows krows start room w from i p h (v .next) (v .passed) e x)) refl (v .scan);
       passed = passed-step rows krows start room w from i p h (v .next) (v .passed) e x;
       located = located-step rows krows start room w from i p h (v .next) (v .passed) e x places (omega (arith, v .size, w .fits)) (v .located);
     }
 
-    pub locating-bad : p ≡ length rows → stop 17 i 0 ≡ firstNot (thereAt rows (bytes krows)) 17 (length krows - start) start
+    pub locating-bad : p ≡ length rows → Refused (AbsentRow i) ≡ firstNot (thereAt rows (bytes krows)) AbsentRow (length krows - start) start
     locating-bad x =
-        first-bad (thereAt rows (bytes krows)) 17 (length krows) i false _ h
-        (sym (absent rows krows start room w from i p h (v .next) (v .passed) e x)) refl (v .scan)
+        first-bad (thereAt rows (bytes krows)) AbsentRow (length krows) i false _ (AbsentRow i) h
+        (sym (absent rows krows start room w from i p h (v .next) (v .passed) e x)) refl (v .scan) refl
 
   module _ (from i : ℕ) (v : Locating rows krows start room places from i) (h : length krows ≤ i) where
-    pub locating-end : sound ≡ firstNot (thereAt rows (bytes krows)) 17 (length krows - start) start
-    locating-end = first-end (thereAt rows (bytes krows)) 17 (length krows) i _ h (v .scan)
+    pub locating-end : Sound ≡ firstNot (thereAt rows (bytes krows)) AbsentRow (length krows - start) start
+    locating-end = first-end (thereAt rows (bytes krows)) AbsentRow (length krows) i _ h (v .scan)
 
     pub locating-all : Located rows krows start (length krows) places
     locating-all = let e : i ≡ length krows = omega (arith, v .high) in rw e at (v .located)

@@ -14,7 +14,7 @@ use Rattle.model.specs.Step.{diagonalsOf}
 use Rattle.model.specs.Panel.{timesD, sumFrom}
 use Rattle.model.specs.Inertia.{checkBytes}
 use Rattle.model.specs.Update.{Descendant, updateAcc}
-use Rattle.model.specs.Answer.{sound}
+use Rattle.model.specs.declared.Check.the-variants.{Sound}
 use Rattle.grid.specs.Grid.{In}
 use Rattle.update.specs.Rows.{landsOn}
 use Rattle.update.specs.Call.{descendantOf, NumbersPre}
@@ -72,7 +72,7 @@ pub record WeighPre (nk n i : ℕ) (bs : List ℕ) (panel d sub room : ℕ) : Ty
   pub pivots : d ≡ nk
   pub subdiagonal : sub ≡ nk
   pub blocks : length bs ≡ nk
-  pub check : checkBytes bs ≡ sound
+  pub check : checkBytes bs ≡ Sound
   pub fits : nk ≤ room
 
 -- the rows from i on of a panel of n rows and nk columns, with v, and room for acc
@@ -94,7 +94,7 @@ pub record ApplyPre (ncol nrow nk mk : ℕ) (bs places : List ℕ) (lo panel kpa
   pub few : ncol ≤ mostColumns
   pub area : panel ≡ nrow * ncol
   pub numbers : NumbersPre nk mk kpanel d sub (length bs)
-  pub check : checkBytes bs ≡ sound
+  pub check : checkBytes bs ≡ Sound
   pub descendant : rows ≡ mk
   pub room : mk ≤ length places
   pub inside : (r : ℕ) → lo ≤ r → r < mk → bytes places r < nrow

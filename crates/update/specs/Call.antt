@@ -11,8 +11,11 @@ use Rattle.model.specs.Matrix.{view, bytes, columnMajor}
 use Rattle.model.specs.Factor.{everyFrom}
 use Rattle.model.specs.Inertia.{checkBytes}
 use Rattle.model.specs.Assembly.{firstNot, Panelled, panelAfter}
-use Rattle.model.specs.Update.{Target, Descendant, updateSound, rising, beginsAt, absentFrom, descendantSound, updated}
-use Rattle.model.specs.Answer.{Check, sound, orElse, refuseIf}
+use Rattle.model.specs.Update.{Target, Descendant, updateSound, rising, beginsAt, absentFrom, descendantSound, numberAt, updated}
+use Rattle.model.specs.Answer.{orElse, refuseIf}
+use Rattle.model.specs.declared.Refusal.the-variants.{UpdateLength, TargetRows, DescendantRows}
+use Rattle.model.specs.declared.Check.{Check}
+use Rattle.model.specs.declared.Check.the-variants.{Sound}
 use Rattle.update.specs.Rows.{risesAt, standsAt}
 
 abbrev pub targetOf : ℕ → ℕ → ℕ → List ℕ → Target
@@ -24,14 +27,14 @@ descendantOf nk mk panel d sub blocks rows = record { nk = nk; mk = mk; panel = 
 -- refusals 13 to 16
 unfoldable pub listsCheck : Target → Descendant → List Float → Check
 listsCheck t k panel =
-    orElse (refuseIf (not (updateSound t k panel)) 13)
-    (orElse (refuseIf (not (rising (bytes (t .rows)) (t .nrow) && beginsAt (t .first) (bytes (t .rows)) (t .ncol))) 14)
-    (orElse (refuseIf (not (rising (bytes (k .rows)) (k .mk))) 15) (checkBytes (k .blocks))))
+    orElse (refuseIf (not (updateSound t k panel)) UpdateLength)
+    (orElse (refuseIf (not (rising (bytes (t .rows)) (t .nrow) && beginsAt (t .first) (bytes (t .rows)) (t .ncol))) TargetRows)
+    (orElse (refuseIf (not (rising (bytes (k .rows)) (k .mk))) DescendantRows) (checkBytes (k .blocks))))
 
 -- refusals 17 and 18
 unfoldable pub columnsCheck : Target → Descendant → Check
 columnsCheck t k =
-    orElse (cond (leb 1 (k .nk)) (absentFrom t (bytes (k .rows)) (k .mk) 0 (not true)) sound) (firstNot (descendantSound k) 18 (k .nk) 0)
+    orElse (cond (leb 1 (k .nk)) (absentFrom t (bytes (k .rows)) (k .mk) 0 (not true)) Sound) (firstNot (descendantSound k) numberAt (k .nk) 0)
 
 -- the target's panel with the update
 unfoldable pub updatedPanel : Target → Descendant → List Float → List Float
@@ -65,7 +68,7 @@ pub record ListsPre (t : Target) (k : Descendant) (panel : ℕ) : Type 0 where
   pub target : everyFrom (risesAt (bytes (t .rows)) (length (t .rows))) (length (t .rows)) 0 ≡ true
   pub columns : everyFrom (standsAt (t .first) (bytes (t .rows))) (t .ncol) 0 ≡ true
   pub descendant : everyFrom (risesAt (bytes (k .rows)) (length (k .rows))) (length (k .rows)) 0 ≡ true
-  pub check : checkBytes (k .blocks) ≡ sound
+  pub check : checkBytes (k .blocks) ≡ Sound
 
 -- a descendant's sizes, and the lengths of its numbers' lists
 pub record NumbersPre (nk mk panel d sub blocks : ℕ) : Type 0 where

@@ -1,20 +1,20 @@
 // A factored descendant's update of a target node: each of its rows that lands on a column of the target subtracts its
 // part of L·D·Lᵀ from that column, from the landing row on.
-// rows.rt has the way from rows of the system to rows of the panel, checks.rt refusals 13 to 16 and 18, apply.rt the
+// rows.rt has the way from rows of the system to rows of the panel, refusals.rt refusals 13 to 16 and 18, apply.rt the
 // numbers. A reader may rely on `update` answering any arguments: it refuses and writes nothing, or the panel is the
 // definition's.
 ghost use mathlib.Core.Path.{_≡_};
 ghost use lib.ListN.{length};
 ghost use Rattle.model.specs.Update.{updateOf};
-ghost use Rattle.assembly.specs.Call.{leaves};
+ghost use Rattle.checks.specs.Answers.{leaves};
 ghost use Rattle.update.specs.Call.{targetOf, descendantOf, columnsOf, ListsPre};
-use entry::Entry;
 use model::Applied;
+use model::Check;
 use model::GlobalRow;
 use model::ROWS_MAX;
 
 mod apply;
-mod checks;
+mod refusals;
 mod rows;
 
 // The target's columns and rows, and the global row of its first column; the descendant's columns, and rows below them.
@@ -48,12 +48,12 @@ fn update_columns(
     let start = rows::first_landing(s.first, s.ncol, krows);
     let mut places = [0u16; ROWS_MAX];
     let located = rows::locate(rows, krows, start, &mut places);
-    let Entry::Sound = located else {
-        return assembly::answer(located);
+    let Check::Sound = located else {
+        return checks::answer(located);
     };
-    let checked = checks::first_bad_column(s.nk, s.mk, kpanel, kd, ksub, kblocks);
-    let Entry::Sound = checked else {
-        return assembly::answer(checked);
+    let checked = refusals::first_bad_column(s.nk, s.mk, kpanel, kd, ksub, kblocks);
+    let Check::Sound = checked else {
+        return checks::answer(checked);
     };
     apply::update_rows(s, panel, kpanel, kd, ksub, kblocks, krows, &places, start);
     Applied::Done
@@ -90,9 +90,9 @@ pub fn update(
         nk,
         mk,
     };
-    let checked = checks::lists_check(s, rows, &panel[..], kpanel, kd, ksub, kblocks, krows);
-    let Entry::Sound = checked else {
-        return assembly::answer(checked);
+    let checked = refusals::lists_check(s, rows, &panel[..], kpanel, kd, ksub, kblocks, krows);
+    let Check::Sound = checked else {
+        return checks::answer(checked);
     };
     if nk == 0 {
         return Applied::Done;

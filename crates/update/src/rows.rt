@@ -9,11 +9,11 @@ ghost use Rattle.model.specs.Matrix.{bytes};
 ghost use Rattle.model.specs.Factor.{everyFrom};
 ghost use Rattle.model.specs.Assembly.{firstNot};
 ghost use Rattle.model.specs.Update.{placeFrom};
-ghost use Rattle.model.specs.Answer.{sound};
-ghost use Rattle.entry.specs.Entry.{entrySays};
+ghost use Rattle.model.specs.declared.Refusal.the-variants.{AbsentRow};
+ghost use Rattle.model.specs.declared.Check.the-variants.{Sound};
 ghost use Rattle.update.specs.Rows.{risesAt, standsAt, landsOn, landsAt, firstFrom, thereAt};
 ghost use Rattle.update.specs.Rows.{ColumnsPre, LocatePre, Located};
-use entry::Entry;
+use model::Check;
 use model::Elim;
 use model::GlobalRow;
 use model::LocalRow;
@@ -121,11 +121,11 @@ fn local_row(rows: &[u32], from: LocalRow, g: GlobalRow) -> LocalRow
 
 // The place of each of the descendant's rows from `start` on among the target's; or refusal 17, at the first that has
 // none.
-pub fn locate(rows: &[u32], krows: &[u32], start: usize, places: &mut [u16]) -> Entry
+pub fn locate(rows: &[u32], krows: &[u32], start: usize, places: &mut [u16]) -> Check
     requires { ⌜ LocatePre (now rows) (now krows) start (length (now places)) ⌝ }
-    ensures { λ r. ⌜ entrySays r ≡ firstNot (thereAt (now (rows .entry)) (bytes (now (krows .entry)))) 17
+    ensures { λ r. ⌜ r ≡ firstNot (thereAt (now (rows .entry)) (bytes (now (krows .entry)))) AbsentRow
         (length (now (krows .entry)) - start) start ⌝ }
-    ensures { λ r. ⌜ (entrySays r ≡ sound
+    ensures { λ r. ⌜ (r ≡ Sound
         → Located (now (rows .entry)) (now (krows .entry)) start (length (now (krows .entry))) (now (places .exit))) ⌝ }
 {
     let mut from = 0;
@@ -134,11 +134,11 @@ pub fn locate(rows: &[u32], krows: &[u32], start: usize, places: &mut [u16]) -> 
         let place = local_row(rows, LocalRow(from), GlobalRow(krows[i]));
         let p = place.0;
         if p == rows.len() {
-            return Entry::Refused(Refusal::AbsentRow(i));
+            return Check::Refused(Refusal::AbsentRow(i));
         }
         places[i] = p as u16;
         from = p + 1;
         i += 1;
     }
-    Entry::Sound
+    Check::Sound
 }

@@ -10,23 +10,23 @@ use Rattle.model.specs.Head.{State, Progress, stopped, going, panelOf}
 use Rattle.model.specs.Factor.{start}
 use Rattle.model.specs.declared.Mode.{Mode}
 use Rattle.model.proofs.Cases.{test}
-use Rattle.whole.specs.Whole.{wholeClosed, wholePassed, WholeRun, stoppedAt, ended, wholeContinued, wholePanelsOf}
+use Rattle.whole.specs.Whole.{wholeClosed, wholePassed, WholeRun, stoppedBy, ended, wholeContinued, wholePanelsOf}
 use Rattle.whole.proofs.Steps.{Went, Kept, Untouched, PivotsInside, inside-more, start-inside, panel-keeps, panel-inside}
 use Rattle.whole.proofs.Rows.{panel-past}
 use Rattle.whole.proofs.Passed.{wholeNext, whole-row, whole-before, whole-past}
 
 -- of the state at the end of a run
 abbrev pub Ended : (State → Type 0) → WholeRun → Type 0
-Ended P (stoppedAt n p) = Unit {0}
+Ended P (stoppedBy r) = Unit {0}
 Ended P (ended s) = P s
 
 module _ (P Q R : State → Type 0) (f : State → WholeRun) (h : (t : State) → P t → Q t → Ended R (f t)) where
   continued-ended : (r : Progress) → Went P r → Went Q r → Ended R (wholeContinued r f)
-  continued-ended (stopped n p) x y = tt
+  continued-ended (stopped r) x y = tt
   continued-ended (going k t) x y = h t x y
 
 ended-then : (P Q : State → Type 0) → ((t : State) → P t → Q t) → (r : WholeRun) → Ended P r → Ended Q r
-ended-then P Q h (stoppedAt n p) x = tt
+ended-then P Q h (stoppedBy r) x = tt
 ended-then P Q h (ended t) x = h t x
 
 module _ (mode : Mode) (limit nrow ncol nb : ℕ) (hn : ncol ≤ nrow) (hb : 1 ≤ nb) where

@@ -13,10 +13,11 @@ use Rattle.model.specs.Step.{Diagonals}
 use Rattle.model.specs.Panel.{Panel, tailRowOf}
 use Rattle.model.specs.Head.{State, Run, refused, done}
 use Rattle.model.specs.Factor.{start, headRunOf, everyFrom, columnSound, resultCheck, fails, judged, judgedRun, headAnswerOf, factorRowOf, markOf, factorEntry}
-use Rattle.model.specs.Answer.{Check}
 use Rattle.model.specs.declared.Mode.{Mode}
+use Rattle.model.specs.declared.Refusal.{Refusal}
+use Rattle.model.specs.declared.Check.{Check}
 use Rattle.model.proofs.Cases.{test}
-use Rattle.whole.specs.Whole.{stoppedAt, ended, wholePanelsOf, cutState, fell, tailRows, cutRun, finished}
+use Rattle.whole.specs.Whole.{stoppedBy, ended, wholePanelsOf, cutState, fell, tailRows, cutRun, finished}
 use Rattle.whole.proofs.Masked.{within-in, head-at}
 use Rattle.whole.proofs.Rows.{row-at}
 use Rattle.whole.proofs.Run.{head-of, head-run}
@@ -56,13 +57,13 @@ pub record Reached (mode : Mode) (limit nrow ncol nb : ℕ) (a : Mat) (t : State
 
 module _ (mode : Mode) (limit nrow ncol nb : ℕ) (a : Mat) (hn : ncol ≤ nrow) (hb : 1 ≤ nb) where
   -- a run refusal is the head's answer
-  pub run-stopped : (n p : ℕ) → wholePanelsOf mode limit nrow ncol (min nb (max ncol 1)) ncol 0 (start ncol a) ≡ stoppedAt n p
-      → headAnswerOf mode limit ncol nb a ≡ fails n p
+  pub run-stopped : (why : Refusal) → wholePanelsOf mode limit nrow ncol (min nb (max ncol 1)) ncol 0 (start ncol a) ≡ stoppedBy why
+      → headAnswerOf mode limit ncol nb a ≡ fails why
   unfolding headAnswerOf
-  run-stopped n p e = ap (judgedRun ncol) (go (headRunOf mode limit ncol nb a) (sym (ap (cutRun nrow ncol) e) ∙ head-run mode limit nrow ncol nb a hn hb))
+  run-stopped why e = ap (judgedRun ncol) (go (headRunOf mode limit ncol nb a) (sym (ap (cutRun nrow ncol) e) ∙ head-run mode limit nrow ncol nb a hn hb))
     where
-      go : (r : Run) → fell n p ≡ finished nrow ncol a r → r ≡ refused n p
-      go (refused m q) x = cc
+      go : (r : Run) → fell why ≡ finished nrow ncol a r → r ≡ refused why
+      go (refused other) x = cc
       go (done s ps) x = cc
 
   pub run-ended : (t : State) → wholePanelsOf mode limit nrow ncol (min nb (max ncol 1)) ncol 0 (start ncol a) ≡ ended t → Reached mode limit nrow ncol nb a t
@@ -70,7 +71,7 @@ module _ (mode : Mode) (limit nrow ncol nb : ℕ) (a : Mat) (hn : ncol ≤ nrow)
   run-ended t e = go (headRunOf mode limit ncol nb a) refl (sym (ap (cutRun nrow ncol) e) ∙ head-run mode limit nrow ncol nb a hn hb)
     where
       go : (r : Run) → headRunOf mode limit ncol nb a ≡ r → cutRun nrow ncol (ended t) ≡ finished nrow ncol a r → Reached mode limit nrow ncol nb a t
-      go (refused m q) h x = absurd (let z : _≡_ {A = ℕ} 0 1 = cc in omega arith)
+      go (refused other) h x = absurd (let z : _≡_ {A = ℕ} 0 1 = cc in omega arith)
       go (done s ps) h x =
           let tails : tailRows nrow ncol (λ r. r) (t .a) ≡ tailRows nrow ncol (tailRowOf ncol ps) a = cc in
           record {

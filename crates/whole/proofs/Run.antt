@@ -23,9 +23,9 @@ module _ (nrow ncol : ℕ) (a : Mat) (P Q : State → Type 0) (f : State → Who
     (h : (t u : State) → cutState ncol t ≡ cutState ncol u → P t → Q t → cutRun nrow ncol (f t) ≡ finished nrow ncol a (g u)) where
   continued-alike : (r o : Progress) → cutProgress ncol r ≡ cutProgress ncol o → Went P r → Went Q r
       → cutRun nrow ncol (wholeContinued r f) ≡ finished nrow ncol a (continued o g)
-  continued-alike (stopped n p) (stopped m q) e x y = cc
-  continued-alike (stopped n p) (going k u) e x y = cc
-  continued-alike (going k t) (stopped m q) e x y = cc
+  continued-alike (stopped r) (stopped o) e x y = cc
+  continued-alike (stopped r) (going k u) e x y = cc
+  continued-alike (going k t) (stopped o) e x y = cc
   continued-alike (going k t) (going j u) e x y = h t u (cc) x y
 
 -- ---- the tail rows
@@ -57,7 +57,7 @@ module _ (mode : Mode) (limit nrow ncol nb : ℕ) (hn : ncol ≤ nrow) (hb : 1 �
   panel-first : (kb ke : ℕ) (s t : State) (b : Mat) → PivotsInside ke (t .pivots) → ke ≤ ncol → headOf ncol (t .a) ≡ headOf ncol b → Kept ke s t → (r : Run)
       → finished nrow ncol (wholeNext nrow ncol kb ke t .a) r ≡ finished nrow ncol (s .a) (withPanel (closed kb ke (withHead t b)) r)
   unfolding tailRowOf
-  panel-first kb ke s t b w hk e p (refused n q) = refl
+  panel-first kb ke s t b w hk e p (refused why) = refl
   panel-first kb ke s t b w hk e p (done z ps) =
       let q = closed kb ke (withHead t b) in
       ap (λ (m : Mat). stood (cutState ncol z) m)

@@ -8,14 +8,20 @@ use native.Mathlib.Omega.{arith}
 use borrow.Author.Tests.{eqb-true, ltb-true}
 use lib.Dec.{ltb, eqb}
 use Rattle.model.specs.Matrix.{Mat, put, exchanged}
-use Rattle.model.specs.Choice.{Choice, zeroColumn, single, block, chooseOf}
+use Rattle.model.specs.Choice.{chooseOf}
 use Rattle.model.specs.Step.{Pivots, isBlock}
-use Rattle.model.specs.Head.{SettledOne, oneRefused, oneIs, settledOne, SettledTwo, twoRefused, twoIs, settledTwo, afterOne, afterTwo, tryBlock, tryBy, tryOf}
-use Rattle.model.specs.Head.{State, Tried, refusedAt, took, lastOf, byteOf, noted, Progress, stopped, going, after, panelOf}
+use Rattle.model.specs.Head.{settledOne, settledTwo, afterOne, afterTwo, tryBlock, tryBy, tryOf}
+use Rattle.model.specs.Head.{State, Tried, refusedBy, took, lastOf, byteOf, noted, Progress, stopped, going, after, panelOf}
 use Rattle.model.specs.Factor.{start}
 use Rattle.model.specs.declared.Mode.{Mode}
 use Rattle.model.specs.declared.Mode.the-variants.{Fail, Lift}
 use Rattle.model.specs.declared.Pivot.{Pivot}
+use Rattle.model.specs.declared.Choice.{Choice}
+use Rattle.model.specs.declared.Choice.the-variants as choice
+use Rattle.model.specs.declared.OneSettled.{OneSettled}
+use Rattle.model.specs.declared.OneSettled.the-variants.{Zero, Number}
+use Rattle.model.specs.declared.TwoSettled.{TwoSettled}
+use Rattle.model.specs.declared.TwoSettled.the-variants.{Low, OutOfRounds, Numbers}
 use Rattle.model.proofs.Bounds.{GoodPivot, Good, try-good}
 use Rattle.model.proofs.Cases.{test}
 use Rattle.whole.specs.Whole.{cutState, cutTried, cutProgress}
@@ -31,7 +37,7 @@ stepped s k v a m = record { a = a; mult = m; pivots = noted (s .pivots) k (last
 module _ (c : ℕ) (s : State) (k : ℕ) (f : ℕ → State → Progress) (h : (j : ℕ) (u : State) → f j (cutState c u) ≡ cutProgress c (f j u)) where
   after-masked : (t : Tried) → after (cutTried c t) (cutState c s) k f ≡ cutProgress c (after t s k f)
   unfolding cutState
-  after-masked (refusedAt n p) = refl
+  after-masked (refusedBy r) = refl
   after-masked (took v a m) = h (lastOf k (isBlock (v .diagonal)) + 1) (stepped s k v a m)
 
   step-masked : (ke : ℕ) (mode : Mode) (limit : ℕ) → ke ≤ c → k < ke
@@ -55,14 +61,14 @@ panel-masked c ke mode limit (suc n) k s hc =
 
 -- of the state that a panel's steps reach
 abbrev pub Went : (State → Type 0) → Progress → Type 0
-Went P (stopped n p) = Unit {0}
+Went P (stopped r) = Unit {0}
 Went P (going k s) = P s
 
 module _ (ke : ℕ) (mode : Mode) (limit : ℕ) (P : State → Type 0)
     (step : (s : State) (k : ℕ) (v : Pivot) (a m : Mat) → k < ke → tryOf ke (s .a) (s .mult) mode limit k ≡ took v a m → P s → P (stepped s k v a m)) where
   after-went : (s : State) (k : ℕ) (f : ℕ → State → Progress) → ((j : ℕ) (u : State) → P u → Went P (f j u)) → k < ke → P s
       → (t : Tried) → tryOf ke (s .a) (s .mult) mode limit k ≡ t → Went P (after t s k f)
-  after-went s k f h hk p (refusedAt n q) e = tt
+  after-went s k f h hk p (refusedBy r) e = tt
   after-went s k f h hk p (took v a m) e = h (lastOf k (isBlock (v .diagonal)) + 1) (stepped s k v a m) (step s k v a m hk e p)
 
   pub panel-went : (n k : ℕ) (s : State) → P s → Went P (panelOf ke mode limit n k s)
@@ -81,39 +87,42 @@ Untouched ke i j = (i < j) ⊎ (ke ≤ i)
 
 -- of a step on a
 abbrev pub Keeps : ℕ → Mat → Tried → Type 0
-Keeps ke a (refusedAt n p) = Unit {0}
+Keeps ke a (refusedBy r) = Unit {0}
 Keeps ke a (took v b m) = (i j : ℕ) → Untouched ke i j → b i j ≡ a i j
 
 module _ (ke : ℕ) (a m : Mat) where
-  one-keeps : (k kp : ℕ) (s : SettledOne) → k < ke → Keeps ke a (afterOne ke a m k kp s)
-  one-keeps k kp (oneRefused n) hk = tt
-  one-keeps k kp (oneIs d lifted amount) hk = λ i j.
+  one-keeps : (k kp : ℕ) (s : OneSettled) → k < ke → Keeps ke a (afterOne ke a m k kp s)
+  one-keeps k kp Zero hk = tt
+  one-keeps k kp (Number d lifted amount) hk = λ i j.
       ⊎-elim (λ h. headOne-up ke k d (exchanged k kp ke a) i j h ∙ exchanged-up k kp ke a i j h)
       (λ h. headOne-past ke k d (exchanged k kp ke a) i j (omega arith) h ∙ exchanged-past k kp ke a i j h)
 
-  two-keeps : (k p kp : ℕ) (s : SettledTwo) → Keeps ke a (afterTwo ke a m k p kp s)
-  two-keeps k p kp (twoRefused n) = tt
-  two-keeps k p kp (twoIs b lifted amount rounds) = λ i j.
+  two-keeps : (k p kp : ℕ) (s : TwoSettled) → Keeps ke a (afterTwo ke a m k p kp s)
+  two-keeps k p kp Low = tt
+  two-keeps k p kp OutOfRounds = tt
+  two-keeps k p kp (Numbers b lifted amount rounds) = λ i j.
       ⊎-elim (λ h. headTwo-up ke k b (exchanged (k + 1) kp ke a) i j h ∙ exchanged-up (k + 1) kp ke a i j h)
       (λ h. headTwo-past ke k b (exchanged (k + 1) kp ke a) i j h ∙ exchanged-past (k + 1) kp ke a i j h)
 
 -- what keeps a matrix that was exchanged keeps the matrix
 exchange-keeps : (ke k p : ℕ) (a : Mat) (t : Tried) → Keeps ke (exchanged k p ke a) t → Keeps ke a t
-exchange-keeps ke k p a (refusedAt n q) w = tt
+exchange-keeps ke k p a (refusedBy r) w = tt
 exchange-keeps ke k p a (took v b m) w = λ i j u.
     w i j u ∙ ⊎-elim (λ h. exchanged-up k p ke a i j h) (λ h. exchanged-past k p ke a i j h) u
 
 module _ (ke : ℕ) (a m : Mat) where
+  block-keeps : (mode : Mode) (limit k p kp : ℕ) → Keeps ke a (tryBlock ke (exchanged k p ke a) m mode limit k p kp)
+  block-keeps mode limit k p kp =
+      exchange-keeps ke k p a (tryBlock ke (exchanged k p ke a) m mode limit k p kp) (two-keeps ke (exchanged k p ke a) m k p kp
+      (settledTwo mode limit (blockIn (exchanged (k + 1) kp ke (exchanged k p ke a)) k)))
+
   by-keeps : (mode : Mode) (limit k : ℕ) (o : Choice) → k < ke → Keeps ke a (tryBy ke a m mode limit k o)
-  by-keeps Fail limit k zeroColumn hk = tt
-  by-keeps (Lift floor) limit k zeroColumn hk = one-keeps ke a m k k (settledOne (Lift floor) (a k k)) hk
-  by-keeps Fail limit k (single kp) hk = one-keeps ke a m k kp (settledOne Fail (a kp kp)) hk
-  by-keeps (Lift floor) limit k (single kp) hk = one-keeps ke a m k kp (settledOne (Lift floor) (a kp kp)) hk
-  by-keeps Fail limit k (block p kp) hk = exchange-keeps ke k p a (tryBlock ke (exchanged k p ke a) m Fail limit k p kp) (two-keeps ke (exchanged k p ke a) m k p kp
-      (settledTwo Fail limit (blockIn (exchanged (k + 1) kp ke (exchanged k p ke a)) k)))
-  by-keeps (Lift floor) limit k (block p kp) hk =
-      exchange-keeps ke k p a (tryBlock ke (exchanged k p ke a) m (Lift floor) limit k p kp) (two-keeps ke (exchanged k p ke a) m k p kp
-      (settledTwo (Lift floor) limit (blockIn (exchanged (k + 1) kp ke (exchanged k p ke a)) k)))
+  by-keeps Fail limit k choice.ZeroColumn hk = tt
+  by-keeps (Lift floor) limit k choice.ZeroColumn hk = one-keeps ke a m k k (settledOne (Lift floor) (a k k)) hk
+  by-keeps Fail limit k (choice.Single kp) hk = one-keeps ke a m k (kp .0) (settledOne Fail (a (kp .0) (kp .0))) hk
+  by-keeps (Lift floor) limit k (choice.Single kp) hk = one-keeps ke a m k (kp .0) (settledOne (Lift floor) (a (kp .0) (kp .0))) hk
+  by-keeps Fail limit k (choice.Block p kp) hk = block-keeps Fail limit k (p .0) (kp .0)
+  by-keeps (Lift floor) limit k (choice.Block p kp) hk = block-keeps (Lift floor) limit k (p .0) (kp .0)
 
   pub try-keeps : (mode : Mode) (limit k : ℕ) → k < ke → Keeps ke a (tryOf ke a m mode limit k)
   unfolding tryOf

@@ -3,12 +3,19 @@ use Prim.Native.Nat.{ℕ, zero, suc, _+_, _-_, _<_, _≤_}
 use mathlib.Core.Path.{_≡_, refl, _∙_, ap}
 use native.Mathlib.Omega.{arith}
 use Rattle.model.specs.Matrix.{Row, Mat, headOf, exchanged}
-use Rattle.model.specs.Choice.{Greatest, greatest, columnGreatest, rowGreatest, noneYet, Choice, zeroColumn, single, block, chooseOf}
+use Rattle.model.specs.Choice.{greatest, columnGreatest, rowGreatest, noneYet, chooseOf}
 use Rattle.model.specs.Step.{blockOf}
-use Rattle.model.specs.Head.{SettledOne, oneRefused, oneIs, settledOne, SettledTwo, twoRefused, twoIs, settledTwo, afterOne, afterTwo, tryBlock, tryBy, tryOf}
+use Rattle.model.specs.Head.{settledOne, settledTwo, afterOne, afterTwo, tryBlock, tryBy, tryOf}
 use Rattle.model.specs.declared.Mode.{Mode}
 use Rattle.model.specs.declared.Mode.the-variants.{Fail, Lift}
 use Rattle.model.specs.declared.Block.{Block}
+use Rattle.model.specs.declared.Greatest.{Greatest}
+use Rattle.model.specs.declared.Choice.{Choice}
+use Rattle.model.specs.declared.Choice.the-variants as choice
+use Rattle.model.specs.declared.OneSettled.{OneSettled}
+use Rattle.model.specs.declared.OneSettled.the-variants.{Zero, Number}
+use Rattle.model.specs.declared.TwoSettled.{TwoSettled}
+use Rattle.model.specs.declared.TwoSettled.the-variants.{Low, OutOfRounds, Numbers}
 use Rattle.model.proofs.Bounds.{column-in, Chosen, choose-in}
 use Rattle.whole.specs.Whole.{cutTried}
 use Rattle.whole.proofs.Masked.{head-at, exchanged-masked, headOne-masked, headTwo-masked, keptOne-masked, keptTwo-masked}
@@ -37,7 +44,7 @@ module _ (c : ℕ) (a : Mat) (k ke : ℕ) (hk : k < ke) (hc : ke ≤ c) where
   unfolding chooseOf
   choose-masked =
       let b = column-in a k ke hk in
-      let r = columnGreatest a k ke .at in
+      let r = columnGreatest a k ke .at .0 in
       rw (column-masked, row-masked r (b .0) (b .1), head-at c a k k (omega arith) (omega arith), head-at c a r r (omega arith) (omega (arith, b .1)))
 
 -- ---- the step
@@ -47,15 +54,16 @@ abbrev pub blockIn : Mat → ℕ → Block
 blockIn x k = blockOf (x k k) (x (k + 1) k) (x (k + 1) (k + 1))
 
 module _ (c ke : ℕ) (a m : Mat) (hc : ke ≤ c) where
-  one-tried : (k kp : ℕ) (s : SettledOne) → k < ke → kp < ke → afterOne ke (headOf c a) m k kp s ≡ cutTried c (afterOne ke a m k kp s)
-  one-tried k kp (oneRefused n) hk hp = refl
-  one-tried k kp (oneIs d lifted amount) hk hp =
+  one-tried : (k kp : ℕ) (s : OneSettled) → k < ke → kp < ke → afterOne ke (headOf c a) m k kp s ≡ cutTried c (afterOne ke a m k kp s)
+  one-tried k kp Zero hk hp = refl
+  one-tried k kp (Number d lifted amount) hk hp =
       let x = exchanged k kp ke a in
       rw (exchanged-masked c k kp ke a hk hp hc, headOne-masked c ke k d x hk hc, keptOne-masked c ke k x m hc d)
 
-  two-tried : (k p kp : ℕ) (s : SettledTwo) → k + 1 < ke → kp < ke → afterTwo ke (headOf c a) m k p kp s ≡ cutTried c (afterTwo ke a m k p kp s)
-  two-tried k p kp (twoRefused n) hk hp = refl
-  two-tried k p kp (twoIs b lifted amount rounds) hk hp =
+  two-tried : (k p kp : ℕ) (s : TwoSettled) → k + 1 < ke → kp < ke → afterTwo ke (headOf c a) m k p kp s ≡ cutTried c (afterTwo ke a m k p kp s)
+  two-tried k p kp Low hk hp = refl
+  two-tried k p kp OutOfRounds hk hp = refl
+  two-tried k p kp (Numbers b lifted amount rounds) hk hp =
       let x = exchanged (k + 1) kp ke a in
       rw (exchanged-masked c (k + 1) kp ke a hk hp hc, headTwo-masked c ke k b x hc, keptTwo-masked c ke k x m hc b)
 
@@ -81,12 +89,12 @@ module _ (c ke : ℕ) (a m : Mat) (hc : ke ≤ c) where
 
   tried-by : (mode : Mode) (limit k : ℕ) (o : Choice) → k < ke → Chosen k ke o
       → tryBy ke (headOf c a) m mode limit k o ≡ cutTried c (tryBy ke a m mode limit k o)
-  tried-by Fail limit k zeroColumn hk p = refl
-  tried-by (Lift floor) limit k zeroColumn hk p = single-tried c ke a m hc (Lift floor) k k hk hk
-  tried-by Fail limit k (single kp) hk p = single-tried c ke a m hc Fail k kp hk (p .1)
-  tried-by (Lift floor) limit k (single kp) hk p = single-tried c ke a m hc (Lift floor) k kp hk (p .1)
-  tried-by Fail limit k (block q kp) hk p = pair-tried Fail limit k q kp (omega (arith, p .0, p .1)) (p .1) (p .3)
-  tried-by (Lift floor) limit k (block q kp) hk p = pair-tried (Lift floor) limit k q kp (omega (arith, p .0, p .1)) (p .1) (p .3)
+  tried-by Fail limit k choice.ZeroColumn hk p = refl
+  tried-by (Lift floor) limit k choice.ZeroColumn hk p = single-tried c ke a m hc (Lift floor) k k hk hk
+  tried-by Fail limit k (choice.Single kp) hk p = single-tried c ke a m hc Fail k (kp .0) hk (p .1)
+  tried-by (Lift floor) limit k (choice.Single kp) hk p = single-tried c ke a m hc (Lift floor) k (kp .0) hk (p .1)
+  tried-by Fail limit k (choice.Block q kp) hk p = pair-tried Fail limit k (q .0) (kp .0) (omega (arith, p .0, p .1)) (p .1) (p .3)
+  tried-by (Lift floor) limit k (choice.Block q kp) hk p = pair-tried (Lift floor) limit k (q .0) (kp .0) (omega (arith, p .0, p .1)) (p .1) (p .3)
 
   -- the cut goes through a step
   pub try-masked : (mode : Mode) (limit k : ℕ) → k < ke → tryOf ke (headOf c a) m mode limit k ≡ cutTried c (tryOf ke a m mode limit k)

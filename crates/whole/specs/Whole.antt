@@ -7,8 +7,9 @@ use Rattle.model.specs.Scalar.{zeroF}
 use Rattle.model.specs.Matrix.{Row, Mat, headOf, rowOf, within}
 use Rattle.model.specs.Step.{Diagonals, rowAfterSteps}
 use Rattle.model.specs.Panel.{Panel, rowDeferred, tailRowOf}
-use Rattle.model.specs.Head.{State, Tried, refusedAt, took, Progress, stopped, going, panelOf, Run, refused, done, blank}
+use Rattle.model.specs.Head.{State, Tried, refusedBy, took, Progress, stopped, going, panelOf, Run, refused, done, blank}
 use Rattle.model.specs.declared.Mode.{Mode}
+use Rattle.model.specs.declared.Refusal.{Refusal}
 
 -- ---- rows below a panel
 
@@ -40,13 +41,13 @@ wholePassed nrow ncol p s =
 
 -- ---- panels in turn
 
--- a run refusal with its number and place, or the state at the end
+-- a refusal, or the state at the end
 pub data WholeRun : Type 0 where
-  stoppedAt : (number at : ℕ) → WholeRun
+  stoppedBy : Refusal → WholeRun
   ended : State → WholeRun
 
 abbrev pub wholeContinued : Progress → (State → WholeRun) → WholeRun
-wholeContinued (stopped n p) f = stoppedAt n p
+wholeContinued (stopped r) f = stoppedBy r
 wholeContinued (going k s) f = f s
 
 -- at most n panels of width nb from column kb on
@@ -65,16 +66,16 @@ unfoldable pub cutState : ℕ → State → State
 cutState ncol s = record { a = headOf ncol (s .a); mult = s .mult; pivots = s .pivots; rounds = s .rounds }
 
 abbrev pub cutTried : ℕ → Tried → Tried
-cutTried ncol (refusedAt n p) = refusedAt n p
+cutTried ncol (refusedBy r) = refusedBy r
 cutTried ncol (took v a m) = took v (headOf ncol a) m
 
 abbrev pub cutProgress : ℕ → Progress → Progress
-cutProgress ncol (stopped n p) = stopped n p
+cutProgress ncol (stopped r) = stopped r
 cutProgress ncol (going k s) = going k (cutState ncol s)
 
 -- a run's refusal, or the head's state and the tail rows at the end
 pub data Final : Type 0 where
-  fell : (number at : ℕ) → Final
+  fell : Refusal → Final
   stood : State → Mat → Final
 
 -- the tail rows, each cut to ncol columns and put through f; +0.0 elsewhere
@@ -83,10 +84,10 @@ tailRows nrow ncol f a = λ i. cond (within ncol nrow i) (f (rowOf ncol (a i))) 
 
 -- of a run over the whole panel
 abbrev pub cutRun : ℕ → ℕ → WholeRun → Final
-cutRun nrow ncol (stoppedAt n p) = fell n p
+cutRun nrow ncol (stoppedBy r) = fell r
 cutRun nrow ncol (ended s) = stood (cutState ncol s) (tailRows nrow ncol (λ r. r) (s .a))
 
 -- of the model's run, with the tail rows of `a` sent through its panels; the model says nothing of its state past the head
 abbrev pub finished : ℕ → ℕ → Mat → Run → Final
-finished nrow ncol a (refused n p) = fell n p
+finished nrow ncol a (refused r) = fell r
 finished nrow ncol a (done s ps) = stood (cutState ncol s) (tailRows nrow ncol (tailRowOf ncol ps) a)

@@ -2,7 +2,7 @@
 use borrow.Author.Needs.{needs}
 use borrow.Author.Tests.{not-true, not-false}
 use Rattle.model.specs.Assembly.{entriesSound}
-use Rattle.assembly.proofs.Laws.{area-of-shape}
+use Rattle.checks.proofs.Shape.{area-of-shape}
 use Rattle.assembly.proofs.entries_sound.Statement.{statement}
 use Rattle.assembly.proofs.entries_sound.Tie as tie
 

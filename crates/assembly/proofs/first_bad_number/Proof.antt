@@ -6,14 +6,15 @@ use lib.ListN.{length}
 use borrow.Author.Needs.{needs}
 use Rattle.model.specs.Matrix.{vec}
 use Rattle.model.specs.Assembly.{firstNot}
-use Rattle.inertia.proofs.First.{first-none, first-step, first-bad, first-end}
+use Rattle.model.specs.declared.Refusal.the-variants.{AssemblyNumber}
+use Rattle.checks.proofs.First.{first-none, first-step, first-bad, first-end}
 use Rattle.assembly.specs.Call.{finiteAt}
 use Rattle.assembly.proofs.first_bad_number.Statement.{statement}
 use Rattle.assembly.proofs.first_bad_number.Tie as tie
 
 abbrev Inv-loop : tie.InvT-loop
 Inv-loop numbers k₀ k =
-    (k ≤ length numbers) × (firstNot (finiteAt numbers) 12 (length numbers - k) k ≡ firstNot (finiteAt numbers) 12 (length numbers) 0)
+    (k ≤ length numbers) × (firstNot (finiteAt numbers) AssemblyNumber (length numbers - k) k ≡ firstNot (finiteAt numbers) AssemblyNumber (length numbers) 0)
 
 abbrev μ-loop : tie.MeasureT-loop
 μ-loop numbers k₀ k = length numbers - k

@@ -6,14 +6,15 @@ use lib.ListN.{length}
 use borrow.Author.Needs.{needs}
 use Rattle.model.specs.Matrix.{bytes}
 use Rattle.model.specs.Assembly.{firstNot, placeSound}
-use Rattle.inertia.proofs.First.{first-none, first-step, first-bad, first-end}
+use Rattle.model.specs.declared.Refusal.the-variants.{AssemblyPlace}
+use Rattle.checks.proofs.First.{first-none, first-step, first-bad, first-end}
 use Rattle.assembly.proofs.first_bad_place.Statement.{statement}
 use Rattle.assembly.proofs.first_bad_place.Tie as tie
 
 abbrev Inv-loop : tie.InvT-loop
 Inv-loop ncol nrow rows cols k₀ k =
-    (k ≤ length rows) × (firstNot (placeSound ncol nrow (bytes rows) (bytes cols)) 11 (length rows - k) k
-    ≡ firstNot (placeSound ncol nrow (bytes rows) (bytes cols)) 11 (length rows) 0)
+    (k ≤ length rows) × (firstNot (placeSound ncol nrow (bytes rows) (bytes cols)) AssemblyPlace (length rows - k) k
+    ≡ firstNot (placeSound ncol nrow (bytes rows) (bytes cols)) AssemblyPlace (length rows) 0)
 
 abbrev μ-loop : tie.MeasureT-loop
 μ-loop ncol nrow rows cols k₀ k = length rows - k

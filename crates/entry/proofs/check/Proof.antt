@@ -19,9 +19,6 @@ returns c = search check-refused
 first-not-finite-requires : tie.Need-first-not-finite-requires
 first-not-finite-requires c κs = search settings-panel
 
-check-input-requires : tie.Need-check-input-requires
-check-input-requires c κs = search needs
-
 returns-2 : tie.Need-returns-2
 returns-2 c = search check-sound
 
@@ -34,5 +31,4 @@ check-spec =
     enum-told-2
     returns
     first-not-finite-requires
-    check-input-requires
     returns-2)

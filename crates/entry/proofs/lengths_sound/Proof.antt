@@ -1,6 +1,6 @@
 -- `entry::lengths_sound` meets its contract: the expression is the definition, and no stated length overflows. Assumes nothing.
 use borrow.Author.Needs.{needs}
-use Rattle.entry.specs.Entry.{lengthsHold}
+use Rattle.model.specs.Factor.{lengthsSound}
 use Rattle.entry.proofs.Laws.{lengths-fit}
 use Rattle.entry.proofs.lengths_sound.Statement.{statement}
 use Rattle.entry.proofs.lengths_sound.Tie as tie
@@ -27,7 +27,7 @@ add-work-2 : tie.Need-add-work-2
 add-work-2 c = search lengths-fit
 
 returns : tie.Need-returns
-unfolding lengthsHold
+unfolding lengthsSound
 returns c = search needs
 
 pub lengths-sound-spec : {M : Type 1} → statement M

@@ -176,7 +176,7 @@ returns c =
     let told = c .enum-told .given .1 in (
       run-stop (a .c .mode) (a .c .limit) (a .c .nrow) (a .c .ncol) (a .c .nb) (start .pre .0 .some) (l .kb) (p .panel-end .result) (held (looped p)) (left t)
           (left t) (t .turn .result) _ (whole start) (l .inv .10) (p .before .loop-test .taken) (p .panel-end .ensures) (t .turn .ensures .0) told,
-      stopped-leaves (l .kb) (p .panel-end .result) (a .c .ncol) (t .turn .result) _ (blocks-left t) (partners-left t) (t .turn .ensures .1) told,
+      stopped-leaves (a .c .ncol) (t .turn .result) _ (blocks-left t) (partners-left t) told,
     )
 
 loop-less : tie.Need-loop-less Inv-loop μ-loop

@@ -11,7 +11,7 @@ greatest-down-requires : tie.Need-greatest-down-requires
 greatest-down-requires c κs = search column-down
 
 returns : tie.Need-returns
-returns c = (search column-is, column-found _ _ _ _ _ (search needs) (c .greatest-down .ensures))
+returns c = (search column-is, column-found _ _ _ _ (search needs) (c .greatest-down .ensures))
 
 pub column-greatest-spec : {M : Type 1} → statement M
 column-greatest-spec = tie.close (tie.spec add-greatest-down greatest-down-requires returns)

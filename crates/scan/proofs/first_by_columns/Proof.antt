@@ -6,8 +6,9 @@ use mathlib.Core.Logic.{⊎-elim}
 use native.Mathlib.Omega.{arith}
 use borrow.Author.Needs.{needs}
 use Rattle.model.specs.Matrix.{view}
-use Rattle.model.specs.Answer.{stop}
 use Rattle.model.specs.Factor.{columnsCheck}
+use Rattle.model.specs.declared.Refusal.the-variants.{Input}
+use Rattle.model.specs.declared.Check.the-variants.{Refused}
 use Rattle.grid.proofs.Laws.{offsets}
 use Rattle.scan.proofs.Finite.{fromHere, scan-pre, first-low, first-high, row-none, row-step, row-stop, row-end, column-none, column-end}
 use Rattle.scan.proofs.first_by_columns.Statement.{statement}
@@ -73,7 +74,7 @@ columns-again c = (search needs, search row-end)
 returns : tie.Need-returns Inv-loop μ-loop Inv-columns μ-columns
 returns c =
     ⊎-elim (λ w. absurd (let l = w .0 .left in omega arith))
-    (λ w. ap (λ (i : ℕ). stop 6 (c .before .before .columns .column) i) (w .7)
+    (λ w. ap (λ (i : ℕ). Refused (Input (record { 0 = c .before .before .columns .column }) (record { 0 = i }))) (w .7)
     ∙ row-stop _ _ _ _ _ _ _ (w .3 .taken) (w .5 .ensures) (w .2 .inv .2) (w .6 .taken))
     (c .before .columns-test .came)
 

@@ -4,7 +4,7 @@ use Prim.Native.Nat.{_-_, _≤_}
 use mathlib.Core.Path.{_≡_}
 use borrow.Author.Needs.{needs}
 use Rattle.model.specs.Matrix.{view}
-use Rattle.scan.specs.Greatest.{found, greatestAlong}
+use Rattle.scan.specs.Greatest.{greatestAlong}
 use Rattle.scan.proofs.Laws.{row-offsets}
 use Rattle.scan.proofs.Squares.{along-step, along-end}
 use Rattle.scan.proofs.greatest_along.Statement.{statement}
@@ -12,7 +12,7 @@ use Rattle.scan.proofs.greatest_along.Tie as tie
 
 abbrev Inv-loop : tie.InvT-loop
 Inv-loop panel nrow row lo hi g₀ j₀ g j =
-    (lo ≤ j) × (j ≤ hi) × (greatestAlong (view nrow panel) row j hi (found g) ≡ greatestAlong (view nrow panel) row lo hi (found g₀))
+    (lo ≤ j) × (j ≤ hi) × (greatestAlong (view nrow panel) row j hi g ≡ greatestAlong (view nrow panel) row lo hi g₀)
 
 abbrev μ-loop : tie.MeasureT-loop
 μ-loop panel nrow row lo hi g₀ j₀ g j = hi - j

@@ -4,14 +4,14 @@ use Prim.Native.Nat.{_-_, _≤_}
 use mathlib.Core.Path.{_≡_}
 use borrow.Author.Needs.{needs}
 use Rattle.model.specs.Matrix.{view}
-use Rattle.scan.specs.Greatest.{found, greatestDown}
+use Rattle.scan.specs.Greatest.{greatestDown}
 use Rattle.scan.proofs.Squares.{down-step, down-end}
 use Rattle.scan.proofs.greatest_down.Statement.{statement}
 use Rattle.scan.proofs.greatest_down.Tie as tie
 
 abbrev Inv-loop : tie.InvT-loop
 Inv-loop panel nrow column lo hi g₀ i₀ g i =
-    (lo ≤ i) × (i ≤ hi) × (greatestDown (view nrow panel) column i hi (found g) ≡ greatestDown (view nrow panel) column lo hi (found g₀))
+    (lo ≤ i) × (i ≤ hi) × (greatestDown (view nrow panel) column i hi g ≡ greatestDown (view nrow panel) column lo hi g₀)
 
 abbrev μ-loop : tie.MeasureT-loop
 μ-loop panel nrow column lo hi g₀ i₀ g i = hi - i

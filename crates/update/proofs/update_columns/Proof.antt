@@ -1,8 +1,7 @@
 -- `update::update_columns` meets its contract: the scans of refusals 17 and 18 answer, or the rows that were located are applied. Assumes nothing.
-use mathlib.Core.Path.{refl, ap}
+use mathlib.Core.Path.{refl}
 use borrow.Author.Needs.{needs}
 use Rattle.model.specs.Update.{descendantSound}
-use Rattle.entry.specs.Entry.{entrySays}
 use Rattle.update.proofs.Called.{locate-pre, apply-pre, panel-is, columns-absent, columns-number, columns-done}
 use Rattle.update.proofs.update_columns.Statement.{statement}
 use Rattle.update.proofs.update_columns.Tie as tie
@@ -65,7 +64,7 @@ update-rows-requires c κs =
     let told = c .before .before .before .before .before in
     let located = told .before .before .before in
     let landing = located .before .before in
-    apply-pre _ _ _ (entered landing .pre) _ (landing .first-landing .ensures) _ (located .locate .ensures .1 (ap entrySays (told .enum-told .given .1)))
+    apply-pre _ _ _ (entered landing .pre) _ (landing .first-landing .ensures) _ (located .locate .ensures .1 (told .enum-told .given .1))
     (search needs)
 
 same-length : tie.Need-same-length
@@ -80,7 +79,7 @@ returns-3 c =
     let landing = located .before .before in
     columns-done _ _ _ (entered landing .pre) _ (landing .first-landing .ensures) _ (located .locate .ensures .0) _ (told .enum-told .given .1)
     (numbers .first-bad-column .ensures) _ (c .before .before .before .before .before .enum-told3 .given .1)
-    (panel-is _ _ _ (entered landing .pre) _ (landing .first-landing .ensures) _ (located .locate .ensures .1 (ap entrySays (told .enum-told .given .1)))
+    (panel-is _ _ _ (entered landing .pre) _ (landing .first-landing .ensures) _ (located .locate .ensures .1 (told .enum-told .given .1))
     _ _ (search needs) refl (c .before .before .update-rows .ensures))
 
 pub update-columns-spec : {M : Type 1} → statement M

@@ -17,7 +17,7 @@ same-length-2 : tie.Need-same-length-2
 same-length-2 c = search needs
 
 returns : tie.Need-returns
-returns c = (search moved-by, search needs)
+returns c = search moved-by
 
 pub moved-pair-spec : {M : Type 1} → statement M
 moved-pair-spec = tie.close (tie.spec exchange-if-requires pair-requires same-length same-length-2 returns)

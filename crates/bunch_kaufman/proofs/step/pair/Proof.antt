@@ -1,5 +1,4 @@
 -- `bunch_kaufman::step::pair` meets its contract. Assumes nothing.
-use mathlib.Core.Path.{refl}
 use borrow.Author.Needs.{needs}
 use Rattle.bunch_kaufman.proofs.Taking.{two-pre, pair-stop, pair-rounds, pair-took}
 use Rattle.bunch_kaufman.proofs.step.pair.Statement.{statement}
@@ -35,13 +34,13 @@ same-length : tie.Need-same-length
 same-length c = search needs
 
 returns : tie.Need-returns
-returns c = (search pair-stop, refl)
+returns c = search pair-stop
 
 same-length-2 : tie.Need-same-length-2
 same-length-2 c = search needs
 
 returns-2 : tie.Need-returns-2
-returns-2 c = (search pair-rounds, refl)
+returns-2 c = search pair-rounds
 
 same-length-3 : tie.Need-same-length-3
 same-length-3 c = search needs
@@ -54,11 +53,9 @@ returns-3 c =
     let done = c .before .before .before .before in
     let told = done .before .before .before .before in
     let settled = told .before .before in
-    let read = settled .before in (
-      pair-took _ _ _ _ _ _ _ _ _ _ _ _ _ _ _ _ _ (read .before .before .before .before .exchange-if .ensures) (read .block-at .ensures)
-          (settled .settle-two .ensures) (told .settled .given .1) (done .head-two .ensures .0) (done .head-two .ensures .1),
-      tt,
-    )
+    let read = settled .before in
+    pair-took _ _ _ _ _ _ _ _ _ _ _ _ _ _ _ _ _ (read .before .before .before .before .exchange-if .ensures) (read .block-at .ensures)
+    (settled .settle-two .ensures) (told .settled .given .1) (done .head-two .ensures .0) (done .head-two .ensures .1)
 
 pub pair-spec : {M : Type 1} → statement M
 pair-spec =

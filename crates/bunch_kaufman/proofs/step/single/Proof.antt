@@ -1,5 +1,4 @@
 -- `bunch_kaufman::step::single` meets its contract. Assumes nothing.
-use mathlib.Core.Path.{refl}
 use borrow.Author.Needs.{needs}
 use Rattle.bunch_kaufman.proofs.Taking.{row-in, single-stop, single-took}
 use Rattle.bunch_kaufman.proofs.step.single.Statement.{statement}
@@ -21,7 +20,7 @@ same-length : tie.Need-same-length
 same-length c = search needs
 
 returns : tie.Need-returns
-returns c = (search single-stop, refl)
+returns c = search single-stop
 
 exchange-if-requires : tie.Need-exchange-if-requires
 exchange-if-requires c κs = search needs
@@ -40,11 +39,9 @@ returns-2 c =
     let done = c .before .before .before .before in
     let moved = done .before .before .before .before .before in
     let told = moved .before .before .before in
-    let settled = told .before .before in (
-      single-took _ _ _ _ _ _ _ _ _ _ _ _ _ _ (settled .before .get .ensures) (settled .settle-one .ensures) (told .settled .given .1)
-          (moved .exchange-if .ensures) (done .head-one .ensures .0) (done .head-one .ensures .1),
-      tt,
-    )
+    let settled = told .before .before in
+    single-took _ _ _ _ _ _ _ _ _ _ _ _ _ _ (settled .before .get .ensures) (settled .settle-one .ensures) (told .settled .given .1)
+    (moved .exchange-if .ensures) (done .head-one .ensures .0) (done .head-one .ensures .1)
 
 pub single-spec : {M : Type 1} → statement M
 single-spec =

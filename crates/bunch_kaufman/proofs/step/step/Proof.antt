@@ -32,7 +32,7 @@ moved-pair-requires c κs =
     let start : tie.Start = search in
     let chosen : tie.After-choose = search in
     let made : tie.After-by-mode = search in
-    pair-pre _ _ _ _ _ _ _ _ _ _ (start .pre .0) (c .before .before .before .choice2 .given .1)
+    pair-pre _ _ _ _ _ _ _ _ _ _ _ (start .pre .0) (c .before .before .before .choice2 .given .1)
     (within-mode _ (start .args .mode) (start .args .k) (chosen .choose .result) _ (start .pre .0 .last) (chosen .choose .ensures .1) (made .by-mode .ensures))
 
 same-length : tie.Need-same-length
@@ -60,7 +60,7 @@ returns-2 c =
     let told = c .before .before .before .before .before .before .before .before in
     let done : tie.After-single = search in
     step-single _ _ _ _ _ _ _ _ _ _ (start .pre .0 .last) (start .pre .1) (chosen .choose .ensures .0) (made .by-mode .ensures) _ _ (told .choice .given .1)
-    (done .single .ensures .0) (done .single .ensures .1)
+    (done .single .ensures)
 
 same-length-4 : tie.Need-same-length-4
 same-length-4 c = search needs
@@ -75,8 +75,8 @@ returns-3 c =
     let made : tie.After-by-mode = search in
     let told = c .before .before .before .before .before .before .before .before in
     let done : tie.After-moved-pair = search in
-    step-pair _ _ _ _ _ _ _ _ _ _ (start .pre .0 .last) (start .pre .1) (chosen .choose .ensures .0) (made .by-mode .ensures) _ _ (told .choice2 .given .1)
-    (done .moved-pair .ensures .0) (done .moved-pair .ensures .1)
+    step-pair _ _ _ _ _ _ _ _ _ _ (start .pre .0 .last) (start .pre .1) (chosen .choose .ensures .0) (made .by-mode .ensures) _ _ _ (told .choice2 .given .1)
+    (done .moved-pair .ensures)
 
 pub step-spec : {M : Type 1} → statement M
 step-spec =

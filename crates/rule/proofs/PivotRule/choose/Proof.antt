@@ -1,6 +1,6 @@
 -- `rule::PivotRule::choose` meets its contract: each return is one way through the tests. Assumes nothing.
 use borrow.Author.Needs.{needs}
-use Rattle.rule.specs.declared.Choice.the-variants.{ZeroColumn, Single}
+use Rattle.model.specs.declared.Choice.the-variants.{ZeroColumn, Single}
 use Rattle.rule.proofs.Ways.{diagonal-in, below-in, square-read, chosen, unsigned-both, way-reached, way-zero, way-own, way-rest}
 use Rattle.rule.proofs.PivotRule.choose.Statement.{statement}
 use Rattle.rule.proofs.PivotRule.choose.Tie as tie

@@ -1,9 +1,9 @@
--- `update::checks::lists_check` meets its contract: the first of the four checks that refuses is the answer. Assumes nothing.
+-- `update::refusals::lists_check` meets its contract: the first of the four checks that refuses is the answer. Assumes nothing.
 use borrow.Author.Needs.{needs}
 use Rattle.model.specs.Update.{updateSound}
 use Rattle.update.proofs.Listed.{lists-lengths, lists-columns, lists-target, lists-descendant, lists-bytes}
-use Rattle.update.proofs.checks.lists_check.Statement.{statement}
-use Rattle.update.proofs.checks.lists_check.Tie as tie
+use Rattle.update.proofs.refusals.lists_check.Statement.{statement}
+use Rattle.update.proofs.refusals.lists_check.Tie as tie
 
 lengths-sound-requires : tie.Need-lengths-sound-requires
 lengths-sound-requires c κs = search needs

@@ -1,4 +1,4 @@
--- `inertia::first_bad_byte` meets its contract. The invariant: the scan from k on finds what the whole scan finds. The measure is what is left.
+-- `checks::first_bad_byte` meets its contract. The invariant: the scan from k on finds what the whole scan finds. The measure is what is left.
 -- Assumes nothing.
 use mathlib.Core.Path.{_≡_}
 use Prim.Native.Nat.{_-_, _≤_}
@@ -7,14 +7,14 @@ use borrow.Author.Needs.{needs}
 use Rattle.model.specs.Matrix.{bytes}
 use Rattle.model.specs.Assembly.{firstNot}
 use Rattle.model.specs.Inertia.{byteSound, checkBytes}
-use Rattle.inertia.proofs.First.{first-step, first-bad, first-end}
-use Rattle.inertia.proofs.Bytes.{bytes-scan}
-use Rattle.inertia.proofs.first_bad_byte.Statement.{statement}
-use Rattle.inertia.proofs.first_bad_byte.Tie as tie
+use Rattle.checks.proofs.First.{first-step, first-bad, first-end}
+use Rattle.checks.proofs.Bytes.{byteAt, bytes-scan}
+use Rattle.checks.proofs.first_bad_byte.Statement.{statement}
+use Rattle.checks.proofs.first_bad_byte.Tie as tie
 
 abbrev Inv-loop : tie.InvT-loop
 Inv-loop blocks k₀ k =
-    (k ≤ length blocks) × (firstNot (byteSound (bytes blocks) (length blocks)) 16 (length blocks - k) k ≡ checkBytes blocks)
+    (k ≤ length blocks) × (firstNot (byteSound (bytes blocks) (length blocks)) byteAt (length blocks - k) k ≡ checkBytes blocks)
 
 abbrev μ-loop : tie.MeasureT-loop
 μ-loop blocks k₀ k = length blocks - k

@@ -1,9 +1,9 @@
--- `update::checks::lengths_sound` meets its contract: the definition by its tests. Assumes nothing.
+-- `update::refusals::lengths_sound` meets its contract: the definition by its tests. Assumes nothing.
 use borrow.Author.Needs.{needs}
-use Rattle.assembly.proofs.Laws.{area-of-shape}
+use Rattle.checks.proofs.Shape.{area-of-shape}
 use Rattle.update.proofs.Listed.{rows-fit, numbers-fit, lengths-shape, lengths-sizes, lengths-rest}
-use Rattle.update.proofs.checks.lengths_sound.Statement.{statement}
-use Rattle.update.proofs.checks.lengths_sound.Tie as tie
+use Rattle.update.proofs.refusals.lengths_sound.Statement.{statement}
+use Rattle.update.proofs.refusals.lengths_sound.Tie as tie
 
 shape-sound-requires : tie.Need-shape-sound-requires
 shape-sound-requires c κs = search needs

@@ -8,24 +8,29 @@ use borrow.Author.Tests.{eq-eqb, leb-true, eqb-false}
 use lib.Dec.{eqb, leb}
 use lib.ListN.{length}
 use Rattle.model.specs.Matrix.{bytes}
-use Rattle.model.specs.Step.{begins, pastOf}
+use Rattle.model.specs.Step.{begins}
 use Rattle.model.specs.Inertia.{byteSound, bytesFrom, checkBytes}
 use Rattle.model.specs.Assembly.{firstNot}
-use Rattle.model.specs.Answer.{sound}
-use Rattle.model.proofs.Cases.{test, and-left, and-right}
+use Rattle.model.specs.declared.Refusal.{Refusal}
+use Rattle.model.specs.declared.Refusal.the-variants.{BlockByte}
+use Rattle.model.specs.declared.Check.the-variants.{Sound}
+use Rattle.model.proofs.Cases.{and-left, and-right}
 use Rattle.model.specs.Kept.{Paired}
-use Rattle.inertia.proofs.First.{first-none, first-all}
+use Rattle.checks.proofs.First.{first-none, first-all}
 
 -- ---- the scan
 
-bytes-first : (f : ℕ → ℕ) (n m k : ℕ) → bytesFrom f n m k ≡ firstNot (byteSound f n) 16 m k
+abbrev pub byteAt : ℕ → Refusal
+byteAt k = BlockByte (record { 0 = k })
+
+bytes-first : (f : ℕ → ℕ) (n m k : ℕ) → bytesFrom f n m k ≡ firstNot (byteSound f n) byteAt m k
 unfolding bytesFrom firstNot
 bytes-first f n zero k = refl
 bytes-first f n (suc m) k = rw (bytes-first f n m (k + 1))
 
 -- the check of the bytes is a scan like any other
-pub bytes-scan : (xs : List ℕ) → firstNot (byteSound (bytes xs) (length xs)) 16 (length xs - 0) 0 ≡ checkBytes xs
-bytes-scan xs = first-none (byteSound (bytes xs) (length xs)) 16 (length xs) ∙ sym (bytes-first (bytes xs) (length xs) (length xs) 0)
+pub bytes-scan : (xs : List ℕ) → firstNot (byteSound (bytes xs) (length xs)) byteAt (length xs - 0) 0 ≡ checkBytes xs
+bytes-scan xs = first-none (byteSound (bytes xs) (length xs)) byteAt (length xs) ∙ sym (bytes-first (bytes xs) (length xs) (length xs) 0)
 
 -- ---- bytes that meet no refusal
 
@@ -46,7 +51,7 @@ sound-next f n k s e =
     neither false true h = absurd (let w : _≡_ {A = ℕ} 0 1 = cc in omega arith)
     neither true b h = absurd (let w : _≡_ {A = ℕ} 0 1 = cc in omega arith)
 
-all-paired : (f : ℕ → ℕ) (n : ℕ) → bytesFrom f n n 0 ≡ sound → Paired n f
+all-paired : (f : ℕ → ℕ) (n : ℕ) → bytesFrom f n n 0 ≡ Sound → Paired n f
 all-paired f n e = record {
   byte = λ c h. sound-byte f n c (at c h);
   room = next;
@@ -54,16 +59,11 @@ all-paired f n e = record {
 }
   where
     at : (c : ℕ) → c < n → byteSound f n c ≡ true
-    at c h = first-all (byteSound f n) 16 n c (sym (bytes-first f n n 0) ∙ e) h
+    at c h = first-all (byteSound f n) byteAt n c (sym (bytes-first f n n 0) ∙ e) h
 
     next : (c : ℕ) → c < n → f c ≡ 1 → c + 1 < n
     next c h o = omega (arith, eqb-false (c + 1) n (sound-next f n c (at c h) o .0))
 
 -- each is 0 or 1, and a 1 has a 0 after it
-pub bytes-paired : (xs : List ℕ) → checkBytes xs ≡ sound → Paired (length xs) (bytes xs)
+pub bytes-paired : (xs : List ℕ) → checkBytes xs ≡ Sound → Paired (length xs) (bytes xs)
 bytes-paired xs e = all-paired (bytes xs) (length xs) e
-
--- the column after the pivot at k
-pub past-above : (f : ℕ → ℕ) (k : ℕ) → k < pastOf f k
-unfolding pastOf
-past-above f k = test (begins f k) (λ t. rw t (omega arith)) (λ t. rw t (omega arith))

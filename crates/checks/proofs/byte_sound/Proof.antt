@@ -1,10 +1,10 @@
--- `inertia::byte_sound` meets its contract: the definition by its tests. Assumes nothing.
+-- `checks::byte_sound` meets its contract: the definition by its tests. Assumes nothing.
 use borrow.Author.Tests.{eq-eqb, ne-eqb, le-leb, lt-leb}
 use Rattle.model.specs.Matrix.{bytes}
 use Rattle.model.specs.Inertia.{byteSound}
 use borrow.Author.Needs.{needs}
-use Rattle.inertia.proofs.byte_sound.Statement.{statement}
-use Rattle.inertia.proofs.byte_sound.Tie as tie
+use Rattle.checks.proofs.byte_sound.Statement.{statement}
+use Rattle.checks.proofs.byte_sound.Tie as tie
 
 shared-slice-read-if1 : tie.Need-shared-slice-read-if1
 shared-slice-read-if1 c = search needs

@@ -1,8 +1,8 @@
--- `update::checks::target_sound` meets its contract: the first test, then the second. Assumes nothing.
+-- `update::refusals::target_sound` meets its contract: the first test, then the second. Assumes nothing.
 use borrow.Author.Needs.{needs}
 use borrow.Author.Tests.{not-true, not-false}
-use Rattle.update.proofs.checks.target_sound.Statement.{statement}
-use Rattle.update.proofs.checks.target_sound.Tie as tie
+use Rattle.update.proofs.refusals.target_sound.Statement.{statement}
+use Rattle.update.proofs.refusals.target_sound.Tie as tie
 
 rising-requires : tie.Need-rising-requires
 rising-requires c κs = search needs

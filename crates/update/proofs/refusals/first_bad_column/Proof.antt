@@ -1,20 +1,20 @@
--- `update::checks::first_bad_column` meets its contract. The invariant: the scan from c on finds what the whole scan finds. The measure is what is left.
+-- `update::refusals::first_bad_column` meets its contract. The invariant: the scan from c on finds what the whole scan finds. The measure is what is left.
 -- Assumes nothing.
 use mathlib.Core.Path.{_≡_}
 use mathlib.Core.List.{[]}
 use Prim.Native.Nat.{_-_, _≤_}
 use borrow.Author.Needs.{needs}
 use Rattle.model.specs.Assembly.{firstNot}
-use Rattle.model.specs.Update.{descendantSound}
-use Rattle.inertia.proofs.First.{first-none, first-step, first-bad, first-end}
+use Rattle.model.specs.Update.{descendantSound, numberAt}
+use Rattle.checks.proofs.First.{first-none, first-step, first-bad, first-end}
 use Rattle.update.specs.Call.{descendantOf}
-use Rattle.update.proofs.checks.first_bad_column.Statement.{statement}
-use Rattle.update.proofs.checks.first_bad_column.Tie as tie
+use Rattle.update.proofs.refusals.first_bad_column.Statement.{statement}
+use Rattle.update.proofs.refusals.first_bad_column.Tie as tie
 
 abbrev Inv-loop : tie.InvT-loop
 Inv-loop nk mk kpanel kd ksub kblocks c₀ c =
-    (c ≤ nk) × (firstNot (descendantSound (descendantOf nk mk kpanel kd ksub kblocks [])) 18 (nk - c) c
-    ≡ firstNot (descendantSound (descendantOf nk mk kpanel kd ksub kblocks [])) 18 nk 0)
+    (c ≤ nk) × (firstNot (descendantSound (descendantOf nk mk kpanel kd ksub kblocks [])) numberAt (nk - c) c
+    ≡ firstNot (descendantSound (descendantOf nk mk kpanel kd ksub kblocks [])) numberAt nk 0)
 
 abbrev μ-loop : tie.MeasureT-loop
 μ-loop nk mk kpanel kd ksub kblocks c₀ c = nk - c

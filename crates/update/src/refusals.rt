@@ -7,14 +7,13 @@ ghost use lib.ListN.{length};
 ghost use Rattle.model.specs.Matrix.{bytes};
 ghost use Rattle.model.specs.Factor.{everyFrom};
 ghost use Rattle.model.specs.Assembly.{firstNot};
-ghost use Rattle.model.specs.Update.{updateSound, descendantSound};
-ghost use Rattle.entry.specs.Entry.{entrySays};
+ghost use Rattle.model.specs.Update.{updateSound, descendantSound, numberAt};
 ghost use Rattle.update.specs.Rows.{risesAt, standsAt, ColumnsPre};
 ghost use Rattle.update.specs.Call.{targetOf, descendantOf, listsCheck, ColumnPre, NumbersPre};
 use super::Shapes;
 use super::rows;
-use entry::Entry;
 use model::COLUMNS_MAX;
+use model::Check;
 use model::Elim;
 use model::GlobalRow;
 use model::ROWS_MAX;
@@ -36,7 +35,7 @@ fn lengths_sound(
         (descendantOf (s .nk) (s .mk) (now (kpanel .entry)) (now (kd .entry)) (now (ksub .entry))
         (now (kblocks .entry)) (now (krows .entry))) (now (panel .entry)) ⌝ }
 {
-    if !entry::shape_sound(s.ncol, s.nrow) {
+    if !checks::shape_sound(s.ncol, s.nrow) {
         return false;
     }
     let nk = s.nk;
@@ -74,21 +73,21 @@ pub fn lists_check(
     ksub: &[f64],
     kblocks: &[u8],
     krows: &[u32],
-) -> Entry
-    ensures { λ r. ⌜ entrySays r ≡ listsCheck (targetOf (s .ncol) (s .nrow) (s .first .0) (now (rows .entry)))
+) -> Check
+    ensures { λ r. ⌜ r ≡ listsCheck (targetOf (s .ncol) (s .nrow) (s .first .0) (now (rows .entry)))
         (descendantOf (s .nk) (s .mk) (now (kpanel .entry)) (now (kd .entry)) (now (ksub .entry))
         (now (kblocks .entry)) (now (krows .entry))) (now (panel .entry)) ⌝ }
 {
     if !lengths_sound(s, rows, panel, kpanel, kd, ksub, kblocks, krows) {
-        return Entry::Refused(Refusal::UpdateLength);
+        return Check::Refused(Refusal::UpdateLength);
     }
     if !target_sound(s.first, rows, s.ncol) {
-        return Entry::Refused(Refusal::TargetRows);
+        return Check::Refused(Refusal::TargetRows);
     }
     if !rows::rising(krows) {
-        return Entry::Refused(Refusal::DescendantRows);
+        return Check::Refused(Refusal::DescendantRows);
     }
-    inertia::first_bad_byte(kblocks)
+    checks::first_bad_byte(kblocks)
 }
 
 // Refusal 18's test: the column's d, its subdiagonal under a 1, and its numbers below the head are finite.
@@ -126,20 +125,20 @@ pub fn first_bad_column(
     kd: &[f64],
     ksub: &[f64],
     kblocks: &[u8],
-) -> Entry
+) -> Check
     requires { ⌜ NumbersPre nk mk (length (now kpanel)) (length (now kd)) (length (now ksub))
         (length (now kblocks)) ⌝ }
-    ensures { λ r. ⌜ entrySays r ≡ firstNot (descendantSound
+    ensures { λ r. ⌜ r ≡ firstNot (descendantSound
         (descendantOf nk mk (now (kpanel .entry)) (now (kd .entry)) (now (ksub .entry)) (now (kblocks .entry)) []))
-        18 nk 0 ⌝ }
+        numberAt nk 0 ⌝ }
 {
     let mut c = 0;
     while c < nk {
         let column = Elim(c);
         if !column_sound(nk, mk, kpanel, kd, ksub, kblocks, column) {
-            return Entry::Refused(Refusal::DescendantNumber(column));
+            return Check::Refused(Refusal::DescendantNumber(column));
         }
         c += 1;
     }
-    Entry::Sound
+    Check::Sound
 }

@@ -1,9 +1,9 @@
--- `update::checks::column_sound` meets its contract: the definition by its tests. Assumes nothing.
+-- `update::refusals::column_sound` meets its contract: the definition by its tests. Assumes nothing.
 use borrow.Author.Needs.{needs}
 use Rattle.model.specs.Matrix.{vec, bytes}
 use Rattle.update.proofs.Listed.{column-d, column-sub, column-rest, column-down}
-use Rattle.update.proofs.checks.column_sound.Statement.{statement}
-use Rattle.update.proofs.checks.column_sound.Tie as tie
+use Rattle.update.proofs.refusals.column_sound.Statement.{statement}
+use Rattle.update.proofs.refusals.column_sound.Tie as tie
 
 mul-is-finite : tie.Need-mul-is-finite
 mul-is-finite c = search needs

@@ -1,0 +1,2 @@
+-- What a call answers to its checks.
+pub mod Answers
