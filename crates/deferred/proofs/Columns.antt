@@ -20,7 +20,7 @@ use Rattle.grid.proofs.Parts.{column-at, column-lent}
 use Rattle.whole.specs.Whole.{deferredRows}
 use Rattle.deferred.specs.Deferred.{DeferredPre}
 use Rattle.deferred.specs.Products.{columnProduct, withProducts, ProductsPre}
-use Rattle.deferred.specs.Sums.{laterRow, rowsFrom, gathered, columnDeferred, partDeferred, LosePre, PairPre, ColumnsPre, RowsPre}
+use Rattle.deferred.specs.Sums.{laterRow, rowsFrom, gathered, columnDeferred, partDeferred, PairPre, ColumnsPre, RowsPre}
 
 -- ---- the same sum by another rule, from another place on
 
@@ -181,7 +181,8 @@ two-lost A R Q G x y u z c e kb w lo m after next apart p q r s =
     columns-more A R Q G kb w c e (e + 1) lo (lo + m) after (omega arith) (omega arith) first (column-lost A R Q G u z e kb w lo m same q s)
 
 pub pair-pre : (n m kb ke c end e from lo hi xlen ylen glen len : ℕ) → ColumnsPre n m kb ke glen len → RowsPre n lo hi xlen → RowsPre n lo hi ylen → ke ≤ c
-    → c < end → end ≡ min m hi → from ≡ max lo c → e ≡ min (c + 1) (end - 1) → PairPre n c e kb (ke - kb) from (hi - from) xlen ylen glen len
+    → c < end → end ≡ min m hi → from ≡ max lo c → e ≡ min (c + 1) (end - 1)
+    → PairPre (record { nrow = n; c = c; e = e; kb = kb; w = ke - kb; lo = from; n = hi - from }) xlen ylen glen len
 pair-pre n m kb ke c end e from lo hi xlen ylen glen len h r q l g s f t =
     let k : kb + (ke - kb) ≡ ke = omega arith in
     let here : n + c * n ≤ len = col-in n m c len (h .panel) (omega arith) in

@@ -64,18 +64,18 @@ pub record LosePre (n j lo hi len slen : ℕ) : Type 0 where
   pub rows : hi ≤ n
   pub sums : hi ≤ lo + slen
 
--- columns c and e, which is c or the next, after the panel's, and in them m rows from lo on, for each of which there are two sums
-pub record PairPre (n c e kb w lo m xlen ylen glen len : ℕ) : Type 0 where
-  pub after : kb + w ≤ c
-  pub next : (c ≤ e) × (e ≤ c + 1)
-  pub diagonal : (c ≤ lo) × (e < lo + m)
-  pub rows : lo + m ≤ n
-  pub first : m ≤ xlen
-  pub other : m ≤ ylen
-  pub column : n + c * n ≤ len
-  pub second : n + e * n ≤ len
-  pub out : w * n ≤ glen
-  pub columns : (kb + w) * n ≤ len
+-- columns c and e, which is c or the next, after the panel's, and in them the rows from lo on, for each of which there are two sums
+pub record PairPre (at : Terms) (xlen ylen glen len : ℕ) : Type 0 where
+  pub after : at .kb + at .w ≤ at .c
+  pub next : (at .c ≤ at .e) × (at .e ≤ at .c + 1)
+  pub diagonal : (at .c ≤ at .lo) × (at .e < at .lo + at .n)
+  pub rows : at .lo + at .n ≤ at .nrow
+  pub first : at .n ≤ xlen
+  pub other : at .n ≤ ylen
+  pub column : at .nrow + at .c * at .nrow ≤ len
+  pub second : at .nrow + at .e * at .nrow ≤ len
+  pub out : at .w * at .nrow ≤ glen
+  pub columns : (at .kb + at .w) * at .nrow ≤ len
 
 -- the later columns of a panel of n rows and c columns, with the products in g
 pub record ColumnsPre (n c kb ke glen len : ℕ) : Type 0 where

@@ -69,8 +69,7 @@ fn lose(panel: &mut [f64], nrow: usize, j: usize, lo: usize, hi: usize, s: &[f64
 // either column changes. Where e is c there is one column.
 // work: x and y, a number for each row, any on entry.
 fn defer_two(panel: &mut [f64], g: &[f64], x: &mut [f64], y: &mut [f64], at: Terms)
-    requires { ⌜ PairPre (at .nrow) (at .c) (at .e) (at .kb) (at .w) (at .lo) (at .n) (length (now x)) (length (now y))
-        (length (now g)) (length (now panel)) ⌝ }
+    requires { ⌜ PairPre at (length (now x)) (length (now y)) (length (now g)) (length (now panel)) ⌝ }
     ensures { λ _. ⌜ view (at .nrow) (now (panel .exit))
         ≡ partDeferred (view (at .nrow) (now (panel .entry))) (view (at .nrow) (now (g .entry))) (at .kb) (at .w)
         (at .c) (at .e + 1) (at .lo) (at .lo + at .n) ⌝ }
