@@ -13,7 +13,8 @@ use Rattle.model.specs.Matrix.{Mat}
 use Rattle.model.specs.Step.{Pivots, isBlock}
 use Rattle.model.specs.Head.{State, Tried, refusedBy, took, tryOf, lastOf, noted, Progress, going, after, panelOf}
 use Rattle.model.specs.Kept.{Starts, Recorded}
-use Rattle.model.specs.declared.Mode.{Mode}
+use Rattle.model.specs.declared.Frame.{Frame}
+use Rattle.model.specs.declared.Pivoting.{Pivoting}
 use Rattle.model.specs.declared.Pivot.{Pivot}
 use Rattle.model.specs.declared.Refusal.{Refusal}
 use Rattle.model.proofs.Bounds.{GoodPivot}
@@ -29,56 +30,56 @@ use Rattle.bunch_kaufman.specs.declared.Ran.the-variants.{Done}
 
 -- ---- steps in turn
 
-module _ (ke : ℕ) (mode : Mode) (limit : ℕ) where
+module _ (ke : ℕ) (how : Pivoting) where
   after-alike : (t : Tried) (s : State) (k : ℕ) (f g : ℕ → State → Progress)
       → ((b : Bool) (u : State) → f (lastOf k b + 1) u ≡ g (lastOf k b + 1) u) → after t s k f ≡ after t s k g
   after-alike (refusedBy r) s k f g h = refl
   after-alike (took v a m) s k f g h = h (isBlock (v .diagonal)) _
 
   -- more steps than columns are left change nothing
-  panel-fuel : (n m k : ℕ) (s : State) → ke - k ≤ n → ke - k ≤ m → panelOf ke mode limit n k s ≡ panelOf ke mode limit m k s
+  panel-fuel : (n m k : ℕ) (s : State) → ke - k ≤ n → ke - k ≤ m → panelOf ke how n k s ≡ panelOf ke how m k s
   unfolding panelOf
   panel-fuel zero zero k s h l = refl
   panel-fuel zero (suc m) k s h l = rw (le-ltb k ke (omega arith))
   panel-fuel (suc n) zero k s h l = rw (le-ltb k ke (omega arith))
   panel-fuel (suc n) (suc m) k s h l =
       test (ltb k ke)
-      (λ p. rw p (after-alike (tryOf ke (s .a) (s .mult) mode limit k) s k (panelOf ke mode limit n) (panelOf ke mode limit m)
+      (λ p. rw p (after-alike (tryOf ke (s .a) (s .mult) how k) s k (panelOf ke how n) (panelOf ke how m)
       (λ b u. panel-fuel n m (lastOf k b + 1) u (omega (arith, last-ge k b)) (omega (arith, last-ge k b)))))
       (λ p. rw p)
 
   -- one step taken off
   panel-open : (k : ℕ) (s : State) → k < ke
-      → panelOf ke mode limit (ke - k) k s ≡ after (tryOf ke (s .a) (s .mult) mode limit k) s k (panelOf ke mode limit (ke - (k + 1)))
+      → panelOf ke how (ke - k) k s ≡ after (tryOf ke (s .a) (s .mult) how k) s k (panelOf ke how (ke - (k + 1)))
   unfolding panelOf
   panel-open k s h =
       let q : ke - k ≡ suc (ke - (k + 1)) = omega arith in
-      ap (λ (n : ℕ). panelOf ke mode limit n k s) q ∙ rw (lt-ltb k ke h) refl
+      ap (λ (n : ℕ). panelOf ke how n k s) q ∙ rw (lt-ltb k ke h) refl
 
   -- a pivot is taken: T answers for the step, e is the pivot's last column, P its notes
   pub panel-step : (s : State) (k e : ℕ) (R : Progress) (T : Taken) (v : Pivot) (a m : Mat) (P : Pivots)
-      → panelOf ke mode limit (ke - k) k s ≡ R → k < ke → tried T a m ≡ tryOf ke (s .a) (s .mult) mode limit k → T ≡ Took v → e ≡ lastOf k (isBlock (v .diagonal))
+      → panelOf ke how (ke - k) k s ≡ R → k < ke → tried T a m ≡ tryOf ke (s .a) (s .mult) how k → T ≡ Took v → e ≡ lastOf k (isBlock (v .diagonal))
       → P ≡ noted (s .pivots) k e v
-      → panelOf ke mode limit (ke - (e + 1)) (e + 1) (record { a = a; mult = m; pivots = P; rounds = s .rounds + v .rounds }) ≡ R
+      → panelOf ke how (ke - (e + 1)) (e + 1) (record { a = a; mult = m; pivots = P; rounds = s .rounds + v .rounds }) ≡ R
   unfolding tried
   panel-step s k e R T v a m P r h t z l n =
       rw (n, l)
       (panel-fuel (ke - (lastOf k (isBlock (v .diagonal)) + 1)) (ke - (k + 1)) (lastOf k (isBlock (v .diagonal)) + 1) _ (omega arith) (omega (arith, last-ge k (isBlock (v .diagonal))))
-      ∙ sym (ap (λ (o : Tried). after o s k (panelOf ke mode limit (ke - (k + 1)))) (sym t ∙ ap (λ (u : Taken). tried u a m) z))
+      ∙ sym (ap (λ (o : Tried). after o s k (panelOf ke how (ke - (k + 1)))) (sym t ∙ ap (λ (u : Taken). tried u a m) z))
       ∙ sym (panel-open k s h) ∙ r)
 
   -- the step refuses, and its refusal is the panel's
   pub panel-stop : (s : State) (k : ℕ) (R : Progress) (T : Taken) (r : Refusal) (a m : Mat) (A : Ran) (f : ℕ → State)
-      → panelOf ke mode limit (ke - k) k s ≡ R → k < ke → tried T a m ≡ tryOf ke (s .a) (s .mult) mode limit k → T ≡ Refused r → A ≡ endedBy T
+      → panelOf ke how (ke - k) k s ≡ R → k < ke → tried T a m ≡ tryOf ke (s .a) (s .mult) how k → T ≡ Refused r → A ≡ endedBy T
       → progress A ke f ≡ R
   unfolding tried progress
   panel-stop s k R T r a m A f e h t z w =
       ap (λ (x : Ran). progress x ke f) (w ∙ ap endedBy z)
-      ∙ sym (ap (λ (o : Tried). after o s k (panelOf ke mode limit (ke - (k + 1)))) (sym t ∙ ap (λ (u : Taken). tried u a m) z))
+      ∙ sym (ap (λ (o : Tried). after o s k (panelOf ke how (ke - (k + 1)))) (sym t ∙ ap (λ (u : Taken). tried u a m) z))
       ∙ sym (panel-open k s h) ∙ e
 
   -- the columns are done
-  pub panel-end : (f : ℕ → State) (k n : ℕ) (R : Progress) → panelOf ke mode limit (ke - k) k (f n) ≡ R → ke ≤ k → k ≤ ke → progress (Done n) ke f ≡ R
+  pub panel-end : (f : ℕ → State) (k n : ℕ) (R : Progress) → panelOf ke how (ke - k) k (f n) ≡ R → ke ≤ k → k ≤ ke → progress (Done n) ke f ≡ R
   unfolding panelOf progress
   panel-end f k n R r h l =
       let q : ke - k ≡ 0 = omega arith in
@@ -87,9 +88,9 @@ module _ (ke : ℕ) (mode : Mode) (limit : ℕ) where
 
 -- ---- what a turn of the loop asks and keeps
 
-pub step-pre : (nrow ncol nb kb ke k len₀ lenM₀ len lenM : ℕ) → PanelPre nrow ncol nb kb ke len₀ lenM₀ → len ≡ len₀ → lenM ≡ lenM₀ → kb ≤ k → k < ke
-    → StepPre nrow ncol nb kb ke k k len lenM
-step-pre nrow ncol nb kb ke k len₀ lenM₀ len lenM h p q l m = record { sizes = rw (p, q) h; from = l; last = m }
+pub step-pre : (at : Frame) (k len₀ lenM₀ len lenM : ℕ) → PanelPre at len₀ lenM₀ → len ≡ len₀ → lenM ≡ lenM₀ → at .kb ≤ k → k < at .ke
+    → StepPre at k k len lenM
+step-pre at k len₀ lenM₀ len lenM h p q l m = record { sizes = rw (p, q) h; from = l; last = m }
 
 took-in : (ke k : ℕ) (T : Taken) (v : Pivot) → TakenIn ke k T → T ≡ Took v → PivotIn ke k v
 took-in ke k T v g e = subst (λ (u : Taken). TakenIn ke k u) e g
@@ -156,15 +157,15 @@ pub notes-stop : (kb ke : ℕ) (T : Taken) (r : Refusal) (A : Ran) (f g : ℕ �
 notes-stop kb ke T r A f g z w = rw (w, z) tt
 
 -- the notes of the state u after a panel's steps from s
-pub notes-end : (ke : ℕ) (mode : Mode) (limit kb k before : ℕ) (s u : State) → NotedTo kb ke before (s .pivots .diagonals .blocks) (s .pivots .partners) → kb ≤ ke
-    → panelOf ke mode limit (ke - k) k u ≡ panelOf ke mode limit (ke - kb) kb s → ke ≤ k → k ≤ ke → u .rounds ≤ mostRounds * k
+pub notes-end : (ke : ℕ) (how : Pivoting) (kb k before : ℕ) (s u : State) → NotedTo kb ke before (s .pivots .diagonals .blocks) (s .pivots .partners) → kb ≤ ke
+    → panelOf ke how (ke - k) k u ≡ panelOf ke how (ke - kb) kb s → ke ≤ k → k ≤ ke → u .rounds ≤ mostRounds * k
     → PanelNoted kb ke (u .rounds) (u .pivots .diagonals .blocks) (u .pivots .partners)
 unfolding panelOf
-notes-end ke mode limit kb k before s u h a e l m r =
+notes-end ke how kb k before s u h a e l m r =
     let q : ke - k ≡ 0 = omega arith in
     let f = sym (rw q at e) in
     let w = subst (Went (λ t. PivotsInside ke (t .pivots))) f
-    (panel-inside ke mode limit (ke - kb) kb s (record { partner = h .partner; pair = h .pair })) in
-    let v = subst (Reached (From kb) ke) f (panel-reached ke mode limit (From kb) (from-step kb ke limit) (ke - kb) kb s a (omega arith)
+    (panel-inside ke how (ke - kb) kb s (record { partner = h .partner; pair = h .pair })) in
+    let v = subst (Reached (From kb) ke) f (panel-reached ke how (From kb) (from-step kb ke (how .limit)) (ke - kb) kb s a (omega arith)
     (record { at = omega arith; recorded = h .recorded; start = end-starts kb _ _ (h .recorded) })) in
     record { noted = record { few = omega arith; pair = w .pair; partner = w .partner; recorded = v .1 .recorded }; start = v .1 .start }

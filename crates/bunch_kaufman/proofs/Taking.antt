@@ -10,10 +10,12 @@ use Rattle.model.specs.Choice.{chooseOf}
 use Rattle.model.specs.Step.{blockOf}
 use Rattle.model.specs.Head.{settledOne, settledTwo, headOne, headTwo, keptOne, keptTwo, Tried, afterOne, afterTwo, tryBlock, tryBy, tryOf}
 use Rattle.model.specs.declared.Mode.{Mode}
+use Rattle.model.specs.declared.Pivoting.{Pivoting}
 use Rattle.model.specs.declared.Mode.the-variants.{Fail, Lift}
 use Rattle.model.specs.declared.Block.{Block as Numbers}
 use Rattle.model.specs.declared.Diagonal.the-variants.{One, Two}
 use Rattle.model.specs.declared.Elim.{Elim}
+use Rattle.model.specs.declared.Frame.{Frame}
 use Rattle.model.specs.declared.LocalRow.{LocalRow}
 use Rattle.model.specs.declared.Refusal.the-variants.{ZeroPivot, Rounds}
 use Rattle.model.specs.declared.Choice.{Choice}
@@ -34,14 +36,15 @@ use Rattle.bunch_kaufman.specs.declared.Taken.the-variants.{Refused, Too
 
 -- ---- places
 
-pub row-in : (nrow ncol nb kb ke i len lenM : ℕ) → PanelPre nrow ncol nb kb ke len lenM → i < ke → In nrow i i len
-row-in nrow ncol nb kb ke i len lenM h l = in-panel nrow ncol i i len (h .panel) (omega arith) (omega arith)
+pub row-in : (at : Frame) (i len lenM : ℕ) → PanelPre at len lenM → i < at .ke → In (at .nrow) i i len
+row-in at i len lenM h l = in-panel (at .nrow) (at .ncol) i i len (h .panel) (omega (arith, h .rows, h .cols)) (omega (arith, h .cols))
 
 -- of a block
-pub two-pre : (nrow ncol nb kb ke k kp len len′ lenM : ℕ) → PivotPre nrow ncol nb kb ke k (k + 1) kp len lenM → len′ ≡ len → TwoPre nrow ncol nb kb ke k len′ lenM
-two-pre nrow ncol nb kb ke k kp len len′ lenM h e =
-    let s = h .at .sizes in
-    record { size = e ∙ s .panel; square = s .mult; head = s .rows; cols = s .cols; width = s .width; from = h .at .from; here = h .at .last }
+pub two-pre : (at : Frame) (k kp len len′ lenM : ℕ) → PivotPre at k (k + 1) kp len lenM → len′ ≡ len
+    → TwoPre (at .nrow) (at .ncol) (at .nb) (at .kb) (at .ke) k len′ lenM
+two-pre at k kp len len′ lenM h e =
+    let s = h .step .sizes in
+    record { size = e ∙ s .panel; square = s .mult; head = s .rows; cols = s .cols; width = s .width; from = h .step .from; here = h .step .last }
 
 pub corner-in : (nrow ncol k i j len : ℕ) → BlockPre nrow ncol k len → i ≤ k + 1 → j ≤ k + 1 → In nrow i j len
 corner-in nrow ncol k i j len h a b = in-panel nrow ncol i j len (h .panel) (omega arith) (omega arith)
@@ -133,13 +136,13 @@ within-mode ke mode k C D h w e = subst (ChosenWithin (k .0) ke) (sym e) (go mod
     go (Lift floor) (Single kp) w = w
     go (Lift floor) (Block p kp) w = w
 
-by-choice : (ke : ℕ) (A M : Mat) (mode : Mode) (limit : ℕ) (k : Elim) (C D o : Choice) → C ≡ chooseOf A (k .0) ke → D ≡ byMode mode k C
-    → D ≡ o → tryBy ke A M mode limit (k .0) o ≡ tryOf ke A M mode limit (k .0)
+by-choice : (ke : ℕ) (A M : Mat) (how : Pivoting) (k : Elim) (C D o : Choice) → C ≡ chooseOf A (k .0) ke → D ≡ byMode (how .mode) k C
+    → D ≡ o → tryBy ke A M (how .mode) (how .limit) (k .0) o ≡ tryOf ke A M how (k .0)
 unfolding tryOf
-by-choice ke A M mode limit k C D o c m z =
-    ap (tryBy ke A M mode limit (k .0)) (sym z ∙ m)
-    ∙ by-mode ke A M mode limit k C
-    ∙ ap (tryBy ke A M mode limit (k .0)) c
+by-choice ke A M how k C D o c m z =
+    ap (tryBy ke A M (how .mode) (how .limit) (k .0)) (sym z ∙ m)
+    ∙ by-mode ke A M (how .mode) (how .limit) k C
+    ∙ ap (tryBy ke A M (how .mode) (how .limit) (k .0)) c
 
 -- a zero column is left in Fail alone
 zero-by : (ke : ℕ) (A M B N : Mat) (mode : Mode) (limit : ℕ) (k : Elim) (C : Choice) → byMode mode k C ≡ ZeroColumn
@@ -169,7 +172,8 @@ moved-by ke k p kp limit A B M mode R e r = r ∙ ap (λ (P : Mat). pairOf ke P 
 -- ---- what the answer keeps to
 
 -- Fail lifts nothing
-fail-limit : (ke : ℕ) (A M : Mat) (limit k : ℕ) → tryOf ke A M Fail limit k ≡ tryOf ke A M Fail 0 k
+fail-limit : (ke : ℕ) (A M : Mat) (limit k : ℕ)
+    → tryOf ke A M (record { mode = Fail; limit = limit }) k ≡ tryOf ke A M (record { mode = Fail; limit = 0 }) k
 unfolding tryOf settledTwo
 fail-limit ke A M limit k = by (chooseOf A k ke)
   where
@@ -186,44 +190,46 @@ tried-in ke k limit (Took v) A′ M′ R l g e =
     record { last = w .last; row = w .row; first = w .first; few = omega (arith, w .few) }
 
 kept : (ke : ℕ) (A M : Mat) (mode : Mode) (limit k : ℕ) (T : Taken) (A′ M′ : Mat)
-    → k < ke → LimitPre mode limit → tried T A′ M′ ≡ tryOf ke A M mode limit k → (tried T A′ M′ ≡ tryOf ke A M mode limit k) × TakenIn ke k T
+    → k < ke → LimitPre mode limit → tried T A′ M′ ≡ tryOf ke A M (record { mode = mode; limit = limit }) k → TakenIn ke k T
 kept ke A M Fail limit k T A′ M′ h l e =
-    (e, tried-in ke k 0 T A′ M′ (tryOf ke A M Fail 0 k) (omega arith) (try-good ke A M Fail 0 k h) (e ∙ fail-limit ke A M limit k))
+    let none : Pivoting = record { mode = Fail; limit = 0 } in
+    tried-in ke k 0 T A′ M′ (tryOf ke A M none k) (omega arith) (try-good ke A M none k h) (e ∙ fail-limit ke A M limit k)
 kept ke A M (Lift floor) limit k T A′ M′ h l e =
-    (e, tried-in ke k limit T A′ M′ (tryOf ke A M (Lift floor) limit k) l (try-good ke A M (Lift floor) limit k h) e)
+    let how : Pivoting = record { mode = Lift floor; limit = limit } in
+    tried-in ke k limit T A′ M′ (tryOf ke A M how k) l (try-good ke A M how k h) e
 
 -- ---- a step: C is the choice, T the answer, A′ and M′ what is left
 
-pub single-pre : (nrow ncol nb kb ke k : ℕ) (kp : LocalRow) (len lenM : ℕ) (C : Choice) → StepPre nrow ncol nb kb ke k k len lenM → C ≡ Single kp → ChosenWithin k ke C
-    → PivotPre nrow ncol nb kb ke k k (kp .0) len lenM
-single-pre nrow ncol nb kb ke k kp len lenM C h z g = let w = subst (ChosenWithin k ke) z g in record { at = h; from = w .low; row = w .high }
+pub single-pre : (at : Frame) (k : ℕ) (kp : LocalRow) (len lenM : ℕ) (C : Choice) → StepPre at k k len lenM → C ≡ Single kp → ChosenWithin k (at .ke) C
+    → PivotPre at k k (kp .0) len lenM
+single-pre at k kp len lenM C h z g = let w = subst (ChosenWithin k (at .ke)) z g in record { step = h; from = w .low; row = w .high }
 
-pub pair-pre : (nrow ncol nb kb ke k : ℕ) (p kp : LocalRow) (len lenM : ℕ) (C : Choice) → StepPre nrow ncol nb kb ke k k len lenM
-    → C ≡ Block p kp → ChosenWithin k ke C
-    → PivotPre nrow ncol nb kb ke k (k + 1) (kp .0) len lenM × Within k ke (p .0)
-pair-pre nrow ncol nb kb ke k p kp len lenM C h z g =
-    let w = subst (ChosenWithin k ke) z g in
+pub pair-pre : (at : Frame) (k : ℕ) (p kp : LocalRow) (len lenM : ℕ) (C : Choice) → StepPre at k k len lenM → C ≡ Block p kp → ChosenWithin k (at .ke) C
+    → PivotPre at k (k + 1) (kp .0) len lenM × Within k (at .ke) (p .0)
+pair-pre at k p kp len lenM C h z g =
+    let w = subst (ChosenWithin k (at .ke)) z g in
     let r = w .1 in
-    (record { at = record { sizes = h .sizes; from = h .from; last = omega (arith, r .low, r .high) }; from = r .low; row = r .high }, w .0)
+    (record { step = record { sizes = h .sizes; from = h .from; last = omega (arith, r .low, r .high) }; from = r .low; row = r .high }, w .0)
 
 -- the choice at k, D by the mode and by its case o
-module _ (ke : ℕ) (A M A′ M′ : Mat) (mode : Mode) (limit : ℕ) (k : Elim) (C D : Choice) (h : k .0 < ke) (l : LimitPre mode limit)
-    (c : C ≡ chooseOf A (k .0) ke) (m : D ≡ byMode mode k C) where
+module _ (ke : ℕ) (A M A′ M′ : Mat) (how : Pivoting) (k : Elim) (C D : Choice) (h : k .0 < ke) (l : LimitPre (how .mode) (how .limit))
+    (c : C ≡ chooseOf A (k .0) ke) (m : D ≡ byMode (how .mode) k C) where
   abbrev Stepped : Taken → Type 0
-  Stepped T = (tried T A′ M′ ≡ tryOf ke A M mode limit (k .0)) × TakenIn ke (k .0) T
+  Stepped T = (tried T A′ M′ ≡ tryOf ke A M how (k .0)) × TakenIn ke (k .0) T
+
+  stepped : (T : Taken) → tried T A′ M′ ≡ tryOf ke A M how (k .0) → Stepped T
+  stepped T e = (e, kept ke A M (how .mode) (how .limit) (k .0) T A′ M′ h l e)
 
   pub step-zero : D ≡ ZeroColumn → Stepped (Refused (ZeroPivot k))
   step-zero z =
-      kept ke A M mode limit (k .0) (Refused (ZeroPivot k)) A′ M′ h l
-      (zero-by ke A M A′ M′ mode limit k C (sym m ∙ z) ∙ by-choice ke A M mode limit k C D ZeroColumn c m z)
+      stepped (Refused (ZeroPivot k))
+      (zero-by ke A M A′ M′ (how .mode) (how .limit) k C (sym m ∙ z) ∙ by-choice ke A M how k C D ZeroColumn c m z)
 
-  pub step-single : (kp : LocalRow) (T : Taken) → D ≡ Single kp → tried T A′ M′ ≡ singleOf ke A M mode (k .0) (kp .0) → Stepped T
+  pub step-single : (kp : LocalRow) (T : Taken) → D ≡ Single kp → tried T A′ M′ ≡ singleOf ke A M (how .mode) (k .0) (kp .0) → Stepped T
   step-single kp T z r =
-      kept ke A M mode limit (k .0) T A′ M′ h l
-      (r ∙ one-by ke A M mode limit (k .0) kp ∙ by-choice ke A M mode limit k C D (Single kp) c m z)
+      stepped T (r ∙ one-by ke A M (how .mode) (how .limit) (k .0) kp ∙ by-choice ke A M how k C D (Single kp) c m z)
 
   pub step-pair : (p kp : LocalRow) (T : Taken) → D ≡ Block p kp
-      → tried T A′ M′ ≡ pairOf ke (exchanged (k .0) (p .0) ke A) M mode limit (k .0) (p .0) (kp .0) → Stepped T
+      → tried T A′ M′ ≡ pairOf ke (exchanged (k .0) (p .0) ke A) M (how .mode) (how .limit) (k .0) (p .0) (kp .0) → Stepped T
   step-pair p kp T z r =
-      kept ke A M mode limit (k .0) T A′ M′ h l
-      (r ∙ two-by ke A M mode limit (k .0) p kp ∙ by-choice ke A M mode limit k C D (Block p kp) c m z)
+      stepped T (r ∙ two-by ke A M (how .mode) (how .limit) (k .0) p kp ∙ by-choice ke A M how k C D (Block p kp) c m z)

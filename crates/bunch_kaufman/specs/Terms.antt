@@ -5,6 +5,7 @@ use Rattle.model.specs.Sizes.{mostColumns, mostRounds}
 use Rattle.model.specs.Step.{isBlock}
 use Rattle.model.specs.Head.{lastOf}
 use Rattle.model.specs.Kept.{Starts, Recorded}
+use Rattle.model.specs.declared.Frame.{Frame}
 use Rattle.model.specs.declared.Mode.{Mode}
 use Rattle.model.specs.declared.Mode.the-variants.{Fail, Lift}
 use Rattle.model.specs.declared.Pivot.{Pivot}
@@ -52,26 +53,26 @@ LimitPre Fail limit = Unit {0}
 LimitPre (Lift floor) limit = limit ≤ mostRounds
 
 -- columns kb to ke of a panel of ncol columns and nrow rows, with their multipliers in a square of nb
-pub record PanelPre (nrow ncol nb kb ke len lenM : ℕ) : Type 0 where
-  pub panel : len ≡ nrow * ncol
-  pub mult : lenM ≡ nb * nb
-  pub rows : ncol ≤ nrow
-  pub cols : ke ≤ ncol
-  pub size : ncol ≤ mostColumns
-  pub here : kb ≤ ke
-  pub width : ke ≤ kb + nb
+pub record PanelPre (at : Frame) (len lenM : ℕ) : Type 0 where
+  pub panel : len ≡ at .nrow * at .ncol
+  pub mult : lenM ≡ at .nb * at .nb
+  pub rows : at .ncol ≤ at .nrow
+  pub cols : at .ke ≤ at .ncol
+  pub size : at .ncol ≤ mostColumns
+  pub here : at .kb ≤ at .ke
+  pub width : at .ke ≤ at .kb + at .nb
 
 -- a pivot's columns k to e
-pub record StepPre (nrow ncol nb kb ke k e len lenM : ℕ) : Type 0 where
-  pub sizes : PanelPre nrow ncol nb kb ke len lenM
-  pub from : kb ≤ k
-  pub last : e < ke
+pub record StepPre (at : Frame) (k e len lenM : ℕ) : Type 0 where
+  pub sizes : PanelPre at len lenM
+  pub from : at .kb ≤ k
+  pub last : e < at .ke
 
 -- and the row kp that is exchanged with e
-pub record PivotPre (nrow ncol nb kb ke k e kp len lenM : ℕ) : Type 0 where
-  pub at : StepPre nrow ncol nb kb ke k e len lenM
+pub record PivotPre (at : Frame) (k e kp len lenM : ℕ) : Type 0 where
+  pub step : StepPre at k e len lenM
   pub from : e ≤ kp
-  pub row : kp < ke
+  pub row : kp < at .ke
 
 -- a block's columns k and k + 1
 pub record BlockPre (nrow ncol k len : ℕ) : Type 0 where

@@ -12,8 +12,8 @@ ghost use Rattle.bunch_kaufman.specs.Answers.{progress, endedBy};
 ghost use Rattle.bunch_kaufman.specs.Terms.{PanelPre, NotesPre, LimitPre, NotedTo, RanTo};
 use model::Elim;
 use model::Frame;
-use model::Mode;
 use model::Pivot;
+use model::Pivoting;
 use model::Refusal;
 
 mod record;
@@ -56,19 +56,18 @@ pub fn ll_bk_panel_step(
     amounts: &mut [f64],
     order: &mut [usize],
     at: Frame,
-    mode: Mode,
-    limit: usize,
+    how: Pivoting,
     before: usize,
 ) -> Ran
-    requires { ⌜ PanelPre (at .nrow) (at .ncol) (at .nb) (at .kb) (at .ke) (length (now panel)) (length (now mult)) ⌝ }
+    requires { ⌜ PanelPre at (length (now panel)) (length (now mult)) ⌝ }
     requires { ⌜ NotesPre (at .ke) (length (now d)) (length (now sub)) (length (now blocks)) (length (now partners))
         (length (now lifts)) (length (now amounts)) (length (now order)) ⌝ }
-    requires { ⌜ LimitPre mode limit ⌝ }
+    requires { ⌜ LimitPre (how .mode) (how .limit) ⌝ }
     requires { ⌜ NotedTo (at .kb) (at .ke) before (bytes (now blocks)) (bytes (now partners)) ⌝ }
     ensures { λ r. ⌜ progress r (at .ke) (state at (now (panel .exit)) (now (mult .exit))
         (pivotsOf (now (d .exit)) (now (sub .exit)) (now (blocks .exit)) (now (partners .exit)) (now (lifts .exit))
         (now (amounts .exit)) (now (order .exit))))
-        ≡ panelOf (at .ke) mode limit (at .ke - at .kb) (at .kb) (state at (now (panel .entry)) (now (mult .entry))
+        ≡ panelOf (at .ke) how (at .ke - at .kb) (at .kb) (state at (now (panel .entry)) (now (mult .entry))
         (pivotsOf (now (d .entry)) (now (sub .entry)) (now (blocks .entry)) (now (partners .entry))
         (now (lifts .entry)) (now (amounts .entry)) (now (order .entry))) before) ⌝ }
     ensures { λ r. ⌜ RanTo (at .kb) (at .ke) r (bytes (now (blocks .exit))) (bytes (now (partners .exit))) ⌝ }
@@ -78,18 +77,7 @@ pub fn ll_bk_panel_step(
     let mut rounds = before;
     while k < ke {
         let here = Elim(k);
-        let taken = step::step(
-            panel,
-            mult,
-            at.nrow,
-            at.ncol,
-            at.nb,
-            at.kb,
-            ke,
-            here,
-            mode,
-            limit,
-        );
+        let taken = step::step(panel, mult, at, here, how);
         let Taken::Took(v) = taken else {
             return ended(taken);
         };

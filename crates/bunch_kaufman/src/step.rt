@@ -21,6 +21,7 @@ use model::LocalRow;
 use model::Mode;
 use model::OneSettled;
 use model::Pivot;
+use model::Pivoting;
 use model::Refusal;
 use model::TwoSettled;
 use rule::PivotRule;
@@ -40,37 +41,23 @@ fn block_at(panel: &[f64], nrow: usize, ncol: usize, k: Elim) -> Block
 fn single(
     panel: &mut [f64],
     mult: &mut [f64],
-    nrow: usize,
-    ncol: usize,
-    nb: usize,
-    kb: usize,
-    ke: usize,
+    at: Frame,
     k: Elim,
     kp: LocalRow,
     mode: Mode,
 ) -> Taken
-    requires { ⌜ PivotPre nrow ncol nb kb ke (k .0) (k .0) (kp .0) (length (now panel)) (length (now mult)) ⌝ }
-    ensures { λ r. ⌜ tried r (view nrow (now (panel .exit))) (inPanel kb ke (view nb (now (mult .exit))))
-        ≡ singleOf ke (view nrow (now (panel .entry))) (inPanel kb ke (view nb (now (mult .entry)))) mode (k .0) (kp .0) ⌝ }
+    requires { ⌜ PivotPre at (k .0) (k .0) (kp .0) (length (now panel)) (length (now mult)) ⌝ }
+    ensures { λ r. ⌜ tried r (view (at .nrow) (now (panel .exit)))
+        (inPanel (at .kb) (at .ke) (view (at .nb) (now (mult .exit))))
+        ≡ singleOf (at .ke) (view (at .nrow) (now (panel .entry)))
+        (inPanel (at .kb) (at .ke) (view (at .nb) (now (mult .entry)))) mode (k .0) (kp .0) ⌝ }
 {
-    let settled = PivotRule::settle_one(mode, grid::get(panel, nrow, kp.0, kp.0));
+    let settled = PivotRule::settle_one(mode, grid::get(panel, at.nrow, kp.0, kp.0));
     let OneSettled::Number { d, lifted, amount } = settled else {
         return Taken::Refused(Refusal::ZeroPivot(k));
     };
-    exchange::exchange_if(panel, nrow, ncol, LocalRow(k.0), kp, ke);
-    eliminate::head_one(
-        panel,
-        mult,
-        Frame {
-            nrow,
-            ncol,
-            nb,
-            kb,
-            ke,
-        },
-        k,
-        d,
-    );
+    exchange::exchange_if(panel, at.nrow, at.ncol, LocalRow(k.0), kp, at.ke);
+    eliminate::head_one(panel, mult, at, k, d);
     Taken::Took(Pivot {
         p: LocalRow(k.0),
         kp,
@@ -85,23 +72,21 @@ fn single(
 fn pair(
     panel: &mut [f64],
     mult: &mut [f64],
-    nrow: usize,
-    ncol: usize,
-    nb: usize,
-    kb: usize,
-    ke: usize,
+    at: Frame,
     k: Elim,
     p: LocalRow,
     kp: LocalRow,
-    mode: Mode,
-    limit: usize,
+    how: Pivoting,
 ) -> Taken
-    requires { ⌜ PivotPre nrow ncol nb kb ke (k .0) (k .0 + 1) (kp .0) (length (now panel)) (length (now mult)) ⌝ }
-    ensures { λ r. ⌜ tried r (view nrow (now (panel .exit))) (inPanel kb ke (view nb (now (mult .exit))))
-        ≡ pairOf ke (view nrow (now (panel .entry))) (inPanel kb ke (view nb (now (mult .entry)))) mode limit (k .0) (p .0) (kp .0) ⌝ }
+    requires { ⌜ PivotPre at (k .0) (k .0 + 1) (kp .0) (length (now panel)) (length (now mult)) ⌝ }
+    ensures { λ r. ⌜ tried r (view (at .nrow) (now (panel .exit)))
+        (inPanel (at .kb) (at .ke) (view (at .nb) (now (mult .exit))))
+        ≡ pairOf (at .ke) (view (at .nrow) (now (panel .entry)))
+        (inPanel (at .kb) (at .ke) (view (at .nb) (now (mult .entry)))) (how .mode) (how .limit) (k .0) (p .0) (kp .0) ⌝ }
 {
-    exchange::exchange_if(panel, nrow, ncol, LocalRow(k.0 + 1), kp, ke);
-    let settled = PivotRule::settle_two(mode, limit, block_at(panel, nrow, ncol, k));
+    let mode = how.mode;
+    exchange::exchange_if(panel, at.nrow, at.ncol, LocalRow(k.0 + 1), kp, at.ke);
+    let settled = PivotRule::settle_two(mode, how.limit, block_at(panel, at.nrow, at.ncol, k));
     match settled {
         TwoSettled::Low => Taken::Refused(Refusal::ZeroPivot(k)),
         TwoSettled::OutOfRounds => Taken::Refused(Refusal::Rounds(k)),
@@ -111,19 +96,7 @@ fn pair(
             amount,
             rounds,
         } => {
-            eliminate::head_two(
-                panel,
-                mult,
-                Frame {
-                    nrow,
-                    ncol,
-                    nb,
-                    kb,
-                    ke,
-                },
-                k,
-                block,
-            );
+            eliminate::head_two(panel, mult, at, k, block);
             Taken::Took(Pivot {
                 p,
                 kp,
@@ -140,24 +113,21 @@ fn pair(
 fn moved_pair(
     panel: &mut [f64],
     mult: &mut [f64],
-    nrow: usize,
-    ncol: usize,
-    nb: usize,
-    kb: usize,
-    ke: usize,
+    at: Frame,
     k: Elim,
     p: LocalRow,
     kp: LocalRow,
-    mode: Mode,
-    limit: usize,
+    how: Pivoting,
 ) -> Taken
-    requires { ⌜ PivotPre nrow ncol nb kb ke (k .0) (k .0 + 1) (kp .0) (length (now panel)) (length (now mult)) ⌝ }
-    requires { ⌜ Within (k .0) ke (p .0) ⌝ }
-    ensures { λ r. ⌜ tried r (view nrow (now (panel .exit))) (inPanel kb ke (view nb (now (mult .exit))))
-        ≡ pairOf ke (exchanged (k .0) (p .0) ke (view nrow (now (panel .entry)))) (inPanel kb ke (view nb (now (mult .entry)))) mode limit (k .0) (p .0) (kp .0) ⌝ }
+    requires { ⌜ PivotPre at (k .0) (k .0 + 1) (kp .0) (length (now panel)) (length (now mult)) ⌝ }
+    requires { ⌜ Within (k .0) (at .ke) (p .0) ⌝ }
+    ensures { λ r. ⌜ tried r (view (at .nrow) (now (panel .exit)))
+        (inPanel (at .kb) (at .ke) (view (at .nb) (now (mult .exit))))
+        ≡ pairOf (at .ke) (exchanged (k .0) (p .0) (at .ke) (view (at .nrow) (now (panel .entry))))
+        (inPanel (at .kb) (at .ke) (view (at .nb) (now (mult .entry)))) (how .mode) (how .limit) (k .0) (p .0) (kp .0) ⌝ }
 {
-    exchange::exchange_if(panel, nrow, ncol, LocalRow(k.0), p, ke);
-    pair(panel, mult, nrow, ncol, nb, kb, ke, k, p, kp, mode, limit)
+    exchange::exchange_if(panel, at.nrow, at.ncol, LocalRow(k.0), p, at.ke);
+    pair(panel, mult, at, k, p, kp, how)
 }
 
 // What the mode makes of the choice at k: in Lift a zero column is a 1x1 from its own row.
@@ -175,30 +145,24 @@ fn by_mode(choice: Choice, mode: Mode, k: Elim) -> Choice
 }
 
 // The step at k.
-pub fn step(
-    panel: &mut [f64],
-    mult: &mut [f64],
-    nrow: usize,
-    ncol: usize,
-    nb: usize,
-    kb: usize,
-    ke: usize,
-    k: Elim,
-    mode: Mode,
-    limit: usize,
-) -> Taken
-    requires { ⌜ StepPre nrow ncol nb kb ke (k .0) (k .0) (length (now panel)) (length (now mult)) ⌝ }
-    requires { ⌜ LimitPre mode limit ⌝ }
-    ensures { λ r. ⌜ tried r (view nrow (now (panel .exit))) (inPanel kb ke (view nb (now (mult .exit))))
-        ≡ tryOf ke (view nrow (now (panel .entry))) (inPanel kb ke (view nb (now (mult .entry)))) mode limit (k .0) ⌝ }
-    ensures { λ r. ⌜ TakenIn ke (k .0) r ⌝ }
+pub fn step(panel: &mut [f64], mult: &mut [f64], at: Frame, k: Elim, how: Pivoting) -> Taken
+    requires { ⌜ StepPre at (k .0) (k .0) (length (now panel)) (length (now mult)) ⌝ }
+    requires { ⌜ LimitPre (how .mode) (how .limit) ⌝ }
+    ensures { λ r. ⌜ tried r (view (at .nrow) (now (panel .exit)))
+        (inPanel (at .kb) (at .ke) (view (at .nb) (now (mult .exit))))
+        ≡ tryOf (at .ke) (view (at .nrow) (now (panel .entry)))
+        (inPanel (at .kb) (at .ke) (view (at .nb) (now (mult .entry)))) how (k .0) ⌝ }
+    ensures { λ r. ⌜ TakenIn (at .ke) (k .0) r ⌝ }
 {
-    let choice = by_mode(PivotRule::choose(panel, nrow, ncol, k, ke), mode, k);
+    let mode = how.mode;
+    let choice = by_mode(
+        PivotRule::choose(panel, at.nrow, at.ncol, k, at.ke),
+        mode,
+        k,
+    );
     match choice {
         Choice::ZeroColumn => Taken::Refused(Refusal::ZeroPivot(k)),
-        Choice::Single(kp) => single(panel, mult, nrow, ncol, nb, kb, ke, k, kp, mode),
-        Choice::Block(p, kp) => {
-            moved_pair(panel, mult, nrow, ncol, nb, kb, ke, k, p, kp, mode, limit)
-        }
+        Choice::Single(kp) => single(panel, mult, at, k, kp, mode),
+        Choice::Block(p, kp) => moved_pair(panel, mult, at, k, p, kp, how),
     }
 }

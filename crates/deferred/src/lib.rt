@@ -142,22 +142,15 @@ fn defer_rows(panel: &mut [f64], g: &[f64], at: Frame, lo: usize, hi: usize)
     }
 }
 
-// The columns from ke on, each from its diagonal down, lose their sums, a part of the rows at a time. No multipliers of
-// the panel's own rows are read: of its frame nb is left at the width of L·D.
-fn defer_columns(panel: &mut [f64], g: &[f64], nrow: usize, ncol: usize, kb: usize, ke: usize)
-    requires { ⌜ ColumnsPre nrow ncol kb ke (length (now g)) (length (now panel)) ⌝ }
-    ensures { λ _. ⌜ view nrow (now (panel .exit))
-        ≡ partDeferred (view nrow (now (panel .entry))) (view nrow (now (g .entry))) kb (ke - kb) ke ncol ke nrow ⌝ }
+// The columns from ke on, each from its diagonal down, lose their sums, a part of the rows at a time.
+fn defer_columns(panel: &mut [f64], g: &[f64], at: Frame)
+    requires { ⌜ ColumnsPre (at .nrow) (at .ncol) (at .kb) (at .ke) (length (now g)) (length (now panel)) ⌝ }
+    ensures { λ _. ⌜ view (at .nrow) (now (panel .exit))
+        ≡ partDeferred (view (at .nrow) (now (panel .entry))) (view (at .nrow) (now (g .entry))) (at .kb)
+        (at .ke - at .kb) (at .ke) (at .ncol) (at .ke) (at .nrow) ⌝ }
 {
-    let nb = ke - kb;
-    let at = Frame {
-        nrow,
-        ncol,
-        nb,
-        kb,
-        ke,
-    };
-    let mut lo = ke;
+    let nrow = at.nrow;
+    let mut lo = at.ke;
     while lo < nrow {
         let hi = lo + smaller(PART, nrow - lo);
         defer_rows(panel, g, at, lo, hi);
@@ -175,21 +168,19 @@ pub fn deferred_update(
     sub: &[f64],
     blocks: &[u8],
     g: &mut [f64],
-    nrow: usize,
-    ncol: usize,
-    kb: usize,
-    ke: usize,
+    at: Frame,
 )
-    requires { ⌜ DeferredPre nrow ncol kb ke (length (now g)) (length (now panel)) (length (now d))
-        (length (now sub)) (now blocks) ⌝ }
-    ensures { λ _. ⌜ view nrow (now (panel .exit))
-        ≡ deferredRows nrow ncol (diagonalsOf (now (d .entry)) (now (sub .entry)) (now (blocks .entry))) kb ke
-        (view nrow (now (panel .entry))) ⌝ }
-    ensures { λ _. ⌜ view nrow (now (g .exit))
-        ≡ withProducts (view nrow (now (g .entry)))
-        (diagonalsOf (now (d .entry)) (now (sub .entry)) (now (blocks .entry))) (view nrow (now (panel .entry)))
-        kb ke nrow (ke - kb) ⌝ }
+    requires { ⌜ DeferredPre (at .nrow) (at .ncol) (at .kb) (at .ke) (length (now g)) (length (now panel))
+        (length (now d)) (length (now sub)) (now blocks) ⌝ }
+    ensures { λ _. ⌜ view (at .nrow) (now (panel .exit))
+        ≡ deferredRows (at .nrow) (at .ncol)
+        (diagonalsOf (now (d .entry)) (now (sub .entry)) (now (blocks .entry))) (at .kb) (at .ke)
+        (view (at .nrow) (now (panel .entry))) ⌝ }
+    ensures { λ _. ⌜ view (at .nrow) (now (g .exit))
+        ≡ withProducts (view (at .nrow) (now (g .entry)))
+        (diagonalsOf (now (d .entry)) (now (sub .entry)) (now (blocks .entry)))
+        (view (at .nrow) (now (panel .entry))) (at .kb) (at .ke) (at .nrow) (at .ke - at .kb) ⌝ }
 {
-    products::products(g, panel, d, sub, blocks, nrow, kb, ke);
-    defer_columns(panel, g, nrow, ncol, kb, ke);
+    products::products(g, panel, d, sub, blocks, at.nrow, at.kb, at.ke);
+    defer_columns(panel, g, at);
 }

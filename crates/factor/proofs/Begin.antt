@@ -18,6 +18,7 @@ use Rattle.model.specs.Factor.{Buffers, workLength, modeCheck, entryCheck, star
 use Rattle.model.specs.Answer.{refuseIf}
 use Rattle.model.specs.declared.Settings.{Settings}
 use Rattle.model.specs.declared.Mode.{Mode}
+use Rattle.model.specs.declared.Pivoting.{Pivoting}
 use Rattle.model.specs.declared.Mode.the-variants.{Fail, Lift}
 use Rattle.model.specs.declared.Refusal.the-variants.{Floor, Limit}
 use Rattle.model.specs.declared.Check.the-variants.{Sound}
@@ -87,10 +88,10 @@ holds-pre c input b ld ls lb partners ll la lo e e1 e2 e3 e4 e5 e6 e7 =
     }
 
 -- the run with the width that is used, from the start
-pub run-is : (mode : Mode) (limit nrow ncol w v : ℕ) (r : WholeRun) (s t : State) → w ≡ v → s ≡ t
-    → r ≡ wholePanelsOf mode limit nrow ncol w ncol 0 s → r ≡ wholePanelsOf mode limit nrow ncol v ncol 0 t
-run-is mode limit nrow ncol w v r s t e f h =
-    h ∙ ap (λ (x : ℕ). wholePanelsOf mode limit nrow ncol x ncol 0 s) e ∙ ap (λ (x : State). wholePanelsOf mode limit nrow ncol v ncol 0 x) f
+pub run-is : (how : Pivoting) (nrow ncol w v : ℕ) (r : WholeRun) (s t : State) → w ≡ v → s ≡ t
+    → r ≡ wholePanelsOf how nrow ncol w ncol 0 s → r ≡ wholePanelsOf how nrow ncol v ncol 0 t
+run-is how nrow ncol w v r s t e f h =
+    h ∙ ap (λ (x : ℕ). wholePanelsOf how nrow ncol x ncol 0 s) e ∙ ap (λ (x : State). wholePanelsOf how nrow ncol v ncol 0 x) f
 
 -- ---- before the first panel
 

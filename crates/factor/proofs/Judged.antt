@@ -11,7 +11,7 @@ use Rattle.model.specs.Matrix.{Mat, view, vec, bytes}
 use Rattle.model.specs.Step.{Diagonals, diagonalsOf, Pivots, pivotsOf}
 use Rattle.model.specs.Head.{State, Run}
 use Rattle.model.specs.Inertia.{talliedOf, bytesFrom, checkBytes}
-use Rattle.model.specs.Factor.{Buffers, Outcome, columnSound, resultCheck, entryCheck, zeros, factorOf}
+use Rattle.model.specs.Factor.{pivotingOf, Buffers, Outcome, columnSound, resultCheck, entryCheck, zeros, factorOf}
 use Rattle.model.specs.Answer.{turnedAway}
 use Rattle.model.specs.declared.Settings.{Settings}
 use Rattle.model.specs.declared.Refusal.{Refusal}
@@ -86,17 +86,17 @@ module _ (c : Settings) (input : List Float) (b : Buffers) (e : entryCheck c inp
     ends : ended last ≡ wholeOf c input b e
     ends = sym (ap (λ (y : Ran). runOf y (shown (c .nrow) a (w .partners))) h) ∙ w .run
 
-    reach : Reached (c .mode) (c .limit) (c .nrow) (c .ncol) (c .nb) (view (c .nrow) input) last
-    reach = run-ended (c .mode) (c .limit) (c .nrow) (c .ncol) (c .nb) (view (c .nrow) input) (checked .head) (checked .some) last (sym ends)
+    reach : Reached (pivotingOf c) (c .nrow) (c .ncol) (c .nb) (view (c .nrow) input) last
+    reach = run-ended (pivotingOf c) (c .nrow) (c .ncol) (c .nb) (view (c .nrow) input) (checked .head) (checked .some) last (sym ends)
 
     -- its block bytes are well formed
     bytes-kept : checkBytes (a .blocks) ≡ check.the-variants.Sound
     bytes-kept =
         let kept : Kept (c .ncol) (c .ncol) (reach .state .pivots) =
         subst (λ (g : Run). AtEnd (c .ncol) g) (reach .run)
-        (head-kept (c .mode) (c .limit) (c .ncol) (c .nb) (view (c .nrow) input) (checked .some)) in
+        (head-kept (pivotingOf c) (c .ncol) (c .nb) (view (c .nrow) input) (checked .some)) in
         let same : last .pivots ≡ reach .state .pivots =
-        reached-pivots (c .mode) (c .limit) (c .nrow) (c .ncol) (c .nb) (view (c .nrow) input) last reach in
+        reached-pivots (pivotingOf c) (c .nrow) (c .ncol) (c .nb) (view (c .nrow) input) last reach in
         let n : length (a .blocks) ≡ c .ncol = l .blocks ∙ checked .lengths .blocks in
         ap (λ (m : ℕ). bytesFrom (bytes (a .blocks)) m m 0) n
         ∙ ap (λ (p : Pivots). bytesFrom (p .diagonals .blocks) (c .ncol) (c .ncol) 0) same

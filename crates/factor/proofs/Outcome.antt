@@ -10,7 +10,7 @@ use Rattle.model.specs.Matrix.{Row, Mat, view, vec, bytes, places, tabulate, co
 use Rattle.model.specs.Step.{diagonalsOf, Pivots, pivotsOf}
 use Rattle.model.specs.Head.{State}
 use Rattle.model.specs.Inertia.{talliedOf}
-use Rattle.model.specs.Factor.{Buffers, Outcome, start, entryCheck, resultCheck, HeadAnswer, fails, stands, headAnswerOf}
+use Rattle.model.specs.Factor.{pivotingOf, Buffers, Outcome, start, entryCheck, resultCheck, HeadAnswer, fails, stands, headAnswerOf}
 use Rattle.model.specs.Factor.{factorRowOf, markOf, factorEntry, zeros, reportOf, afterHead, factorOf}
 use Rattle.model.specs.Answer.{accepted, turnedAway}
 use Rattle.model.specs.declared.Settings.{Settings}
@@ -69,32 +69,32 @@ module _ (c : Settings) (input : List Float) (b : Buffers) (e : entryCheck c inp
 
   -- the run that the loop over panels makes
   abbrev pub wholeOf : WholeRun
-  wholeOf = wholePanelsOf (c .mode) (c .limit) (c .nrow) (c .ncol) (min (c .nb) (max (c .ncol) 1)) (c .ncol) 0 (start (c .ncol) given)
+  wholeOf = wholePanelsOf (pivotingOf c) (c .nrow) (c .ncol) (min (c .nb) (max (c .ncol) 1)) (c .ncol) 0 (start (c .ncol) given)
 
   checked : Passed c input b
   checked = passed c input b e
 
-  by-head : (h : HeadAnswer) → headAnswerOf (c .mode) (c .limit) (c .ncol) (c .nb) given ≡ h → factorOf c input b ≡ afterHead h c given b
+  by-head : (h : HeadAnswer) → headAnswerOf (pivotingOf c) (c .ncol) (c .nb) given ≡ h → factorOf c input b ≡ afterHead h c given b
   by-head h w = past-entry c input b e ∙ ap (λ (x : HeadAnswer). afterHead x c given b) w
 
   -- refused by a step
   pub stopped-outcome : (r : Refusal) → stoppedBy r ≡ wholeOf → record { answer = turnedAway r; buffers = zeros b } ≡ factorOf c input b
   stopped-outcome r s =
-      sym (by-head (fails r) (run-stopped (c .mode) (c .limit) (c .nrow) (c .ncol) (c .nb) given (checked .head) (checked .some) r (sym s)))
+      sym (by-head (fails r) (run-stopped (pivotingOf c) (c .nrow) (c .ncol) (c .nb) given (checked .head) (checked .some) r (sym s)))
 
   module _ (t : State) (s : ended t ≡ wholeOf) where
-    reached : Reached (c .mode) (c .limit) (c .nrow) (c .ncol) (c .nb) given t
-    reached = run-ended (c .mode) (c .limit) (c .nrow) (c .ncol) (c .nb) given (checked .head) (checked .some) t (sym s)
+    reached : Reached (pivotingOf c) (c .nrow) (c .ncol) (c .nb) given t
+    reached = run-ended (pivotingOf c) (c .nrow) (c .ncol) (c .nb) given (checked .head) (checked .some) t (sym s)
 
     -- refused after the last column
     pub unsound-outcome : (r : Refusal) → resultCheck (c .ncol) (t .pivots .diagonals) (t .a) (c .ncol) 0 ≡ Refused r
         → record { answer = turnedAway r; buffers = zeros b } ≡ factorOf c input b
     unsound-outcome r h =
-        sym (by-head (fails r) (reached-answer (c .mode) (c .limit) (c .nrow) (c .ncol) (c .nb) given t reached ∙ rw h))
+        sym (by-head (fails r) (reached-answer (pivotingOf c) (c .nrow) (c .ncol) (c .nb) given t reached ∙ rw h))
 
     stands-answer : resultCheck (c .ncol) (t .pivots .diagonals) (t .a) (c .ncol) 0 ≡ Sound
-        → headAnswerOf (c .mode) (c .limit) (c .ncol) (c .nb) given ≡ stands (reached .state) (reached .panels)
-    stands-answer h = reached-answer (c .mode) (c .limit) (c .nrow) (c .ncol) (c .nb) given t reached ∙ rw h
+        → headAnswerOf (pivotingOf c) (c .ncol) (c .nb) given ≡ stands (reached .state) (reached .panels)
+    stands-answer h = reached-answer (pivotingOf c) (c .nrow) (c .ncol) (c .nb) given t reached ∙ rw h
 
   -- accepted
   pub accepted-outcome : (panel d sub amounts work : List Float) (blocks lifts order marks partners : List ℕ) (rounds : ℕ) (tally : Tally)
@@ -109,7 +109,7 @@ module _ (c : Settings) (input : List Float) (b : Buffers) (e : entryCheck c inp
       let t = between (c .nrow) panel (pivotsOf d sub blocks partners lifts amounts order) rounds in
       let w = reached t s in
       let v : Pivots = w .state .pivots in
-      let p : t .pivots ≡ v = reached-pivots (c .mode) (c .limit) (c .nrow) (c .ncol) (c .nb) given t w in
+      let p : t .pivots ≡ v = reached-pivots (pivotingOf c) (c .nrow) (c .ncol) (c .nb) given t w in
       let entries : Mat = factorEntry (c .ncol) (w .state) (w .panels) given in
       outcome-same rounds (w .state .rounds) tally (reportOf (c .ncol) (w .state) .inertia)
       panel (columnMajor (c .nrow) (c .ncol) entries)
@@ -117,9 +117,9 @@ module _ (c : Settings) (input : List Float) (b : Buffers) (e : entryCheck c inp
       work (replicate (length (b .work)) zeroF)
       blocks (tabulate (c .ncol) (v .diagonals .blocks)) lifts (tabulate (c .ncol) (v .notes .lifts)) order (tabulate (c .nrow) (v .notes .order))
       marks (tabulate (c .nrow - c .ncol) (λ i. markOf (c .ncol) (factorRowOf (c .ncol) (w .panels) (given (c .ncol + i)))))
-      (reached-rounds (c .mode) (c .limit) (c .nrow) (c .ncol) (c .nb) given t w)
+      (reached-rounds (pivotingOf c) (c .nrow) (c .ncol) (c .nb) given t w)
       (et ∙ ap (λ (q : Pivots). talliedOf (c .ncol) (q .diagonals .d) (q .diagonals .sub) (q .diagonals .blocks)) p)
-      (is-columnMajor (c .nrow) (c .ncol) entries panel lp (reached-entry (c .mode) (c .limit) (c .nrow) (c .ncol) (c .nb) given t w))
+      (is-columnMajor (c .nrow) (c .ncol) entries panel lp (reached-entry (pivotingOf c) (c .nrow) (c .ncol) (c .nb) given t w))
       (vec-tabulate (c .ncol) d (v .diagonals .d) ld (ap (λ (q : Pivots). q .diagonals .d) p))
       (vec-tabulate (c .ncol) sub (v .diagonals .sub) ls (ap (λ (q : Pivots). q .diagonals .sub) p))
       (bytes-tabulate (c .ncol) blocks (v .diagonals .blocks) lb (ap (λ (q : Pivots). q .diagonals .blocks) p))
@@ -127,7 +127,7 @@ module _ (c : Settings) (input : List Float) (b : Buffers) (e : entryCheck c inp
       (vec-tabulate (c .ncol) amounts (v .notes .amounts) la (ap (λ (q : Pivots). q .notes .amounts) p))
       (places-tabulate (c .nrow) order (v .notes .order) lo (ap (λ (q : Pivots). q .notes .order) p))
       (em ∙ tabulate-same (c .nrow - c .ncol) _ _
-      (λ i l. reached-mark (c .mode) (c .limit) (c .nrow) (c .ncol) (c .nb) given t w (c .ncol + i) (omega arith) (omega arith)))
+      (λ i l. reached-mark (pivotingOf c) (c .nrow) (c .ncol) (c .nb) given t w (c .ncol + i) (omega arith) (omega arith)))
       ew
       ∙ sym (by-head (stands (w .state) (w .panels)) (stands-answer t s h))
 

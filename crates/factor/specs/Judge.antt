@@ -8,7 +8,7 @@ use Rattle.model.specs.Scalar.{zeroF}
 use Rattle.model.specs.Matrix.{view, vec, bytes}
 use Rattle.model.specs.Step.{diagonalsOf, pivotsOf}
 use Rattle.model.specs.Inertia.{empty, talliedOf, checkBytes}
-use Rattle.model.specs.Factor.{Buffers, Outcome, start, resultCheck, zeros, entryCheck}
+use Rattle.model.specs.Factor.{pivotingOf, Buffers, Outcome, start, resultCheck, zeros, entryCheck}
 use Rattle.model.specs.Answer.{accepted, turnedAway, factoredSays}
 use Rattle.model.specs.declared.Settings.{Settings}
 use Rattle.model.specs.declared.Check as check
@@ -17,7 +17,7 @@ use Rattle.model.specs.declared.Factored.the-variants.{Accepted, Refused}
 use Rattle.scan.specs.Marks.{tailMarks}
 use Rattle.whole.specs.Whole.{wholePanelsOf}
 use Rattle.panels.specs.Turn.{between}
-use Rattle.panels.specs.Run.{runOf, RunLeaves}
+use Rattle.panels.specs.Run.{runOf}
 use Rattle.bunch_kaufman.specs.declared.Ran.{Ran}
 use Rattle.bunch_kaufman.specs.declared.Ran.the-variants.{Stopped, Done}
 
@@ -60,8 +60,7 @@ pub record Eliminated (c : Settings) (given : List Float) (r : Ran) (panel d sub
     : Type 0 where
   pub partners : List ℕ
   pub run : runOf r (between (c .nrow) panel (pivotsOf d sub blocks partners lifts amounts order))
-      ≡ wholePanelsOf (c .mode) (c .limit) (c .nrow) (c .ncol) (min (c .nb) (max (c .ncol) 1)) (c .ncol) 0 (start (c .ncol) (view (c .nrow) given))
-  pub leaves : RunLeaves (c .ncol) r (bytes blocks) (bytes partners)
+      ≡ wholePanelsOf (pivotingOf c) (c .nrow) (c .ncol) (min (c .nb) (max (c .ncol) 1)) (c .ncol) 0 (start (c .ncol) (view (c .nrow) given))
 
 -- a result to be judged: the lengths, and block bytes that are well formed
 pub record JudgePre (nrow ncol lp ld ls lm : ℕ) (blocks : List ℕ) : Type 0 where

@@ -16,10 +16,10 @@ use Rattle.model.specs.Panel.{Panel}
 use Rattle.model.specs.Head as head
 use Rattle.model.specs.Head.{State, Tried, took, tryOf, lastOf, byteOf, noted, Progress, stopped, going, after, panelOf, Run, done, closed, passed, withPanel, continued, panelsOf}
 use Rattle.model.specs.Inertia.{byteSound, bytesFrom, checkBytes}
-use Rattle.model.specs.Factor.{Outcome, start, headRunOf, HeadAnswer, fails, stands, judged, judgedRun, headAnswerOf, entryCheck, resultCheck, afterHead, afterCheck, factorOf}
+use Rattle.model.specs.Factor.{pivotingOf, Outcome, start, headRunOf, HeadAnswer, fails, stands, judged, judgedRun, headAnswerOf, entryCheck, resultCheck, afterHead, afterCheck, factorOf}
 use Rattle.model.specs.Answer.{Said, accepted, turnedAway}
 use Rattle.model.specs.Independence.{Call, PastEntry, outcomeOf}
-use Rattle.model.specs.declared.Mode.{Mode}
+use Rattle.model.specs.declared.Pivoting.{Pivoting}
 use Rattle.model.specs.declared.Pivot.{Pivot}
 use Rattle.model.specs.declared.Report.{Report}
 use Rattle.model.specs.declared.Refusal.{Refusal}
@@ -83,10 +83,10 @@ noted-kept ncol ke limit k p v h g w = record {
 }
 
 -- a panel keeps both
-pub panel-kept : (ncol ke : ℕ) (mode : Mode) (limit n k : ℕ) (s : State) → k ≤ ke → ke ≤ ncol → ke - k ≤ n → Kept ncol k (s .pivots)
-    → Reached (Kept ncol) ke (panelOf ke mode limit n k s)
-panel-kept ncol ke mode limit n k s h l f w =
-    panel-reached ke mode limit (Kept ncol) (λ j p v g x. noted-kept ncol ke limit j p v l g x) n k s h f w
+pub panel-kept : (ncol ke : ℕ) (how : Pivoting) (n k : ℕ) (s : State) → k ≤ ke → ke ≤ ncol → ke - k ≤ n → Kept ncol k (s .pivots)
+    → Reached (Kept ncol) ke (panelOf ke how n k s)
+panel-kept ncol ke how n k s h l f w =
+    panel-reached ke how (Kept ncol) (λ j p v g x. noted-kept ncol ke (how .limit) j p v l g x) n k s h f w
 
 -- where a run was done, both hold at its end
 abbrev pub AtEnd : ℕ → Run → Type 0
@@ -110,25 +110,25 @@ unfolding passed
 same-pivots ncol k p u w = w
 
 -- panels in turn keep both
-pub panels-kept : (mode : Mode) (limit ncol nb n kb : ℕ) (s : State) → 1 ≤ nb → kb ≤ ncol → ncol - kb ≤ n → Kept ncol kb (s .pivots) → AtEnd ncol (panelsOf mode limit ncol nb n kb s)
+pub panels-kept : (how : Pivoting) (ncol nb n kb : ℕ) (s : State) → 1 ≤ nb → kb ≤ ncol → ncol - kb ≤ n → Kept ncol kb (s .pivots) → AtEnd ncol (panelsOf how ncol nb n kb s)
 unfolding panelsOf
-panels-kept mode limit ncol nb zero kb s b h f w = let e : kb ≡ ncol = omega arith in subst (λ (m : ℕ). Kept ncol m (s .pivots)) e w
-panels-kept mode limit ncol nb (suc n) kb s b h f w =
+panels-kept how ncol nb zero kb s b h f w = let e : kb ≡ ncol = omega arith in subst (λ (m : ℕ). Kept ncol m (s .pivots)) e w
+panels-kept how ncol nb (suc n) kb s b h f w =
     test (ltb kb ncol)
     (λ t. let l : kb < ncol = ltb-true kb ncol t in
     let ke = min (kb + nb) ncol in
-    rw t (continued-kept ncol ke (panelOf ke mode limit (ke - kb) kb s)
-    (λ u. withPanel (closed kb ke u) (panelsOf mode limit ncol nb n ke (passed (closed kb ke u) u)))
-    (panel-kept ncol ke mode limit (ke - kb) kb s (omega arith) (omega arith) (omega arith) w)
-    (λ u kept. with-panel-kept ncol (closed kb ke u) (panelsOf mode limit ncol nb n ke (passed (closed kb ke u) u))
-    (panels-kept mode limit ncol nb n ke (passed (closed kb ke u) u) b (omega arith) (omega arith) (same-pivots ncol ke (closed kb ke u) u kept)))))
+    rw t (continued-kept ncol ke (panelOf ke how (ke - kb) kb s)
+    (λ u. withPanel (closed kb ke u) (panelsOf how ncol nb n ke (passed (closed kb ke u) u)))
+    (panel-kept ncol ke how (ke - kb) kb s (omega arith) (omega arith) (omega arith) w)
+    (λ u kept. with-panel-kept ncol (closed kb ke u) (panelsOf how ncol nb n ke (passed (closed kb ke u) u))
+    (panels-kept how ncol nb n ke (passed (closed kb ke u) u) b (omega arith) (omega arith) (same-pivots ncol ke (closed kb ke u) u kept)))))
     (λ t. let e : kb ≡ ncol = omega (arith, ltb-false kb ncol t) in rw t (subst (λ (m : ℕ). Kept ncol m (s .pivots)) e w))
 
 -- of the head's run
-pub head-kept : (mode : Mode) (limit ncol nb : ℕ) (a : Mat) → 1 ≤ nb → AtEnd ncol (headRunOf mode limit ncol nb a)
+pub head-kept : (how : Pivoting) (ncol nb : ℕ) (a : Mat) → 1 ≤ nb → AtEnd ncol (headRunOf how ncol nb a)
 unfolding headRunOf start
-head-kept mode limit ncol nb a b =
-    panels-kept mode limit ncol (min nb (max ncol 1)) ncol 0 (start ncol (headOf ncol a)) (omega arith) (omega arith) (omega arith)
+head-kept how ncol nb a b =
+    panels-kept how ncol (min nb (max ncol 1)) ncol 0 (start ncol (headOf ncol a)) (omega arith) (omega arith) (omega arith)
     (record {
       order = record { inverse = λ i. i; left = λ i. refl; right = λ i. refl; fixes = λ i h. refl };
       recorded = none-recorded _ _;
@@ -141,7 +141,7 @@ pub record Accepted (x : Call) : Type 0 where
   pub state : State
   pub panels : List Panel
   pub entry : PastEntry x
-  pub head : headAnswerOf (x .settings .mode) (x .settings .limit) (x .settings .ncol) (x .settings .nb) (view (x .settings .nrow) (x .input)) ≡ stands state panels
+  pub head : headAnswerOf (pivotingOf (x .settings)) (x .settings .ncol) (x .settings .nb) (view (x .settings .nrow) (x .input)) ≡ stands state panels
 
 -- no answer is a refusal and an acceptance
 pub refused-not : (why : Refusal) (r : Report) (a : Said Report) → a ≡ turnedAway why → a ≡ accepted r → ⊥
@@ -153,7 +153,7 @@ unfolding factorOf
 accepted-is x r e = by-check (entryCheck (x .settings) (x .input) (x .lent)) refl
   where
     headOfCall : HeadAnswer
-    headOfCall = headAnswerOf (x .settings .mode) (x .settings .limit) (x .settings .ncol) (x .settings .nb) (view (x .settings .nrow) (x .input))
+    headOfCall = headAnswerOf (pivotingOf (x .settings)) (x .settings .ncol) (x .settings .nb) (view (x .settings .nrow) (x .input))
 
     answerBy : Check → HeadAnswer → Said Report
     answerBy c h = afterCheck c (afterHead h (x .settings) (view (x .settings .nrow) (x .input)) (x .lent)) (x .lent) .answer
@@ -180,9 +180,9 @@ stands-kept ncol (done t qs) s ps w e = by-check (resultCheck ncol (t .pivots .d
 pub accepted-kept : (x : Call) (w : Accepted x) → Kept (x .settings .ncol) (x .settings .ncol) (w .state .pivots)
 unfolding headAnswerOf
 accepted-kept x w =
-    stands-kept (x .settings .ncol) (headRunOf (x .settings .mode) (x .settings .limit) (x .settings .ncol) (x .settings .nb) (view (x .settings .nrow) (x .input)))
+    stands-kept (x .settings .ncol) (headRunOf (pivotingOf (x .settings)) (x .settings .ncol) (x .settings .nb) (view (x .settings .nrow) (x .input)))
     (w .state) (w .panels)
-    (head-kept (x .settings .mode) (x .settings .limit) (x .settings .ncol) (x .settings .nb) (view (x .settings .nrow) (x .input)) (passed-entry .some)) (w .head)
+    (head-kept (pivotingOf (x .settings)) (x .settings .ncol) (x .settings .nb) (view (x .settings .nrow) (x .input)) (passed-entry .some)) (w .head)
   where
     passed-entry : Passed (x .settings) (x .input) (x .lent)
     passed-entry = entry-passed (x .settings) (x .input) (x .lent) (w .entry)

@@ -16,6 +16,7 @@ use Rattle.model.specs.Choice.{greatest, noneYet, columnGreatest, rowGre
 use Rattle.model.specs.Head.{settledOne, raisedFrom, settledTwo, barOf, liftStepOf, growthFloorOf, Tried, refusedBy, took, afterOne, afterTwo, tryBlock, tryBy, tryOf, lastOf}
 use Rattle.model.specs.Step.{blockOf, isBlock}
 use Rattle.model.specs.declared.Mode.{Mode}
+use Rattle.model.specs.declared.Pivoting.{Pivoting}
 use Rattle.model.specs.declared.Mode.the-variants.{Fail, Lift}
 use Rattle.model.specs.declared.Block.{Block}
 use Rattle.model.specs.declared.LocalRow.{LocalRow}
@@ -192,6 +193,6 @@ module _ (ke : ℕ) (a m : Mat) (limit k : ℕ) where
   by-good Fail (choice.Block q kp) h p = block-good ke (exchanged k (q .0) ke a) m limit k Fail (q .0) (kp .0) (p .0) (p .1) (p .2) (p .3)
   by-good (Lift floor) (choice.Block q kp) h p = block-good ke (exchanged k (q .0) ke a) m limit k (Lift floor) (q .0) (kp .0) (p .0) (p .1) (p .2) (p .3)
 
-pub try-good : (ke : ℕ) (a m : Mat) (mode : Mode) (limit k : ℕ) → k < ke → Good ke limit k (tryOf ke a m mode limit k)
+pub try-good : (ke : ℕ) (a m : Mat) (how : Pivoting) (k : ℕ) → k < ke → Good ke (how .limit) k (tryOf ke a m how k)
 unfolding tryOf
-try-good ke a m mode limit k h = by-good ke a m limit k mode (chooseOf a k ke) h (choose-in a k ke h)
+try-good ke a m how k h = by-good ke a m (how .limit) k (how .mode) (chooseOf a k ke) h (choose-in a k ke h)

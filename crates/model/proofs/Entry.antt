@@ -10,7 +10,7 @@ use lib.ListN.{length}
 use lib.Ieee.{Float}
 use Rattle.model.specs.Sizes.{mostColumns, mostRows, widestPanel}
 use Rattle.model.specs.Matrix.{view}
-use Rattle.model.specs.Factor.{Buffers, shapeSound, workLength, lengthsOf, lengthsSound, modeCheck, columnsCheck, settingsCheck, entryCheck, headAnswerOf, afterHead, factorOf}
+use Rattle.model.specs.Factor.{pivotingOf, Buffers, shapeSound, workLength, lengthsOf, lengthsSound, modeCheck, columnsCheck, settingsCheck, entryCheck, headAnswerOf, afterHead, factorOf}
 use Rattle.model.specs.Answer.{orElse, refuseIf}
 use Rattle.model.specs.declared.Settings.{Settings}
 use Rattle.model.specs.declared.Refusal.{Refusal}
@@ -96,6 +96,6 @@ passed c input b h =
 
 -- past the entry checks the head decides
 pub past-entry : (c : Settings) (input : List Float) (b : Buffers) → entryCheck c input b ≡ Sound
-    → factorOf c input b ≡ afterHead (headAnswerOf (c .mode) (c .limit) (c .ncol) (c .nb) (view (c .nrow) input)) c (view (c .nrow) input) b
+    → factorOf c input b ≡ afterHead (headAnswerOf (pivotingOf c) (c .ncol) (c .nb) (view (c .nrow) input)) c (view (c .nrow) input) b
 unfolding factorOf
 past-entry c input b h = rw h

@@ -12,10 +12,10 @@ use Rattle.model.specs.Scalar.{zeroF}
 use Rattle.model.specs.Matrix.{Row, Mat, view, bytes, headOf, rowOf, tabulate}
 use Rattle.model.specs.Panel.{Panel}
 use Rattle.model.specs.Head.{State}
-use Rattle.model.specs.Factor.{Buffers, Outcome, HeadAnswer, fails, stands, headRunOf, headAnswerOf, factorRowOf, markOf, factorEntry, reportOf, afterHead}
+use Rattle.model.specs.Factor.{pivotingOf, Buffers, Outcome, HeadAnswer, fails, stands, headRunOf, headAnswerOf, factorRowOf, markOf, factorEntry, reportOf, afterHead}
 use Rattle.model.specs.Answer.{accepted}
 use Rattle.model.specs.Independence.{Call, outcomeOf, Alike, SameHead, SameInput, SameTailRow, TailRowsSteerNothing}
-use Rattle.model.specs.declared.Mode.{Mode}
+use Rattle.model.specs.declared.Pivoting.{Pivoting}
 use Rattle.model.specs.declared.Refusal.{Refusal}
 use Rattle.model.proofs.Tabulated.{off-lt, getD-tabulate, view-columnMajor}
 use Rattle.model.proofs.Cases.{and-left, and-right}
@@ -41,9 +41,9 @@ unfolding rowOf
 same-row n r s h = fun-ext λ j. where-same (ltb j n) (r j) (s j) zeroF (λ t. h j (ltb-true j n t))
 
 -- the head's answer takes nothing but the head
-pub headOf-answer : (mode : Mode) (limit n nb : ℕ) (a b : Mat) → headOf n a ≡ headOf n b → headAnswerOf mode limit n nb a ≡ headAnswerOf mode limit n nb b
+pub headOf-answer : (how : Pivoting) (n nb : ℕ) (a b : Mat) → headOf n a ≡ headOf n b → headAnswerOf how n nb a ≡ headAnswerOf how n nb b
 unfolding headAnswerOf headRunOf
-headOf-answer mode limit n nb a b e = rw e
+headOf-answer how n nb a b e = rw e
 
 -- a factor row takes nothing but the n columns of its row
 pub rowOf-factor : (n : ℕ) (ps : List Panel) (r s : Row) → rowOf n r ≡ rowOf n s → factorRowOf n ps r ≡ factorRowOf n ps s
@@ -194,17 +194,19 @@ module _ (x y : Call) (px : PassedCall x) (py : PassedCall y) (cols : x .setting
 
 -- the head's answer of a call past the entry checks
 abbrev pub headOfCall : Call → HeadAnswer
-headOfCall z = headAnswerOf (z .settings .mode) (z .settings .limit) (z .settings .ncol) (z .settings .nb) (given z)
+headOfCall z = headAnswerOf (pivotingOf (z .settings)) (z .settings .ncol) (z .settings .nb) (given z)
 
--- calls that are alike have one head's answer
+-- calls that are alike steer their pivots alike, and have one head's answer
+pub same-pivoting : (x y : Call) → Alike x y → pivotingOf (x .settings) ≡ pivotingOf (y .settings)
+same-pivoting x y a = rw (a .mode, a .limit)
+
 pub same-answer : (x y : Call) → Alike x y → headOfCall x ≡ headOfCall y
 same-answer x y a =
-    headOf-answer (x .settings .mode) (x .settings .limit) (x .settings .ncol) (x .settings .nb) (given x) (given y)
+    headOf-answer (pivotingOf (x .settings)) (x .settings .ncol) (x .settings .nb) (given x) (given y)
     (same-head (x .settings .ncol) (given x) (given y) (a .head))
-    ∙ ap (λ (m : Mode). headAnswerOf m (x .settings .limit) (x .settings .ncol) (x .settings .nb) (given y)) (a .mode)
-    ∙ ap (λ (l : ℕ). headAnswerOf (y .settings .mode) l (x .settings .ncol) (x .settings .nb) (given y)) (a .limit)
-    ∙ ap (λ (n : ℕ). headAnswerOf (y .settings .mode) (y .settings .limit) n (x .settings .nb) (given y)) (a .columns)
-    ∙ ap (λ (w : ℕ). headAnswerOf (y .settings .mode) (y .settings .limit) (y .settings .ncol) w (given y)) (a .width)
+    ∙ ap (λ (p : Pivoting). headAnswerOf p (x .settings .ncol) (x .settings .nb) (given y)) (same-pivoting x y a)
+    ∙ ap (λ (n : ℕ). headAnswerOf (pivotingOf (y .settings)) n (x .settings .nb) (given y)) (a .columns)
+    ∙ ap (λ (w : ℕ). headAnswerOf (pivotingOf (y .settings)) (y .settings .ncol) w (given y)) (a .width)
 
 pub tail-rows-steer-nothing : TailRowsSteerNothing
 tail-rows-steer-nothing x y ex ey a =

@@ -9,7 +9,7 @@ use Rattle.model.specs.Matrix.{put}
 use Rattle.model.specs.Step.{Pivots, begins, pastOf, firstOf, isBlock}
 use Rattle.model.specs.Head.{State, Tried, refusedBy, took, tryOf, lastOf, byteOf, noted, Progress, stopped, going, after, panelOf}
 use Rattle.model.specs.Kept.{Paired, Starts, Ahead, Recorded}
-use Rattle.model.specs.declared.Mode.{Mode}
+use Rattle.model.specs.declared.Pivoting.{Pivoting}
 use Rattle.model.specs.declared.Pivot.{Pivot}
 use Rattle.model.proofs.Cases.{test, cmp}
 use Rattle.model.proofs.Bounds.{Good, GoodPivot, try-good}
@@ -185,21 +185,21 @@ abbrev pub Reached : (ℕ → Pivots → Type 0) → ℕ → Progress → Type 0
 Reached P ke (stopped r) = Unit {0}
 Reached P ke (going k s) = (k ≡ ke) × P ke (s .pivots)
 
-module _ (ke : ℕ) (mode : Mode) (limit : ℕ) (P : ℕ → Pivots → Type 0)
-    (step : (k : ℕ) (p : Pivots) (v : Pivot) → GoodPivot ke limit k v → P k p → P (lastOf k (isBlock (v .diagonal)) + 1) (noted p k (lastOf k (isBlock (v .diagonal))) v)) where
+module _ (ke : ℕ) (how : Pivoting) (P : ℕ → Pivots → Type 0)
+    (step : (k : ℕ) (p : Pivots) (v : Pivot) → GoodPivot ke (how .limit) k v → P k p → P (lastOf k (isBlock (v .diagonal)) + 1) (noted p k (lastOf k (isBlock (v .diagonal))) v)) where
   -- through what a step leads to: a refusal, or the next column
-  pub after-reached : (k : ℕ) (s : State) (f : ℕ → State → Progress) (t : Tried) → Good ke limit k t → P k (s .pivots)
+  pub after-reached : (k : ℕ) (s : State) (f : ℕ → State → Progress) (t : Tried) → Good ke (how .limit) k t → P k (s .pivots)
       → ((m : ℕ) (u : State) → k < m → m ≤ ke → P m (u .pivots) → Reached P ke (f m u)) → Reached P ke (after t s k f)
   after-reached k s f (refusedBy r) g w next = tt
   after-reached k s f (took v a m) g w next =
       next (lastOf k (isBlock (v .diagonal)) + 1) _ (omega (arith, last-from k (isBlock (v .diagonal)))) (omega (arith, g .last)) (step k (s .pivots) v g w)
 
   -- through a panel
-  pub panel-reached : (n k : ℕ) (s : State) → k ≤ ke → ke - k ≤ n → P k (s .pivots) → Reached P ke (panelOf ke mode limit n k s)
+  pub panel-reached : (n k : ℕ) (s : State) → k ≤ ke → ke - k ≤ n → P k (s .pivots) → Reached P ke (panelOf ke how n k s)
   unfolding panelOf
   panel-reached zero k s h f w = let e : k ≡ ke = omega arith in (e, subst (λ (m : ℕ). P m (s .pivots)) e w)
   panel-reached (suc n) k s h f w =
       test (ltb k ke)
-      (λ t. rw t (after-reached k s (panelOf ke mode limit n) (tryOf ke (s .a) (s .mult) mode limit k)
-      (try-good ke (s .a) (s .mult) mode limit k (ltb-true k ke t)) w (λ m u a b kept. panel-reached n m u b (omega arith) kept)))
+      (λ t. rw t (after-reached k s (panelOf ke how n) (tryOf ke (s .a) (s .mult) how k)
+      (try-good ke (s .a) (s .mult) how k (ltb-true k ke t)) w (λ m u a b kept. panel-reached n m u b (omega arith) kept)))
       (λ t. let e : k ≡ ke = omega (arith, ltb-false k ke t) in rw t (e, subst (λ (m : ℕ). P m (s .pivots)) e w))

@@ -16,6 +16,7 @@ use Rattle.model.specs.Inertia.{talliedOf}
 use Rattle.model.specs.Answer.{Said, accepted, orElse, refuseIf, turnedAway}
 use Rattle.model.specs.declared.Mode.{Mode}
 use Rattle.model.specs.declared.Mode.the-variants.{Fail, Lift}
+use Rattle.model.specs.declared.Pivoting.{Pivoting}
 use Rattle.model.specs.declared.Settings.{Settings}
 use Rattle.model.specs.declared.Lengths.{Lengths}
 use Rattle.model.specs.declared.Refusal.{Refusal}
@@ -112,9 +113,13 @@ start ncol a =
       rounds = 0;
     }
 
+-- what the settings say of pivots
+abbrev pub pivotingOf : Settings → Pivoting
+pivotingOf c = record { mode = c .mode; limit = c .limit }
+
 -- 'used as min(nb, max(ncol, 1))'; nothing but the head enters it
-unfoldable pub headRunOf : Mode → ℕ → ℕ → ℕ → Mat → head.Run
-headRunOf mode limit ncol nb a = head.panelsOf mode limit ncol (min nb (max ncol 1)) ncol 0 (start ncol (headOf ncol a))
+unfoldable pub headRunOf : Pivoting → ℕ → ℕ → Mat → head.Run
+headRunOf how ncol nb a = head.panelsOf how ncol (min nb (max ncol 1)) ncol 0 (start ncol (headOf ncol a))
 
 -- f at each of n places from i on
 unfoldable pub everyFrom : (ℕ → Bool) → ℕ → ℕ → Bool
@@ -154,8 +159,8 @@ abbrev pub judgedRun : ℕ → head.Run → HeadAnswer
 judgedRun ncol (head.refused r) = fails r
 judgedRun ncol (head.done s ps) = judged (resultCheck ncol (s .pivots .diagonals) (s .a) ncol 0) s ps
 
-unfoldable pub headAnswerOf : Mode → ℕ → ℕ → ℕ → Mat → HeadAnswer
-headAnswerOf mode limit ncol nb a = judgedRun ncol (headRunOf mode limit ncol nb a)
+unfoldable pub headAnswerOf : Pivoting → ℕ → ℕ → Mat → HeadAnswer
+headAnswerOf how ncol nb a = judgedRun ncol (headRunOf how ncol nb a)
 
 -- ---- the whole answer
 
@@ -220,5 +225,5 @@ afterCheck (Refused r) o b = record { answer = turnedAway r; buffers = b }
 unfoldable pub factorOf : Settings → List Float → Buffers → Outcome
 factorOf c input b =
     let a = view (c .nrow) input in
-    let o = afterHead (headAnswerOf (c .mode) (c .limit) (c .ncol) (c .nb) a) c a b in
+    let o = afterHead (headAnswerOf (pivotingOf c) (c .ncol) (c .nb) a) c a b in
     afterCheck (entryCheck c input b) o b

@@ -12,6 +12,7 @@ use Rattle.model.specs.Step.{one, two, Diagonals, Notes, Pivots, blockOf
 use Rattle.model.specs.Panel.{Panel, rowAfterPanel}
 use Rattle.model.specs.declared.Mode.{Mode}
 use Rattle.model.specs.declared.Mode.the-variants.{Fail, Lift}
+use Rattle.model.specs.declared.Pivoting.{Pivoting}
 use Rattle.model.specs.declared.Block.{Block}
 use Rattle.model.specs.declared.Diagonal.{Diagonal}
 use Rattle.model.specs.declared.Diagonal.the-variants.{One, Two}
@@ -132,8 +133,8 @@ tryBy ke a mult mode limit k (choice.Single kp) = afterOne ke a mult k (kp .0) (
 tryBy ke a mult mode limit k (choice.Block p kp) = tryBlock ke (exchanged k (p .0) ke a) mult mode limit k (p .0) (kp .0)
 
 -- the step at k
-unfoldable pub tryOf : ℕ → Mat → Mat → Mode → ℕ → ℕ → Tried
-tryOf ke a mult mode limit k = tryBy ke a mult mode limit k (chooseOf a k ke)
+unfoldable pub tryOf : ℕ → Mat → Mat → Pivoting → ℕ → Tried
+tryOf ke a mult how k = tryBy ke a mult (how .mode) (how .limit) k (chooseOf a k ke)
 
 -- ---- what is noted of a pivot
 
@@ -183,10 +184,10 @@ after (took v a m) s k f =
     f (e + 1) (record { a = a; mult = m; pivots = noted (s .pivots) k e v; rounds = s .rounds + v .rounds })
 
 -- at most n steps from column k on, up to ke
-unfoldable pub panelOf : ℕ → Mode → ℕ → ℕ → ℕ → State → Progress
-panelOf ke mode limit zero k s = going k s
-panelOf ke mode limit (suc n) k s =
-    let next = after (tryOf ke (s .a) (s .mult) mode limit k) s k (panelOf ke mode limit n) in
+unfoldable pub panelOf : ℕ → Pivoting → ℕ → ℕ → State → Progress
+panelOf ke how zero k s = going k s
+panelOf ke how (suc n) k s =
+    let next = after (tryOf ke (s .a) (s .mult) how k) s k (panelOf ke how n) in
     cond (ltb k ke) next (going k s)
 
 -- ---- panels in turn
@@ -228,11 +229,11 @@ continued (stopped r) f = refused r
 continued (going k s) f = f s
 
 -- at most n panels of width nb from column kb on
-unfoldable pub panelsOf : Mode → ℕ → ℕ → ℕ → ℕ → ℕ → State → Run
-panelsOf mode limit ncol nb zero kb s = done s []
-panelsOf mode limit ncol nb (suc n) kb s =
+unfoldable pub panelsOf : Pivoting → ℕ → ℕ → ℕ → ℕ → State → Run
+panelsOf how ncol nb zero kb s = done s []
+panelsOf how ncol nb (suc n) kb s =
     let ke = min (kb + nb) ncol in
     let more =
-    continued (panelOf ke mode limit (ke - kb) kb s)
-    (λ t. withPanel (closed kb ke t) (panelsOf mode limit ncol nb n ke (passed (closed kb ke t) t))) in
+    continued (panelOf ke how (ke - kb) kb s)
+    (λ t. withPanel (closed kb ke t) (panelsOf how ncol nb n ke (passed (closed kb ke t) t))) in
     cond (ltb kb ncol) more (done s [])

@@ -35,6 +35,13 @@ pub struct Settings {
     pub limit: usize,
 }
 
+// The settings that steer the pivots, beside the node's columns and the panel width: what a pivot below the floor meets,
+// and the rounds that a block's lift may take.
+pub struct Pivoting {
+    pub mode: Mode,
+    pub limit: usize,
+}
+
 // The lengths of a factor call's input and of the nine buffers that it writes.
 pub struct Lengths {
     pub input: usize,

@@ -15,6 +15,7 @@ use Rattle.model.specs.Head.{State, Tried, tryBy, tryOf, lastOf, noted, Progres
 use Rattle.model.specs.declared.Block.{Block}
 use Rattle.model.specs.declared.Diagonal.the-variants.{One, Two}
 use Rattle.model.specs.declared.Mode.{Mode}
+use Rattle.model.specs.declared.Pivoting.{Pivoting}
 use Rattle.model.specs.declared.Mode.the-variants.{Fail, Lift}
 use Rattle.model.specs.declared.Choice.{Choice}
 use Rattle.model.specs.declared.Choice.the-variants as choice
@@ -162,20 +163,20 @@ module _ (nrow ncol kb ke : ℕ) where
     by-alike a Fail limit (choice.Block q kp) = two-alike a (exchanged k (q .0) ke a) (q .0) (kp .0) (settledTwo Fail limit _)
     by-alike a (Lift floor) limit (choice.Block q kp) = two-alike a (exchanged k (q .0) ke a) (q .0) (kp .0) (settledTwo (Lift floor) limit _)
 
-  panel-any : (mode : Mode) (limit l k : ℕ) (a m n : Mat) (p : Pivots) (r : ℕ) → ke - k ≤ l → Kept kb ke k (p .diagonals .blocks) m n
-      → onward nrow ncol kb ke (panelOf ke mode limit l k (at a m p r)) ≡ onward nrow ncol kb ke (panelOf ke mode limit l k (at a n p r))
+  panel-any : (how : Pivoting) (l k : ℕ) (a m n : Mat) (p : Pivots) (r : ℕ) → ke - k ≤ l → Kept kb ke k (p .diagonals .blocks) m n
+      → onward nrow ncol kb ke (panelOf ke how l k (at a m p r)) ≡ onward nrow ncol kb ke (panelOf ke how l k (at a n p r))
   unfolding panelOf tryOf
-  panel-any mode limit zero k a m n p r h kept = onward-same k a m n p r (λ c b e. kept c b (omega arith))
-  panel-any mode limit (suc l) k a m n p r h kept =
+  panel-any how zero k a m n p r h kept = onward-same k a m n p r (λ c b e. kept c b (omega arith))
+  panel-any how (suc l) k a m n p r h kept =
       test (ltb k ke)
-      (λ t. rw t (by-alike k p r m n kept (panelOf ke mode limit l)
-      (λ b s x y q z w. panel-any mode limit l (lastOf k b + 1) s x y q z (omega (arith, last-from k b)) w) a mode limit (chooseOf a k ke)))
+      (λ t. rw t (by-alike k p r m n kept (panelOf ke how l)
+      (λ b s x y q z w. panel-any how l (lastOf k b + 1) s x y q z (omega (arith, last-from k b)) w) a (how .mode) (how .limit) (chooseOf a k ke)))
       (λ t. rw t (onward-same k a m n p r (λ c b e. kept c b (omega (arith, ltb-false k ke t)))))
 
 -- a panel's turn with any multipliers m in place of the state's
-pub turn-any : (mode : Mode) (limit nrow ncol kb ke : ℕ) (s : State) (m : Mat)
-    → turnOf mode limit nrow ncol kb ke s
-    ≡ turnOf mode limit nrow ncol kb ke (record { a = s .a; mult = m; pivots = s .pivots; rounds = s .rounds })
+pub turn-any : (how : Pivoting) (nrow ncol kb ke : ℕ) (s : State) (m : Mat)
+    → turnOf how nrow ncol kb ke s
+    ≡ turnOf how nrow ncol kb ke (record { a = s .a; mult = m; pivots = s .pivots; rounds = s .rounds })
 unfolding turnOf
-turn-any mode limit nrow ncol kb ke s m =
-    panel-any nrow ncol kb ke mode limit (ke - kb) kb (s .a) (s .mult) m (s .pivots) (s .rounds) (omega arith) (λ c h l. absurd (omega arith))
+turn-any how nrow ncol kb ke s m =
+    panel-any nrow ncol kb ke how (ke - kb) kb (s .a) (s .mult) m (s .pivots) (s .rounds) (omega arith) (λ c h l. absurd (omega arith))

@@ -5,7 +5,7 @@ use native.Mathlib.Omega.{arith}
 use borrow.Author.Tests.{lt-ltb, le-ltb, ltb-true}
 use lib.Dec.{ltb}
 use Rattle.model.specs.Head.{State, Progress, stopped, going, panelOf}
-use Rattle.model.specs.declared.Mode.{Mode}
+use Rattle.model.specs.declared.Pivoting.{Pivoting}
 use Rattle.model.specs.declared.Settings.{Settings}
 use Rattle.model.specs.declared.Refusal.{Refusal}
 use Rattle.model.proofs.Cases.{test}
@@ -13,14 +13,14 @@ use Rattle.whole.specs.Whole.{WholeRun, ended, wholeContinued, wholeClosed, who
 use Rattle.panels.specs.Turn.{onward, turnOf}
 use Rattle.bunch_kaufman.specs.Answers.{progress}
 use Rattle.bunch_kaufman.specs.Terms.{NotedTo, RanTo}
-use Rattle.panels.specs.Run.{runOf, RunLeaves, RunPre, TurnPre, TurnHolds}
+use Rattle.panels.specs.Run.{runOf, RunPre, TurnPre, TurnHolds}
 use Rattle.bunch_kaufman.specs.declared.Ran.{Ran}
 use Rattle.bunch_kaufman.specs.declared.Ran.the-variants.{Stopped, Done}
 
-module _ (mode : Mode) (limit nrow ncol nb : ℕ) (some : 1 ≤ nb) where
+module _ (how : Pivoting) (nrow ncol nb : ℕ) (some : 1 ≤ nb) where
   -- the run from kb on, with just the panels that are left
   abbrev pub runFrom : ℕ → State → WholeRun
-  runFrom kb s = wholePanelsOf mode limit nrow ncol nb (ncol - kb) kb s
+  runFrom kb s = wholePanelsOf how nrow ncol nb (ncol - kb) kb s
 
   continued-same : (g : Progress) (e f : State → WholeRun) → ((t : State) → e t ≡ f t) → wholeContinued g e ≡ wholeContinued g f
   continued-same (stopped r) e f h = refl
@@ -28,7 +28,7 @@ module _ (mode : Mode) (limit nrow ncol nb : ℕ) (some : 1 ≤ nb) where
 
   -- more panels than are left change nothing
   panels-fuel : (n m kb : ℕ) (s : State) → ncol - kb ≤ n → ncol - kb ≤ m
-      → wholePanelsOf mode limit nrow ncol nb n kb s ≡ wholePanelsOf mode limit nrow ncol nb m kb s
+      → wholePanelsOf how nrow ncol nb n kb s ≡ wholePanelsOf how nrow ncol nb m kb s
   unfolding wholePanelsOf
   panels-fuel zero zero kb s h l = refl
   panels-fuel zero (suc m) kb s h l = rw (le-ltb kb ncol (omega arith))
@@ -37,9 +37,9 @@ module _ (mode : Mode) (limit nrow ncol nb : ℕ) (some : 1 ≤ nb) where
       test (ltb kb ncol)
       (λ t. let b : kb < ncol = ltb-true kb ncol t in
       let ke = min (kb + nb) ncol in
-      rw t (continued-same (panelOf ke mode limit (ke - kb) kb s)
-      (λ u. wholePanelsOf mode limit nrow ncol nb n ke (wholePassed nrow ncol (wholeClosed nrow kb ke u) u))
-      (λ u. wholePanelsOf mode limit nrow ncol nb m ke (wholePassed nrow ncol (wholeClosed nrow kb ke u) u))
+      rw t (continued-same (panelOf ke how (ke - kb) kb s)
+      (λ u. wholePanelsOf how nrow ncol nb n ke (wholePassed nrow ncol (wholeClosed nrow kb ke u) u))
+      (λ u. wholePanelsOf how nrow ncol nb m ke (wholePassed nrow ncol (wholeClosed nrow kb ke u) u))
       (λ u. panels-fuel n m ke (wholePassed nrow ncol (wholeClosed nrow kb ke u) u) (omega arith) (omega arith))))
       (λ t. rw t)
 
@@ -50,23 +50,23 @@ module _ (mode : Mode) (limit nrow ncol nb : ℕ) (some : 1 ≤ nb) where
 
   -- a turn taken off the front
   run-open : (kb ke : ℕ) (s : State) → kb < ncol → ke ≡ min (kb + nb) ncol
-      → runFrom kb s ≡ wholeContinued (turnOf mode limit nrow ncol kb ke s) (λ t. runFrom ke t)
+      → runFrom kb s ≡ wholeContinued (turnOf how nrow ncol kb ke s) (λ t. runFrom ke t)
   unfolding wholePanelsOf turnOf
   run-open kb ke s h e =
       let q : ncol - kb ≡ suc (ncol - (kb + 1)) = omega arith in
       let w = min (kb + nb) ncol in
-      let steps : Progress = panelOf w mode limit (w - kb) kb s in
-      let rest : State → WholeRun = λ t. wholePanelsOf mode limit nrow ncol nb (ncol - (kb + 1)) w t in
-      ap (λ (n : ℕ). wholePanelsOf mode limit nrow ncol nb n kb s) q
+      let steps : Progress = panelOf w how (w - kb) kb s in
+      let rest : State → WholeRun = λ t. wholePanelsOf how nrow ncol nb (ncol - (kb + 1)) w t in
+      ap (λ (n : ℕ). wholePanelsOf how nrow ncol nb n kb s) q
       ∙ rw (lt-ltb kb ncol h) (turned kb w steps rest
       ∙ continued-same (onward nrow ncol kb w steps) rest (λ t. runFrom w t)
       (λ t. panels-fuel (ncol - (kb + 1)) (ncol - w) w t (omega arith) (omega arith))
-      ∙ ap (λ (z : ℕ). wholeContinued (onward nrow ncol kb z (panelOf z mode limit (z - kb) kb s)) (λ t. runFrom z t)) (sym e))
+      ∙ ap (λ (z : ℕ). wholeContinued (onward nrow ncol kb z (panelOf z how (z - kb) kb s)) (λ t. runFrom z t)) (sym e))
 
   -- the loop goes on, stops, or is done
   pub run-more : (kb ke n : ℕ) (s : State) (f : ℕ → State) (ran : Ran) (r : WholeRun)
       → runFrom kb s ≡ r → kb < ncol → ke ≡ min (kb + nb) ncol
-      → progress ran ke f ≡ turnOf mode limit nrow ncol kb ke s → ran ≡ Done n → runFrom ke (f n) ≡ r
+      → progress ran ke f ≡ turnOf how nrow ncol kb ke s → ran ≡ Done n → runFrom ke (f n) ≡ r
   unfolding progress
   run-more kb ke n s f ran r e h w u v =
       sym (ap (λ (p : Progress). wholeContinued p (λ x. runFrom ke x)) (sym u ∙ ap (λ (x : Ran). progress x ke f) v))
@@ -74,7 +74,7 @@ module _ (mode : Mode) (limit nrow ncol nb : ℕ) (some : 1 ≤ nb) where
 
   pub run-stop : (kb ke : ℕ) (s : State) (f g : ℕ → State) (ran : Ran) (x : Refusal) (r : WholeRun)
       → runFrom kb s ≡ r → kb < ncol → ke ≡ min (kb + nb) ncol
-      → progress ran ke f ≡ turnOf mode limit nrow ncol kb ke s → ran ≡ Stopped x → runOf ran g ≡ r
+      → progress ran ke f ≡ turnOf how nrow ncol kb ke s → ran ≡ Stopped x → runOf ran g ≡ r
   unfolding progress
   run-stop kb ke s f g ran x r e h w u v =
       ap (λ (y : Ran). runOf y g) v
@@ -86,9 +86,9 @@ module _ (mode : Mode) (limit nrow ncol nb : ℕ) (some : 1 ≤ nb) where
   run-done kb s r e h = let q : ncol - kb ≡ 0 = omega arith in rw q at e
 
 -- the loop begins with the whole run
-pub run-begin : (mode : Mode) (limit nrow ncol nb : ℕ) (s : State)
-    → wholePanelsOf mode limit nrow ncol nb (ncol - 0) 0 s ≡ wholePanelsOf mode limit nrow ncol nb ncol 0 s
-run-begin mode limit nrow ncol nb s = let e : ncol - 0 ≡ ncol = omega arith in rw e
+pub run-begin : (how : Pivoting) (nrow ncol nb : ℕ) (s : State)
+    → wholePanelsOf how nrow ncol nb (ncol - 0) 0 s ≡ wholePanelsOf how nrow ncol nb ncol 0 s
+run-begin how nrow ncol nb s = let e : ncol - 0 ≡ ncol = omega arith in rw e
 
 -- ---- what the loop asks
 
@@ -123,15 +123,6 @@ pub done-leaves : (kb ke rounds : ℕ) (r : Ran) (blocks partners : ℕ → ℕ)
 done-leaves kb ke rounds r blocks partners w e =
     let v = subst (λ (x : Ran). RanTo kb ke x blocks partners) e w in
     noted-more ke ke (ke + 1) rounds blocks partners (v .noted) (omega arith)
-
-pub end-leaves : (k n rounds : ℕ) (blocks partners : ℕ → ℕ) → NotedTo k (k + 1) rounds blocks partners → n ≤ k → k ≤ n
-    → NotedTo n (n + 1) rounds blocks partners
-end-leaves k n rounds blocks partners w h l =
-    let e : k ≡ n = omega arith in
-    subst (λ (m : ℕ). NotedTo m (m + 1) rounds blocks partners) e w
-
-pub stopped-leaves : (ncol : ℕ) (r : Ran) (x : Refusal) (blocks partners : ℕ → ℕ) → r ≡ Stopped x → RunLeaves ncol r blocks partners
-stopped-leaves ncol r x blocks partners e = rw e tt
 
 pub begun : (ncol nb kb ke : ℕ) → 1 ≤ nb → kb < ncol → ke ≡ min (kb + nb) ncol → kb + 1 ≤ ke
 begun ncol nb kb ke some h e = omega arith

@@ -16,7 +16,7 @@ use Rattle.model.specs.Panel.{rowDeferred}
 use Rattle.model.specs.Head.{State, going, panelOf, blank}
 use Rattle.model.specs.Factor.{workLength}
 use Rattle.model.specs.declared.Frame.{Frame}
-use Rattle.model.specs.declared.Mode.{Mode}
+use Rattle.model.specs.declared.Pivoting.{Pivoting}
 use Rattle.model.specs.declared.Refusal.{Refusal}
 use Rattle.model.proofs.Cases.{test}
 use Rattle.whole.specs.Whole.{below, wholeClosed, deferredRows, wholePassed}
@@ -51,7 +51,7 @@ square-room at len ws t = square-fits (at .nrow) (at .nb) (length ws) (t .work)
 -- ---- what the calls ask
 
 pub panel-pre : (at : Frame) (len : ℕ) (ws : List Float) → TurnPre at len (length ws)
-    → PanelPre (at .nrow) (at .ncol) (at .nb) (at .kb) (at .ke) len (length (midOf 0 (at .nb * at .nb - 0) ws))
+    → PanelPre at len (length (midOf 0 (at .nb * at .nb - 0) ws))
 panel-pre at len ws t =
     let here = t .here in
     record {
@@ -133,15 +133,15 @@ deferred-pre at len ld ls lp ws blocks partners t D s =
 -- ---- the laws of the turn
 
 -- the steps on the part w of the working buffer that is lent
-pub steps-is : (mode : Mode) (limit : ℕ) (at : Frame) (before : ℕ) (r : Ran) (a a′ w m w′ : List Float) (p p′ : Pivots)
+pub steps-is : (how : Pivoting) (at : Frame) (before : ℕ) (r : Ran) (a a′ w m w′ : List Float) (p p′ : Pivots)
     → progress r (at .ke) (state at a′ m p′)
-    ≡ panelOf (at .ke) mode limit (at .ke - at .kb) (at .kb) (state at a (midOf 0 (at .nb * at .nb - 0) w) p before)
+    ≡ panelOf (at .ke) how (at .ke - at .kb) (at .kb) (state at a (midOf 0 (at .nb * at .nb - 0) w) p before)
     → w′ ≡ m
     → progress r (at .ke) (state at a′ w′ p′)
-    ≡ panelOf (at .ke) mode limit (at .ke - at .kb) (at .kb) (state at a (take (at .nb * at .nb) w) p before)
-steps-is mode limit at before r a a′ w m w′ p p′ h e =
+    ≡ panelOf (at .ke) how (at .ke - at .kb) (at .kb) (state at a (take (at .nb * at .nb) w) p before)
+steps-is how at before r a a′ w m w′ p p′ h e =
     ap (λ (x : List Float). progress r (at .ke) (state at a′ x p′)) e ∙ h
-    ∙ ap (λ (x : List Float). panelOf (at .ke) mode limit (at .ke - at .kb) (at .kb) (state at a x p before)) (part-is (at .nb * at .nb) w)
+    ∙ ap (λ (x : List Float). panelOf (at .ke) how (at .ke - at .kb) (at .kb) (state at a x p before)) (part-is (at .nb * at .nb) w)
 
 pub rows-part : (nrow nb kb ke : ℕ) (D : Diagonals) (q : ℕ → ℕ) (a : Mat) (n : ℕ) (k : ℕ) (ws : List Float)
     → below ke nrow (rowAfterSteps D q (inPanel kb ke (view nb (midOf 0 (nb * nb - 0) ws))) ke n k) a
@@ -157,22 +157,22 @@ deferred-none nrow ncol D kb ke a e =
     (λ t. rw t (fun-ext λ c. test (leb ke c) (λ u. rw (u, le-ltb c (min (i + 1) ncol) (omega (arith, leb-true ke c u)))) (λ u. rw u)))
     (λ t. rw t)
 
-pub turn-stopped : (mode : Mode) (limit nrow ncol kb ke : ℕ) (r : Ran) (x : Refusal) (f g : ℕ → State) (s : State)
-    → progress r ke f ≡ panelOf ke mode limit (ke - kb) kb s → r ≡ Stopped x
-    → progress r ke g ≡ turnOf mode limit nrow ncol kb ke s
+pub turn-stopped : (how : Pivoting) (nrow ncol kb ke : ℕ) (r : Ran) (x : Refusal) (f g : ℕ → State) (s : State)
+    → progress r ke f ≡ panelOf ke how (ke - kb) kb s → r ≡ Stopped x
+    → progress r ke g ≡ turnOf how nrow ncol kb ke s
 unfolding turnOf progress
-turn-stopped mode limit nrow ncol kb ke r x f g s h e =
+turn-stopped how nrow ncol kb ke r x f g s h e =
     ap (λ (y : Ran). progress y ke g) e ∙ ap (onward nrow ncol kb ke) (sym (ap (λ (y : Ran). progress y ke f) e) ∙ h)
 
-pub turn-done : (mode : Mode) (limit : ℕ) (at : Frame) (rounds : ℕ) (r : Ran) (a a₂ a₃ w : List Float) (p : Pivots) (t : State)
-    → progress r (at .ke) (state at a w p) ≡ panelOf (at .ke) mode limit (at .ke - at .kb) (at .kb) t → r ≡ Done rounds
+pub turn-done : (how : Pivoting) (at : Frame) (rounds : ℕ) (r : Ran) (a a₂ a₃ w : List Float) (p : Pivots) (t : State)
+    → progress r (at .ke) (state at a w p) ≡ panelOf (at .ke) how (at .ke - at .kb) (at .kb) t → r ≡ Done rounds
     → view (at .nrow) a₂
     ≡ below (at .ke) (at .nrow) (rowAfterSteps (p .diagonals) (p .partners) (inPanel (at .kb) (at .ke) (view (at .nb) w)) (at .ke) (at .ke - at .kb) (at .kb))
     (view (at .nrow) a)
     → view (at .nrow) a₃ ≡ deferredRows (at .nrow) (at .ncol) (p .diagonals) (at .kb) (at .ke) (view (at .nrow) a₂)
-    → progress (Done rounds) (at .ke) (between (at .nrow) a₃ p) ≡ turnOf mode limit (at .nrow) (at .ncol) (at .kb) (at .ke) t
+    → progress (Done rounds) (at .ke) (between (at .nrow) a₃ p) ≡ turnOf how (at .nrow) (at .ncol) (at .kb) (at .ke) t
 unfolding turnOf wholePassed wholeClosed progress
-turn-done mode limit at rounds r a a₂ a₃ w p t h e e₂ e₃ =
+turn-done how at rounds r a a₂ a₃ w p t h e e₂ e₃ =
     ap (λ (x : Mat). going (at .ke) (record { a = x; mult = blank; pivots = p; rounds = rounds }))
     (e₃ ∙ ap (deferredRows (at .nrow) (at .ncol) (p .diagonals) (at .kb) (at .ke)) e₂)
     ∙ ap (onward (at .nrow) (at .ncol) (at .kb) (at .ke)) (sym (ap (λ (y : Ran). progress y (at .ke) (state at a w p)) e) ∙ h)

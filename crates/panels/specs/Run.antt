@@ -7,7 +7,7 @@ use Rattle.model.specs.Factor.{workLength}
 use Rattle.model.specs.declared.Frame.{Frame}
 use Rattle.model.specs.declared.Settings.{Settings}
 use Rattle.whole.specs.Whole.{WholeRun, stoppedBy, ended}
-use Rattle.bunch_kaufman.specs.Terms.{LimitPre, NotedTo}
+use Rattle.bunch_kaufman.specs.Terms.{LimitPre}
 use Rattle.bunch_kaufman.specs.declared.Ran.{Ran}
 use Rattle.bunch_kaufman.specs.declared.Ran.the-variants.{Stopped, Done}
 
@@ -15,11 +15,6 @@ use Rattle.bunch_kaufman.specs.declared.Ran.the-variants.{Stopped, Done}
 abbrev pub runOf : Ran → (ℕ → State) → WholeRun
 runOf (Stopped r) s = stoppedBy r
 runOf (Done rounds) s = ended (s rounds)
-
--- what the run leaves beside it: where it did not stop, the columns are noted to the end
-abbrev pub RunLeaves : ℕ → Ran → (ℕ → ℕ) → (ℕ → ℕ) → Type 0
-RunLeaves ncol (Stopped r) blocks partners = Unit {0}
-RunLeaves ncol (Done rounds) blocks partners = NotedTo ncol (ncol + 1) rounds blocks partners
 
 -- shape, width and limit past the entry checks; the width is the one that is used
 pub record RunPre (c : Settings) (len lenW : ℕ) : Type 0 where

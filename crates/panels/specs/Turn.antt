@@ -5,7 +5,7 @@ use lib.Ieee.{Float}
 use Rattle.model.specs.Matrix.{view}
 use Rattle.model.specs.Step.{Pivots}
 use Rattle.model.specs.Head.{State, Progress, stopped, going, panelOf, blank}
-use Rattle.model.specs.declared.Mode.{Mode}
+use Rattle.model.specs.declared.Pivoting.{Pivoting}
 use Rattle.whole.specs.Whole.{wholeClosed, wholePassed}
 
 -- the state between two panels: no multiplier is kept
@@ -17,5 +17,5 @@ abbrev pub onward : ℕ → ℕ → ℕ → ℕ → Progress → Progress
 onward nrow ncol kb ke (stopped r) = stopped r
 onward nrow ncol kb ke (going k s) = going ke (wholePassed nrow ncol (wholeClosed nrow kb ke s) s)
 
-unfoldable pub turnOf : Mode → ℕ → ℕ → ℕ → ℕ → ℕ → State → Progress
-turnOf mode limit nrow ncol kb ke s = onward nrow ncol kb ke (panelOf ke mode limit (ke - kb) kb s)
+unfoldable pub turnOf : Pivoting → ℕ → ℕ → ℕ → ℕ → State → Progress
+turnOf how nrow ncol kb ke s = onward nrow ncol kb ke (panelOf ke how (ke - kb) kb s)

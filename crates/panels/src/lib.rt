@@ -8,6 +8,7 @@ ghost use Rattle.model.specs.Sizes.{mostColumns, widestPanel};
 ghost use Rattle.model.specs.Matrix.{view, bytes};
 ghost use Rattle.model.specs.Step.{diagonalsOf, pivotsOf, rowAfterSteps};
 ghost use Rattle.model.specs.Head.{panelOf};
+ghost use Rattle.model.specs.Factor.{pivotingOf};
 ghost use Rattle.whole.specs.Whole.{below, deferredRows, wholePanelsOf};
 ghost use Rattle.eliminate.specs.Eliminate.{inPanel};
 ghost use Rattle.tail.specs.Tail.{StepsPre};
@@ -15,10 +16,10 @@ ghost use Rattle.bunch_kaufman.specs.Slices.{state};
 ghost use Rattle.bunch_kaufman.specs.Answers.{progress};
 ghost use Rattle.bunch_kaufman.specs.Terms.{LimitPre, NotedTo, RanTo};
 ghost use Rattle.panels.specs.Turn.{between, turnOf};
-ghost use Rattle.panels.specs.Run.{runOf, RunLeaves, RunPre, TurnPre, DiagonalsHold, TurnHolds};
+ghost use Rattle.panels.specs.Run.{runOf, RunPre, TurnPre, DiagonalsHold, TurnHolds};
 use bunch_kaufman::Ran;
 use model::Frame;
-use model::Mode;
+use model::Pivoting;
 use model::Settings;
 
 // Where the panel that begins at kb ends.
@@ -46,19 +47,18 @@ fn steps(
     amounts: &mut [f64],
     order: &mut [usize],
     at: Frame,
-    mode: Mode,
-    limit: usize,
+    how: Pivoting,
     before: usize,
 ) -> Ran
     requires { ⌜ TurnPre at (length (now panel)) (length (now work)) ⌝ }
     requires { ⌜ TurnHolds (at .nrow) (at .ncol) (length (now d)) (length (now sub)) (length (now blocks))
         (length (now partners)) (length (now lifts)) (length (now amounts)) (length (now order)) ⌝ }
-    requires { ⌜ LimitPre mode limit ⌝ }
+    requires { ⌜ LimitPre (how .mode) (how .limit) ⌝ }
     requires { ⌜ NotedTo (at .kb) (at .ke) before (bytes (now blocks)) (bytes (now partners)) ⌝ }
     ensures { λ r. ⌜ progress r (at .ke) (state at (now (panel .exit)) (take (at .nb * at .nb) (now (work .exit)))
         (pivotsOf (now (d .exit)) (now (sub .exit)) (now (blocks .exit)) (now (partners .exit)) (now (lifts .exit))
         (now (amounts .exit)) (now (order .exit))))
-        ≡ panelOf (at .ke) mode limit (at .ke - at .kb) (at .kb) (state at (now (panel .entry))
+        ≡ panelOf (at .ke) how (at .ke - at .kb) (at .kb) (state at (now (panel .entry))
         (take (at .nb * at .nb) (now (work .entry)))
         (pivotsOf (now (d .entry)) (now (sub .entry)) (now (blocks .entry)) (now (partners .entry))
         (now (lifts .entry)) (now (amounts .entry)) (now (order .entry))) before) ⌝ }
@@ -77,8 +77,7 @@ fn steps(
         amounts,
         order,
         at,
-        mode,
-        limit,
+        how,
         before,
     )
 }
@@ -133,17 +132,7 @@ fn later_columns(
     let nrow = at.nrow;
     let nb = at.nb;
     let size = nb * nrow;
-    deferred::deferred_update(
-        panel,
-        d,
-        sub,
-        blocks,
-        &mut work[0..size],
-        nrow,
-        ncol,
-        at.kb,
-        ke,
-    );
+    deferred::deferred_update(panel, d, sub, blocks, &mut work[0..size], at);
 }
 
 // One panel: its steps, the rows below it, the later columns.
@@ -158,19 +147,18 @@ fn turn(
     amounts: &mut [f64],
     order: &mut [usize],
     at: Frame,
-    mode: Mode,
-    limit: usize,
+    how: Pivoting,
     before: usize,
 ) -> Ran
     requires { ⌜ TurnPre at (length (now panel)) (length (now work)) ⌝ }
     requires { ⌜ TurnHolds (at .nrow) (at .ncol) (length (now d)) (length (now sub)) (length (now blocks))
         (length (now partners)) (length (now lifts)) (length (now amounts)) (length (now order)) ⌝ }
-    requires { ⌜ LimitPre mode limit ⌝ }
+    requires { ⌜ LimitPre (how .mode) (how .limit) ⌝ }
     requires { ⌜ NotedTo (at .kb) (at .ke) before (bytes (now blocks)) (bytes (now partners)) ⌝ }
     ensures { λ r. ⌜ progress r (at .ke) (between (at .nrow) (now (panel .exit))
         (pivotsOf (now (d .exit)) (now (sub .exit)) (now (blocks .exit)) (now (partners .exit)) (now (lifts .exit))
         (now (amounts .exit)) (now (order .exit))))
-        ≡ turnOf mode limit (at .nrow) (at .ncol) (at .kb) (at .ke) (between (at .nrow) (now (panel .entry))
+        ≡ turnOf how (at .nrow) (at .ncol) (at .kb) (at .ke) (between (at .nrow) (now (panel .entry))
         (pivotsOf (now (d .entry)) (now (sub .entry)) (now (blocks .entry)) (now (partners .entry))
         (now (lifts .entry)) (now (amounts .entry)) (now (order .entry))) before) ⌝ }
     ensures { λ r. ⌜ RanTo (at .kb) (at .ke) r (bytes (now (blocks .exit))) (bytes (now (partners .exit))) ⌝ }
@@ -186,8 +174,7 @@ fn turn(
         amounts,
         order,
         at,
-        mode,
-        limit,
+        how,
         before,
     );
     let Ran::Done(rounds) = ran else {
@@ -221,15 +208,18 @@ pub fn panels(
     ensures { λ r. ⌜ runOf r (between (c .nrow) (now (panel .exit))
         (pivotsOf (now (d .exit)) (now (sub .exit)) (now (blocks .exit)) (now (partners .exit)) (now (lifts .exit))
         (now (amounts .exit)) (now (order .exit))))
-        ≡ wholePanelsOf (c .mode) (c .limit) (c .nrow) (c .ncol) (c .nb) (c .ncol) 0 (between (c .nrow)
+        ≡ wholePanelsOf (pivotingOf c) (c .nrow) (c .ncol) (c .nb) (c .ncol) 0 (between (c .nrow)
         (now (panel .entry)) (pivotsOf (now (d .entry)) (now (sub .entry)) (now (blocks .entry))
         (now (partners .entry)) (now (lifts .entry)) (now (amounts .entry)) (now (order .entry))) 0) ⌝ }
-    ensures { λ r. ⌜ RunLeaves (c .ncol) r (bytes (now (blocks .exit))) (bytes (now (partners .exit))) ⌝ }
 {
     let nrow = c.nrow;
     let ncol = c.ncol;
     let nb = c.nb;
     let mode = c.mode;
+    let how = Pivoting {
+        mode,
+        limit: c.limit,
+    };
     let mut kb = 0;
     let mut rounds = 0;
     while kb < ncol {
@@ -252,8 +242,7 @@ pub fn panels(
             amounts,
             order,
             at,
-            mode,
-            c.limit,
+            how,
             rounds,
         );
         let Ran::Done(n) = ran else {

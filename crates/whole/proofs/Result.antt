@@ -13,7 +13,7 @@ use Rattle.model.specs.Step.{Diagonals}
 use Rattle.model.specs.Panel.{Panel, tailRowOf}
 use Rattle.model.specs.Head.{State, Run, refused, done}
 use Rattle.model.specs.Factor.{start, headRunOf, everyFrom, columnSound, resultCheck, fails, judged, judgedRun, headAnswerOf, factorRowOf, markOf, factorEntry}
-use Rattle.model.specs.declared.Mode.{Mode}
+use Rattle.model.specs.declared.Pivoting.{Pivoting}
 use Rattle.model.specs.declared.Refusal.{Refusal}
 use Rattle.model.specs.declared.Check.{Check}
 use Rattle.model.proofs.Cases.{test}
@@ -47,30 +47,30 @@ mark-masked c r = rw (every-alike (λ j. isFinite (rowOf c r j)) (λ j. isFinite
 -- ---- the run and the model's
 
 -- the state t at the end of a run over the matrix a
-pub record Reached (mode : Mode) (limit nrow ncol nb : ℕ) (a : Mat) (t : State) : Type 0 where
+pub record Reached (how : Pivoting) (nrow ncol nb : ℕ) (a : Mat) (t : State) : Type 0 where
   pub state : State
   pub panels : List Panel
-  pub run : headRunOf mode limit ncol nb a ≡ done state panels
+  pub run : headRunOf how ncol nb a ≡ done state panels
   pub same : cutState ncol t ≡ cutState ncol state
   pub tail : (i : ℕ) → ncol ≤ i → i < nrow → rowOf ncol (t .a i) ≡ factorRowOf ncol panels (a i)
   pub upper : (i j : ℕ) → i < j → t .a i j ≡ a i j
 
-module _ (mode : Mode) (limit nrow ncol nb : ℕ) (a : Mat) (hn : ncol ≤ nrow) (hb : 1 ≤ nb) where
+module _ (how : Pivoting) (nrow ncol nb : ℕ) (a : Mat) (hn : ncol ≤ nrow) (hb : 1 ≤ nb) where
   -- a run refusal is the head's answer
-  pub run-stopped : (why : Refusal) → wholePanelsOf mode limit nrow ncol (min nb (max ncol 1)) ncol 0 (start ncol a) ≡ stoppedBy why
-      → headAnswerOf mode limit ncol nb a ≡ fails why
+  pub run-stopped : (why : Refusal) → wholePanelsOf how nrow ncol (min nb (max ncol 1)) ncol 0 (start ncol a) ≡ stoppedBy why
+      → headAnswerOf how ncol nb a ≡ fails why
   unfolding headAnswerOf
-  run-stopped why e = ap (judgedRun ncol) (go (headRunOf mode limit ncol nb a) (sym (ap (cutRun nrow ncol) e) ∙ head-run mode limit nrow ncol nb a hn hb))
+  run-stopped why e = ap (judgedRun ncol) (go (headRunOf how ncol nb a) (sym (ap (cutRun nrow ncol) e) ∙ head-run how nrow ncol nb a hn hb))
     where
       go : (r : Run) → fell why ≡ finished nrow ncol a r → r ≡ refused why
       go (refused other) x = cc
       go (done s ps) x = cc
 
-  pub run-ended : (t : State) → wholePanelsOf mode limit nrow ncol (min nb (max ncol 1)) ncol 0 (start ncol a) ≡ ended t → Reached mode limit nrow ncol nb a t
+  pub run-ended : (t : State) → wholePanelsOf how nrow ncol (min nb (max ncol 1)) ncol 0 (start ncol a) ≡ ended t → Reached how nrow ncol nb a t
   unfolding tailRows factorRowOf
-  run-ended t e = go (headRunOf mode limit ncol nb a) refl (sym (ap (cutRun nrow ncol) e) ∙ head-run mode limit nrow ncol nb a hn hb)
+  run-ended t e = go (headRunOf how ncol nb a) refl (sym (ap (cutRun nrow ncol) e) ∙ head-run how nrow ncol nb a hn hb)
     where
-      go : (r : Run) → headRunOf mode limit ncol nb a ≡ r → cutRun nrow ncol (ended t) ≡ finished nrow ncol a r → Reached mode limit nrow ncol nb a t
+      go : (r : Run) → headRunOf how ncol nb a ≡ r → cutRun nrow ncol (ended t) ≡ finished nrow ncol a r → Reached how nrow ncol nb a t
       go (refused other) h x = absurd (let z : _≡_ {A = ℕ} 0 1 = cc in omega arith)
       go (done s ps) h x =
           let tails : tailRows nrow ncol (λ r. r) (t .a) ≡ tailRows nrow ncol (tailRowOf ncol ps) a = cc in
@@ -80,12 +80,12 @@ module _ (mode : Mode) (limit nrow ncol nb : ℕ) (a : Mat) (hn : ncol ≤ nrow)
             run = h;
             same = cc;
             tail = λ i l m. rw (within-in ncol nrow i l m) at (ap (λ (b : Mat). b i) tails);
-            upper = λ i j l. head-run-kept mode limit nrow ncol nb a t hn hb e i j (inl l);
+            upper = λ i j l. head-run-kept how nrow ncol nb a t hn hb e i j (inl l);
           }
 
 -- ---- the numbers of the answer
 
-module _ (mode : Mode) (limit nrow ncol nb : ℕ) (a : Mat) (t : State) (w : Reached mode limit nrow ncol nb a t) where
+module _ (how : Pivoting) (nrow ncol nb : ℕ) (a : Mat) (t : State) (w : Reached how nrow ncol nb a t) where
   pub reached-pivots : t .pivots ≡ w .state .pivots
   unfolding cutState
   reached-pivots = ap (λ (s : State). s .pivots) (w .same)
@@ -102,7 +102,7 @@ module _ (mode : Mode) (limit nrow ncol nb : ℕ) (a : Mat) (t : State) (w : Rea
       ∙ check-masked ncol (w .state .pivots .diagonals) (w .state .a) ncol 0
 
   -- the head's answer: the result check's refusal, or that it stands
-  pub reached-answer : headAnswerOf mode limit ncol nb a ≡ judged (resultCheck ncol (t .pivots .diagonals) (t .a) ncol 0) (w .state) (w .panels)
+  pub reached-answer : headAnswerOf how ncol nb a ≡ judged (resultCheck ncol (t .pivots .diagonals) (t .a) ncol 0) (w .state) (w .panels)
   unfolding headAnswerOf
   reached-answer = ap (judgedRun ncol) (w .run) ∙ ap (λ (c : Check). judged c (w .state) (w .panels)) (sym reached-check)
 

@@ -10,7 +10,7 @@ use Rattle.model.specs.Matrix.{Row, Mat, headOf, rowOf}
 use Rattle.model.specs.Panel.{rowAfterPanel, tailRowOf}
 use Rattle.model.specs.Head.{State, Progress, stopped, going, panelOf, Run, refused, done, closed, withPanel, continued, panelsOf}
 use Rattle.model.specs.Factor.{start, headRunOf}
-use Rattle.model.specs.declared.Mode.{Mode}
+use Rattle.model.specs.declared.Pivoting.{Pivoting}
 use Rattle.model.proofs.Cases.{test}
 use Rattle.whole.specs.Whole.{wholePassed, WholeRun, wholeContinued, wholePanelsOf, cutState, cutProgress, stood, tailRows, cutRun, finished}
 use Rattle.whole.proofs.Masked.{ranged, head-twice}
@@ -52,7 +52,7 @@ cut-twice c s = λ i. record { a = head-twice c (s .a) i; mult = s .mult; pivots
 
 -- ---- the panels in turn
 
-module _ (mode : Mode) (limit nrow ncol nb : ℕ) (hn : ncol ≤ nrow) (hb : 1 ≤ nb) where
+module _ (how : Pivoting) (nrow ncol nb : ℕ) (hn : ncol ≤ nrow) (hb : 1 ≤ nb) where
   -- with a panel in front the tail rows go through it first
   panel-first : (kb ke : ℕ) (s t : State) (b : Mat) → PivotsInside ke (t .pivots) → ke ≤ ncol → headOf ncol (t .a) ≡ headOf ncol b → Kept ke s t → (r : Run)
       → finished nrow ncol (wholeNext nrow ncol kb ke t .a) r ≡ finished nrow ncol (s .a) (withPanel (closed kb ke (withHead t b)) r)
@@ -68,20 +68,20 @@ module _ (mode : Mode) (limit nrow ncol nb : ℕ) (hn : ncol ≤ nrow) (hb : 1 �
   -- what two runs over n panels from kb on have in common
   abbrev Alike : ℕ → ℕ → Type 0
   Alike n kb = (s u : State) → cutState ncol s ≡ cutState ncol u → PivotsInside (kb + 1) (s .pivots)
-      → cutRun nrow ncol (wholePanelsOf mode limit nrow ncol nb n kb s) ≡ finished nrow ncol (s .a) (panelsOf mode limit ncol nb n kb u)
+      → cutRun nrow ncol (wholePanelsOf how nrow ncol nb n kb s) ≡ finished nrow ncol (s .a) (panelsOf how ncol nb n kb u)
 
   panel-then : (n kb ke : ℕ) → Alike n ke → ke ≤ ncol → (s t u : State) → cutState ncol t ≡ cutState ncol u → PivotsInside ke (t .pivots) → Kept ke s t
-      → cutRun nrow ncol (wholePanelsOf mode limit nrow ncol nb n ke (wholeNext nrow ncol kb ke t))
-      ≡ finished nrow ncol (s .a) (withPanel (closed kb ke u) (panelsOf mode limit ncol nb n ke (headNext kb ke u)))
+      → cutRun nrow ncol (wholePanelsOf how nrow ncol nb n ke (wholeNext nrow ncol kb ke t))
+      ≡ finished nrow ncol (s .a) (withPanel (closed kb ke u) (panelsOf how ncol nb n ke (headNext kb ke u)))
   unfolding wholePassed
   panel-then n kb ke rest hk s t u e w p =
       let h = head-of ncol t u e in
       let v = withHead t (u .a) in
-      subst (λ (x : State). cutRun nrow ncol (wholePanelsOf mode limit nrow ncol nb n ke (wholeNext nrow ncol kb ke t))
-      ≡ finished nrow ncol (s .a) (withPanel (closed kb ke x) (panelsOf mode limit ncol nb n ke (headNext kb ke x)))) (only-head ncol t u e)
+      subst (λ (x : State). cutRun nrow ncol (wholePanelsOf how nrow ncol nb n ke (wholeNext nrow ncol kb ke t))
+      ≡ finished nrow ncol (s .a) (withPanel (closed kb ke x) (panelsOf how ncol nb n ke (headNext kb ke x)))) (only-head ncol t u e)
       (rest (wholeNext nrow ncol kb ke t) (headNext kb ke v) (state-passed nrow ncol kb ke t (u .a) w hk hn h)
       (inside-more ke (ke + 1) _ _ (omega arith) w)
-      ∙ panel-first kb ke s t (u .a) w hk h p (panelsOf mode limit ncol nb n ke (headNext kb ke v)))
+      ∙ panel-first kb ke s t (u .a) w hk h p (panelsOf how ncol nb n ke (headNext kb ke v)))
 
   pub run-alike : (n kb : ℕ) → Alike n kb
   unfolding wholePanelsOf panelsOf tailRowOf
@@ -91,18 +91,18 @@ module _ (mode : Mode) (limit nrow ncol nb : ℕ) (hn : ncol ≤ nrow) (hb : 1 �
       test (ltb kb ncol)
       (λ t. let h : kb < ncol = ltb-true kb ncol t in
       rw t (continued-alike nrow ncol (s .a) (λ z. PivotsInside ke (z .pivots)) (Kept ke s)
-      (λ z. wholePanelsOf mode limit nrow ncol nb n ke (wholeNext nrow ncol kb ke z))
-      (λ z. withPanel (closed kb ke z) (panelsOf mode limit ncol nb n ke (headNext kb ke z)))
-      (panel-then n kb ke (run-alike n ke) (omega arith) s) (panelOf ke mode limit (ke - kb) kb s) (panelOf ke mode limit (ke - kb) kb u)
-      (sym (panel-masked ncol ke mode limit (ke - kb) kb s (omega arith)) ∙ ap (λ (z : State). panelOf ke mode limit (ke - kb) kb z) e
-      ∙ panel-masked ncol ke mode limit (ke - kb) kb u (omega arith))
-      (panel-inside ke mode limit (ke - kb) kb s (inside-more (kb + 1) ke _ _ (omega arith) w))
-      (panel-keeps ke mode limit (ke - kb) kb s)))
+      (λ z. wholePanelsOf how nrow ncol nb n ke (wholeNext nrow ncol kb ke z))
+      (λ z. withPanel (closed kb ke z) (panelsOf how ncol nb n ke (headNext kb ke z)))
+      (panel-then n kb ke (run-alike n ke) (omega arith) s) (panelOf ke how (ke - kb) kb s) (panelOf ke how (ke - kb) kb u)
+      (sym (panel-masked ncol ke how (ke - kb) kb s (omega arith)) ∙ ap (λ (z : State). panelOf ke how (ke - kb) kb z) e
+      ∙ panel-masked ncol ke how (ke - kb) kb u (omega arith))
+      (panel-inside ke how (ke - kb) kb s (inside-more (kb + 1) ke _ _ (omega arith) w))
+      (panel-keeps ke how (ke - kb) kb s)))
       (λ t. rw t (ap (λ (z : State). stood z (tailRows nrow ncol (λ r. r) (s .a))) e))
 
   -- the run of the head, as the state before it shows it
   pub run-masked : (n kb : ℕ) (s : State) → PivotsInside (kb + 1) (s .pivots)
-      → cutRun nrow ncol (wholePanelsOf mode limit nrow ncol nb n kb s) ≡ finished nrow ncol (s .a) (panelsOf mode limit ncol nb n kb (cutState ncol s))
+      → cutRun nrow ncol (wholePanelsOf how nrow ncol nb n kb s) ≡ finished nrow ncol (s .a) (panelsOf how ncol nb n kb (cutState ncol s))
   run-masked n kb s w = run-alike n kb s (cutState ncol s) (sym (cut-twice ncol s)) w
 
 -- ---- the whole call
@@ -111,9 +111,9 @@ start-masked : (ncol : ℕ) (a : Mat) → cutState ncol (start ncol a) ≡ start
 unfolding cutState start
 start-masked ncol a = refl
 
-pub head-run : (mode : Mode) (limit nrow ncol nb : ℕ) (a : Mat) → ncol ≤ nrow → 1 ≤ nb
-    → cutRun nrow ncol (wholePanelsOf mode limit nrow ncol (min nb (max ncol 1)) ncol 0 (start ncol a)) ≡ finished nrow ncol a (headRunOf mode limit ncol nb a)
+pub head-run : (how : Pivoting) (nrow ncol nb : ℕ) (a : Mat) → ncol ≤ nrow → 1 ≤ nb
+    → cutRun nrow ncol (wholePanelsOf how nrow ncol (min nb (max ncol 1)) ncol 0 (start ncol a)) ≡ finished nrow ncol a (headRunOf how ncol nb a)
 unfolding headRunOf start
-head-run mode limit nrow ncol nb a hn hb =
-    run-masked mode limit nrow ncol (min nb (max ncol 1)) hn (omega arith) ncol 0 (start ncol a) (start-inside ncol a)
-    ∙ ap (λ (s : State). finished nrow ncol a (panelsOf mode limit ncol (min nb (max ncol 1)) ncol 0 s)) (start-masked ncol a)
+head-run how nrow ncol nb a hn hb =
+    run-masked how nrow ncol (min nb (max ncol 1)) hn (omega arith) ncol 0 (start ncol a) (start-inside ncol a)
+    ∙ ap (λ (s : State). finished nrow ncol a (panelsOf how ncol (min nb (max ncol 1)) ncol 0 s)) (start-masked ncol a)

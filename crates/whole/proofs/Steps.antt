@@ -14,6 +14,7 @@ use Rattle.model.specs.Head.{settledOne, settledTwo, afterOne, afterTwo, tryBlo
 use Rattle.model.specs.Head.{State, Tried, refusedBy, took, lastOf, byteOf, noted, Progress, stopped, going, after, panelOf}
 use Rattle.model.specs.Factor.{start}
 use Rattle.model.specs.declared.Mode.{Mode}
+use Rattle.model.specs.declared.Pivoting.{Pivoting}
 use Rattle.model.specs.declared.Mode.the-variants.{Fail, Lift}
 use Rattle.model.specs.declared.Pivot.{Pivot}
 use Rattle.model.specs.declared.Choice.{Choice}
@@ -40,21 +41,21 @@ module _ (c : ℕ) (s : State) (k : ℕ) (f : ℕ → State → Progress) (h : (
   after-masked (refusedBy r) = refl
   after-masked (took v a m) = h (lastOf k (isBlock (v .diagonal)) + 1) (stepped s k v a m)
 
-  step-masked : (ke : ℕ) (mode : Mode) (limit : ℕ) → ke ≤ c → k < ke
-      → after (tryOf ke (cutState c s .a) (cutState c s .mult) mode limit k) (cutState c s) k f
-      ≡ cutProgress c (after (tryOf ke (s .a) (s .mult) mode limit k) s k f)
+  step-masked : (ke : ℕ) (how : Pivoting) → ke ≤ c → k < ke
+      → after (tryOf ke (cutState c s .a) (cutState c s .mult) how k) (cutState c s) k f
+      ≡ cutProgress c (after (tryOf ke (s .a) (s .mult) how k) s k f)
   unfolding cutState
-  step-masked ke mode limit hc hk =
-      ap (λ (t : Tried). after t (cutState c s) k f) (try-masked c ke (s .a) (s .mult) hc mode limit k hk)
-      ∙ after-masked (tryOf ke (s .a) (s .mult) mode limit k)
+  step-masked ke how hc hk =
+      ap (λ (t : Tried). after t (cutState c s) k f) (try-masked c ke (s .a) (s .mult) hc how k hk)
+      ∙ after-masked (tryOf ke (s .a) (s .mult) how k)
 
-pub panel-masked : (c ke : ℕ) (mode : Mode) (limit n k : ℕ) (s : State) → ke ≤ c
-    → panelOf ke mode limit n k (cutState c s) ≡ cutProgress c (panelOf ke mode limit n k s)
+pub panel-masked : (c ke : ℕ) (how : Pivoting) (n k : ℕ) (s : State) → ke ≤ c
+    → panelOf ke how n k (cutState c s) ≡ cutProgress c (panelOf ke how n k s)
 unfolding panelOf
-panel-masked c ke mode limit zero k s hc = refl
-panel-masked c ke mode limit (suc n) k s hc =
+panel-masked c ke how zero k s hc = refl
+panel-masked c ke how (suc n) k s hc =
     test (ltb k ke)
-    (λ t. rw t (step-masked c s k (panelOf ke mode limit n) (λ j u. panel-masked c ke mode limit n j u hc) ke mode limit hc (ltb-true k ke t)))
+    (λ t. rw t (step-masked c s k (panelOf ke how n) (λ j u. panel-masked c ke how n j u hc) ke how hc (ltb-true k ke t)))
     (λ t. rw t)
 
 -- ---- what every step keeps, the panel keeps
@@ -64,19 +65,19 @@ abbrev pub Went : (State → Type 0) → Progress → Type 0
 Went P (stopped r) = Unit {0}
 Went P (going k s) = P s
 
-module _ (ke : ℕ) (mode : Mode) (limit : ℕ) (P : State → Type 0)
-    (step : (s : State) (k : ℕ) (v : Pivot) (a m : Mat) → k < ke → tryOf ke (s .a) (s .mult) mode limit k ≡ took v a m → P s → P (stepped s k v a m)) where
+module _ (ke : ℕ) (how : Pivoting) (P : State → Type 0)
+    (step : (s : State) (k : ℕ) (v : Pivot) (a m : Mat) → k < ke → tryOf ke (s .a) (s .mult) how k ≡ took v a m → P s → P (stepped s k v a m)) where
   after-went : (s : State) (k : ℕ) (f : ℕ → State → Progress) → ((j : ℕ) (u : State) → P u → Went P (f j u)) → k < ke → P s
-      → (t : Tried) → tryOf ke (s .a) (s .mult) mode limit k ≡ t → Went P (after t s k f)
+      → (t : Tried) → tryOf ke (s .a) (s .mult) how k ≡ t → Went P (after t s k f)
   after-went s k f h hk p (refusedBy r) e = tt
   after-went s k f h hk p (took v a m) e = h (lastOf k (isBlock (v .diagonal)) + 1) (stepped s k v a m) (step s k v a m hk e p)
 
-  pub panel-went : (n k : ℕ) (s : State) → P s → Went P (panelOf ke mode limit n k s)
+  pub panel-went : (n k : ℕ) (s : State) → P s → Went P (panelOf ke how n k s)
   unfolding panelOf
   panel-went zero k s p = p
   panel-went (suc n) k s p =
       test (ltb k ke)
-      (λ t. rw t (after-went s k (panelOf ke mode limit n) (panel-went n) (ltb-true k ke t) p (tryOf ke (s .a) (s .mult) mode limit k) refl))
+      (λ t. rw t (after-went s k (panelOf ke how n) (panel-went n) (ltb-true k ke t) p (tryOf ke (s .a) (s .mult) how k) refl))
       (λ t. rw t p)
 
 -- ---- the positions that no step of a panel touches
@@ -124,18 +125,18 @@ module _ (ke : ℕ) (a m : Mat) where
   by-keeps Fail limit k (choice.Block p kp) hk = block-keeps Fail limit k (p .0) (kp .0)
   by-keeps (Lift floor) limit k (choice.Block p kp) hk = block-keeps (Lift floor) limit k (p .0) (kp .0)
 
-  pub try-keeps : (mode : Mode) (limit k : ℕ) → k < ke → Keeps ke a (tryOf ke a m mode limit k)
+  pub try-keeps : (how : Pivoting) (k : ℕ) → k < ke → Keeps ke a (tryOf ke a m how k)
   unfolding tryOf
-  try-keeps mode limit k hk = by-keeps mode limit k (chooseOf a k ke) hk
+  try-keeps how k hk = by-keeps (how .mode) (how .limit) k (chooseOf a k ke) hk
 
 -- t has kept what s had there
 abbrev pub Kept : ℕ → State → State → Type 0
 Kept ke s t = (i j : ℕ) → Untouched ke i j → t .a i j ≡ s .a i j
 
-pub panel-keeps : (ke : ℕ) (mode : Mode) (limit n k : ℕ) (s : State) → Went (Kept ke s) (panelOf ke mode limit n k s)
-panel-keeps ke mode limit n k s =
-    panel-went ke mode limit (Kept ke s)
-    (λ t k v a m hk e p i j u. subst (λ (o : Tried). Keeps ke (t .a) o) e (try-keeps ke (t .a) (t .mult) mode limit k hk) i j u ∙ p i j u) n k s (λ i j u. refl)
+pub panel-keeps : (ke : ℕ) (how : Pivoting) (n k : ℕ) (s : State) → Went (Kept ke s) (panelOf ke how n k s)
+panel-keeps ke how n k s =
+    panel-went ke how (Kept ke s)
+    (λ t k v a m hk e p i j u. subst (λ (o : Tried). Keeps ke (t .a) o) e (try-keeps ke (t .a) (t .mult) how k hk) i j u ∙ p i j u) n k s (λ i j u. refl)
 
 -- ---- what is noted
 
@@ -177,8 +178,8 @@ noted-inside ke limit k p v g w =
           (λ u. rw u (w .pair j))));
     }
 
-pub panel-inside : (ke : ℕ) (mode : Mode) (limit n k : ℕ) (s : State) → PivotsInside ke (s .pivots) → Went (λ t. PivotsInside ke (t .pivots)) (panelOf ke mode limit n k s)
-panel-inside ke mode limit n k s w =
-    panel-went ke mode limit (λ t. PivotsInside ke (t .pivots))
-    (λ t k v a m hk e p. let g : GoodPivot ke limit k v = subst (λ (o : Tried). Good ke limit k o) e (try-good ke (t .a) (t .mult) mode limit k hk) in
-    noted-inside ke limit k (t .pivots) v g p) n k s w
+pub panel-inside : (ke : ℕ) (how : Pivoting) (n k : ℕ) (s : State) → PivotsInside ke (s .pivots) → Went (λ t. PivotsInside ke (t .pivots)) (panelOf ke how n k s)
+panel-inside ke how n k s w =
+    panel-went ke how (λ t. PivotsInside ke (t .pivots))
+    (λ t k v a m hk e p. let g : GoodPivot ke (how .limit) k v = subst (λ (o : Tried). Good ke (how .limit) k o) e (try-good ke (t .a) (t .mult) how k hk) in
+    noted-inside ke (how .limit) k (t .pivots) v g p) n k s w

@@ -7,6 +7,7 @@ use Rattle.model.specs.Choice.{greatest, columnGreatest, rowGreatest, noneYet, 
 use Rattle.model.specs.Step.{blockOf}
 use Rattle.model.specs.Head.{settledOne, settledTwo, afterOne, afterTwo, tryBlock, tryBy, tryOf}
 use Rattle.model.specs.declared.Mode.{Mode}
+use Rattle.model.specs.declared.Pivoting.{Pivoting}
 use Rattle.model.specs.declared.Mode.the-variants.{Fail, Lift}
 use Rattle.model.specs.declared.Block.{Block}
 use Rattle.model.specs.declared.Greatest.{Greatest}
@@ -97,6 +98,6 @@ module _ (c ke : ℕ) (a m : Mat) (hc : ke ≤ c) where
   tried-by (Lift floor) limit k (choice.Block q kp) hk p = pair-tried (Lift floor) limit k (q .0) (kp .0) (omega (arith, p .0, p .1)) (p .1) (p .3)
 
   -- the cut goes through a step
-  pub try-masked : (mode : Mode) (limit k : ℕ) → k < ke → tryOf ke (headOf c a) m mode limit k ≡ cutTried c (tryOf ke a m mode limit k)
+  pub try-masked : (how : Pivoting) (k : ℕ) → k < ke → tryOf ke (headOf c a) m how k ≡ cutTried c (tryOf ke a m how k)
   unfolding tryOf
-  try-masked mode limit k hk = rw (choose-masked c a k ke hk hc) (tried-by mode limit k (chooseOf a k ke) hk (choose-in a k ke hk))
+  try-masked how k hk = rw (choose-masked c a k ke hk hc) (tried-by (how .mode) (how .limit) k (chooseOf a k ke) hk (choose-in a k ke hk))

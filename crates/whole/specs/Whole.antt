@@ -8,7 +8,7 @@ use Rattle.model.specs.Matrix.{Row, Mat, headOf, rowOf, within}
 use Rattle.model.specs.Step.{Diagonals, rowAfterSteps}
 use Rattle.model.specs.Panel.{Panel, rowDeferred, tailRowOf}
 use Rattle.model.specs.Head.{State, Tried, refusedBy, took, Progress, stopped, going, panelOf, Run, refused, done, blank}
-use Rattle.model.specs.declared.Mode.{Mode}
+use Rattle.model.specs.declared.Pivoting.{Pivoting}
 use Rattle.model.specs.declared.Refusal.{Refusal}
 
 -- ---- rows below a panel
@@ -51,13 +51,13 @@ wholeContinued (stopped r) f = stoppedBy r
 wholeContinued (going k s) f = f s
 
 -- at most n panels of width nb from column kb on
-unfoldable pub wholePanelsOf : Mode → ℕ → ℕ → ℕ → ℕ → ℕ → ℕ → State → WholeRun
-wholePanelsOf mode limit nrow ncol nb zero kb s = ended s
-wholePanelsOf mode limit nrow ncol nb (suc n) kb s =
+unfoldable pub wholePanelsOf : Pivoting → ℕ → ℕ → ℕ → ℕ → ℕ → State → WholeRun
+wholePanelsOf how nrow ncol nb zero kb s = ended s
+wholePanelsOf how nrow ncol nb (suc n) kb s =
     let ke = min (kb + nb) ncol in
     let more =
-    wholeContinued (panelOf ke mode limit (ke - kb) kb s)
-    (λ t. wholePanelsOf mode limit nrow ncol nb n ke (wholePassed nrow ncol (wholeClosed nrow kb ke t) t)) in
+    wholeContinued (panelOf ke how (ke - kb) kb s)
+    (λ t. wholePanelsOf how nrow ncol nb n ke (wholePassed nrow ncol (wholeClosed nrow kb ke t) t)) in
     cond (ltb kb ncol) more (ended s)
 
 -- ---- cut to the head and the tail rows

@@ -14,18 +14,18 @@ use Rattle.bunch_kaufman.proofs.ll_bk_panel_step.Statement.{statement}
 use Rattle.bunch_kaufman.proofs.ll_bk_panel_step.Tie as tie
 
 abbrev Inv-loop : tie.InvT-loop
-Inv-loop panel₀ mult₀ d₀ sub₀ blocks₀ partners₀ lifts₀ amounts₀ order₀ at mode limit before ke k₀ rounds₀
+Inv-loop panel₀ mult₀ d₀ sub₀ blocks₀ partners₀ lifts₀ amounts₀ order₀ at how before ke k₀ rounds₀
     panel mult d sub blocks partners lifts amounts order k rounds =
     (at .ke ≤ mostColumns) × (at .kb ≤ k) × (k ≤ at .ke) × (rounds ≤ mostRounds * k)
     × (length panel ≡ length panel₀) × (length mult ≡ length mult₀) × (length d ≡ length d₀) × (length sub ≡ length sub₀)
     × (length blocks ≡ length blocks₀) × (length partners ≡ length partners₀) × (length lifts ≡ length lifts₀)
     × (length amounts ≡ length amounts₀) × (length order ≡ length order₀)
-    × (panelOf (at .ke) mode limit (at .ke - k) k (state at panel mult (pivotsOf d sub blocks partners lifts amounts order) rounds)
-    ≡ panelOf (at .ke) mode limit (at .ke - at .kb) (at .kb)
+    × (panelOf (at .ke) how (at .ke - k) k (state at panel mult (pivotsOf d sub blocks partners lifts amounts order) rounds)
+    ≡ panelOf (at .ke) how (at .ke - at .kb) (at .kb)
     (state at panel₀ mult₀ (pivotsOf d₀ sub₀ blocks₀ partners₀ lifts₀ amounts₀ order₀) before))
 
 abbrev μ-loop : tie.MeasureT-loop
-μ-loop panel₀ mult₀ d₀ sub₀ blocks₀ partners₀ lifts₀ amounts₀ order₀ at mode limit before ke k₀ rounds₀
+μ-loop panel₀ mult₀ d₀ sub₀ blocks₀ partners₀ lifts₀ amounts₀ order₀ at how before ke k₀ rounds₀
     panel mult d sub blocks partners lifts amounts order k rounds =
     at .ke - k
 
@@ -126,7 +126,7 @@ loop-again c =
       note .kept .1 .1 .1 .1 .0 ∙ inv .10,
       note .kept .1 .1 .1 .1 .1 .0 ∙ inv .11,
       note .kept .1 .1 .1 .1 .1 .1 .0 ∙ inv .12,
-      panel-step _ _ _ _ _ _ _ _ _ _ _ _ (inv .13) (inside .loop-test .taken) (step .ensures .0) told e (note .ensures),
+      panel-step _ _ _ _ _ _ _ _ _ _ _ (inv .13) (inside .loop-test .taken) (step .ensures .0) told e (note .ensures),
     )
 
 same-length-10 : tie.Need-same-length-10 Inv-loop μ-loop
@@ -161,7 +161,7 @@ returns-2 c =
     let head = c .before in
     let inv = head .loop .inv in
     let start = head .before .before .before .before .before .before .before .before .before .before in
-    (search panel-end, notes-end _ _ _ _ _ _ _ _ (start .pre .1 .1 .1) (start .pre .0 .here) (inv .13) (c .loop-test .left) (inv .2) (inv .3))
+    (search panel-end, notes-end _ _ _ _ _ _ _ (start .pre .1 .1 .1) (start .pre .0 .here) (inv .13) (c .loop-test .left) (inv .2) (inv .3))
 
 pub ll-bk-panel-step-spec : {M : Type 1} → statement M
 ll-bk-panel-step-spec =

@@ -6,20 +6,16 @@ use borrow.Author.Needs.{needs}
 use Rattle.model.specs.Matrix.{view}
 use Rattle.deferred.specs.Sums.{partDeferred}
 use Rattle.deferred.proofs.Columns.{columns-still, rows-none, rows-step, rows-end}
-use borrow.Author.Needs.{needs}
 use Rattle.deferred.proofs.defer_columns.Statement.{statement}
 use Rattle.deferred.proofs.defer_columns.Tie as tie
 
 abbrev Inv-loop : tie.InvT-loop
-Inv-loop panel₀ g nrow ncol kb ke nb at lo₀ panel lo =
-    (ke ≤ lo) × (lo ≤ nrow) × (length panel ≡ length panel₀)
-    × (view nrow panel ≡ partDeferred (view nrow panel₀) (view nrow g) kb (ke - kb) ke ncol ke lo)
+Inv-loop panel₀ g at nrow lo₀ panel lo =
+    (at .ke ≤ lo) × (lo ≤ at .nrow) × (length panel ≡ length panel₀)
+    × (view (at .nrow) panel ≡ partDeferred (view (at .nrow) panel₀) (view (at .nrow) g) (at .kb) (at .ke - at .kb) (at .ke) (at .ncol) (at .ke) lo)
 
 abbrev μ-loop : tie.MeasureT-loop
-μ-loop panel₀ g nrow ncol kb ke nb at lo₀ panel lo = nrow - lo
-
-sub-nb : tie.Need-sub-nb Inv-loop μ-loop
-sub-nb c = search needs
+μ-loop panel₀ g at nrow lo₀ panel lo = at .nrow - lo
 
 loop-holds : tie.Need-loop-holds Inv-loop μ-loop
 loop-holds c = (search needs, search needs, search needs, search rows-none)
@@ -54,7 +50,6 @@ defer-columns-spec =
     (tie.spec
     Inv-loop
     μ-loop
-    sub-nb
     loop-holds
     sub-smaller
     smaller-requires

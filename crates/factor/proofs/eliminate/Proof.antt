@@ -5,7 +5,7 @@ use lib.ListN.{length}
 use borrow.Author.Needs.{needs}
 use Rattle.model.specs.Matrix.{view}
 use Rattle.model.specs.Step.{pivotsOf}
-use Rattle.model.specs.Factor.{Buffers, start}
+use Rattle.model.specs.Factor.{pivotingOf, Buffers, start}
 use Rattle.whole.specs.Whole.{WholeRun}
 use Rattle.finish.specs.Buffers.{buffersOf}
 use Rattle.panels.specs.Turn.{between}
@@ -114,13 +114,12 @@ returns c =
     let s = a .c in
     record {
       partners = p .panels .last .1 .1 .1 .1 .1 .0;
-      run = run-is (s .mode) (s .limit) (s .nrow) (s .ncol) (sized p .width .result) (min (s .nb) (max (s .ncol) 1)) (made p) _
+      run = run-is (pivotingOf s) (s .nrow) (s .ncol) (sized p .width .result) (min (s .nb) (max (s .ncol) 1)) (made p) _
           (start (s .ncol) (view (s .nrow) (a .input .now))) (sized p .width .ensures)
           (start-is s (a .input .now) (lent e) (l .1 .0) (l .1 .1 .0) (l .1 .1 .1 .0) (l .1 .1 .1 .1 .1 .1 .0) (l .1 .1 .1 .1 .0)
           (l .1 .1 .1 .1 .1 .0) (l .1 .1 .1 .1 .1 .1 .1 .0) _ (e .pre) (b .begin .ensures) (kept .1 .1 .0) (kept .1 .1 .1 .0)
           (kept .1 .1 .1 .1 .1 .1 .0) refl)
-          (p .panels .ensures .0);
-      leaves = p .panels .ensures .1;
+          (p .panels .ensures);
     }
 
 pub eliminate-spec : {M : Type 1} → statement M

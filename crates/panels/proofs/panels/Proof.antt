@@ -7,18 +7,19 @@ use borrow.Author.Needs.{needs}
 use Rattle.model.specs.Matrix.{bytes}
 use Rattle.model.specs.Step.{pivotsOf}
 use Rattle.model.specs.Head.{State}
+use Rattle.model.specs.Factor.{pivotingOf}
 use Rattle.whole.specs.Whole.{WholeRun, wholePanelsOf}
 use Rattle.panels.specs.Turn.{between}
 use Rattle.bunch_kaufman.specs.Terms.{NotedTo}
 use Rattle.panels.proofs.Turns.{run-begin, run-more, run-stop, run-done, turn-pre, holds-same, noted-more}
-use Rattle.panels.proofs.Turns.{done-leaves, end-leaves, stopped-leaves, begun, further, inside}
+use Rattle.panels.proofs.Turns.{done-leaves, begun, further, inside}
 use Rattle.panels.proofs.panels.Statement.{statement}
 use Rattle.panels.proofs.panels.Tie as tie
 
 abbrev Inv-loop : tie.InvT-loop
-Inv-loop panel₀ work₀ d₀ sub₀ blocks₀ partners₀ lifts₀ amounts₀ order₀ c nrow ncol nb mode kb₀ rounds₀
+Inv-loop panel₀ work₀ d₀ sub₀ blocks₀ partners₀ lifts₀ amounts₀ order₀ nrow ncol nb how kb₀ rounds₀
     panel work d sub blocks partners lifts amounts order kb rounds =
-    (kb ≤ c .ncol)
+    (kb ≤ ncol)
     × (length panel ≡ length panel₀)
     × (length work ≡ length work₀)
     × (length d ≡ length d₀)
@@ -28,16 +29,14 @@ Inv-loop panel₀ work₀ d₀ sub₀ blocks₀ partners₀ lifts₀ amounts₀ 
     × (length lifts ≡ length lifts₀)
     × (length amounts ≡ length amounts₀)
     × (length order ≡ length order₀)
-    × (wholePanelsOf (c .mode) (c .limit) (c .nrow) (c .ncol) (c .nb) (c .ncol - kb) kb
-    (between (c .nrow) panel (pivotsOf d sub blocks partners lifts amounts order) rounds)
-    ≡ wholePanelsOf (c .mode) (c .limit) (c .nrow) (c .ncol) (c .nb) (c .ncol) 0
-    (between (c .nrow) panel₀ (pivotsOf d₀ sub₀ blocks₀ partners₀ lifts₀ amounts₀ order₀) 0))
+    × (wholePanelsOf how nrow ncol nb (ncol - kb) kb (between nrow panel (pivotsOf d sub blocks partners lifts amounts order) rounds)
+    ≡ wholePanelsOf how nrow ncol nb ncol 0 (between nrow panel₀ (pivotsOf d₀ sub₀ blocks₀ partners₀ lifts₀ amounts₀ order₀) 0))
     × NotedTo kb (kb + 1) rounds (bytes blocks) (bytes partners)
 
 abbrev μ-loop : tie.MeasureT-loop
-μ-loop panel₀ work₀ d₀ sub₀ blocks₀ partners₀ lifts₀ amounts₀ order₀ c nrow ncol nb mode kb₀ rounds₀
+μ-loop panel₀ work₀ d₀ sub₀ blocks₀ partners₀ lifts₀ amounts₀ order₀ nrow ncol nb how kb₀ rounds₀
     panel work d sub blocks partners lifts amounts order kb rounds =
-    c .ncol - kb
+    ncol - kb
 
 -- ---- the places that a need looks back to
 
@@ -73,7 +72,7 @@ given s =
     (pivotsOf (a .d .now) (a .sub .now) (a .blocks .now) (a .partners .now) (a .lifts .now) (a .amounts .now) (a .order .now)) 0
 
 abbrev whole : tie.Start Inv-loop μ-loop → WholeRun
-whole s = let c = s .args .c in wholePanelsOf (c .mode) (c .limit) (c .nrow) (c .ncol) (c .nb) (c .ncol) 0 (given s)
+whole s = let c = s .args .c in wholePanelsOf (pivotingOf c) (c .nrow) (c .ncol) (c .nb) (c .ncol) 0 (given s)
 
 -- at the loop's head
 abbrev held : tie.At-loop Inv-loop μ-loop → State
@@ -113,7 +112,7 @@ loop-holds c =
       refl,
       refl,
       refl,
-      run-begin (a .c .mode) (a .c .limit) (a .c .nrow) (a .c .ncol) (a .c .nb) (given start),
+      run-begin (pivotingOf (a .c)) (a .c .nrow) (a .c .ncol) (a .c .nb) (given start),
       start .pre .1 .1,
     )
 
@@ -173,11 +172,9 @@ returns c =
     let l = looped p .loop in
     let start = entry (looped p) in
     let a = start .args in
-    let told = c .enum-told .given .1 in (
-      run-stop (a .c .mode) (a .c .limit) (a .c .nrow) (a .c .ncol) (a .c .nb) (start .pre .0 .some) (l .kb) (p .panel-end .result) (held (looped p)) (left t)
-          (left t) (t .turn .result) _ (whole start) (l .inv .10) (p .before .loop-test .taken) (p .panel-end .ensures) (t .turn .ensures .0) told,
-      stopped-leaves (a .c .ncol) (t .turn .result) _ (blocks-left t) (partners-left t) told,
-    )
+    run-stop (pivotingOf (a .c)) (a .c .nrow) (a .c .ncol) (a .c .nb) (start .pre .0 .some) (l .kb) (p .panel-end .result) (held (looped p)) (left t)
+    (left t) (t .turn .result) _ (whole start) (l .inv .10) (p .before .loop-test .taken) (p .panel-end .ensures) (t .turn .ensures .0)
+    (c .enum-told .given .1)
 
 loop-less : tie.Need-loop-less Inv-loop μ-loop
 loop-less c =
@@ -204,7 +201,7 @@ loop-again c =
       kept .1 .1 .1 .1 .1 .1 .0 ∙ inv .7,
       kept .1 .1 .1 .1 .1 .1 .1 .0 ∙ inv .8,
       kept .1 .1 .1 .1 .1 .1 .1 .1 .0 ∙ inv .9,
-      run-more (a .c .mode) (a .c .limit) (a .c .nrow) (a .c .ncol) (a .c .nb) (start .pre .0 .some) (l .kb) (p .panel-end .result) _ (held (looped p)) (left t)
+      run-more (pivotingOf (a .c)) (a .c .nrow) (a .c .ncol) (a .c .nb) (start .pre .0 .some) (l .kb) (p .panel-end .result) _ (held (looped p)) (left t)
           (t .turn .result) (whole start) (inv .10) (p .before .loop-test .taken) (p .panel-end .ensures) (t .turn .ensures .0) told,
       done-leaves (l .kb) (p .panel-end .result) _ (t .turn .result) (blocks-left t) (partners-left t) (t .turn .ensures .1) told,
     )
@@ -241,11 +238,8 @@ returns-2 c =
     let head = c .before in
     let start = entry head in
     let a = start .args in
-    let inv = head .loop .inv in (
-      run-done (a .c .mode) (a .c .limit) (a .c .nrow) (a .c .ncol) (a .c .nb) (start .pre .0 .some) (head .loop .kb) (held head) (whole start) (inv .10)
-          (c .loop-test .left),
-      end-leaves _ _ _ _ _ (inv .11) (c .loop-test .left) (inv .0),
-    )
+    run-done (pivotingOf (a .c)) (a .c .nrow) (a .c .ncol) (a .c .nb) (start .pre .0 .some) (head .loop .kb) (held head) (whole start)
+    (head .loop .inv .10) (c .loop-test .left)
 
 pub panels-spec : {M : Type 1} → statement M
 panels-spec =

@@ -91,7 +91,7 @@ returns c =
     let s = called c in
     let a = entry s .args in
     let l = s .ll-bk-panel-step .last in (
-      steps-is (a .mode) (a .limit) (a .at) (a .before) (s .ll-bk-panel-step .result) (a .panel .now) (l .0) (lent s) (l .1 .0) (take (square s) (back s))
+      steps-is (a .how) (a .at) (a .before) (s .ll-bk-panel-step .result) (a .panel .now) (l .0) (lent s) (l .1 .0) (take (square s) (back s))
           (pivotsOf (a .d .now) (a .sub .now) (a .blocks .now) (a .partners .now) (a .lifts .now) (a .amounts .now) (a .order .now))
           (pivotsOf (l .1 .1 .0) (l .1 .1 .1 .0) (l .1 .1 .1 .1 .0) (l .1 .1 .1 .1 .1 .0) (l .1 .1 .1 .1 .1 .1 .0) (l .1 .1 .1 .1 .1 .1 .1 .0)
           (l .1 .1 .1 .1 .1 .1 .1 .1 .0))

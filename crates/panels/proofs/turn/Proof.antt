@@ -114,9 +114,9 @@ noted g =
 
 -- those multipliers are not read
 forgotten : (c : tie.Start) → let at = c .args .at in
-    turnOf (c .args .mode) (c .args .limit) (at .nrow) (at .ncol) (at .kb) (at .ke) (given c)
-    ≡ turnOf (c .args .mode) (c .args .limit) (at .nrow) (at .ncol) (at .kb) (at .ke) (cleared c)
-forgotten c = let at = c .args .at in turn-any (c .args .mode) (c .args .limit) (at .nrow) (at .ncol) (at .kb) (at .ke) (given c) blank
+    turnOf (c .args .how) (at .nrow) (at .ncol) (at .kb) (at .ke) (given c)
+    ≡ turnOf (c .args .how) (at .nrow) (at .ncol) (at .kb) (at .ke) (cleared c)
+forgotten c = let at = c .args .at in turn-any (c .args .how) (at .nrow) (at .ncol) (at .kb) (at .ke) (given c) blank
 
 -- ---- the needs
 
@@ -160,7 +160,7 @@ returns : tie.Need-returns
 returns c =
     let s = refused c in
     let a = entry s .args in (
-      turn-stopped (a .mode) (a .limit) (a .at .nrow) (a .at .ncol) (a .at .kb) (a .at .ke) (s .steps .result) _ (reached s) (shown s) (given (entry s))
+      turn-stopped (a .how) (a .at .nrow) (a .at .ncol) (a .at .kb) (a .at .ke) (s .steps .result) _ (reached s) (shown s) (given (entry s))
           (s .steps .ensures .0) (c .enum-told .given .1)
           ∙ forgotten (entry s),
       s .steps .ensures .1,
@@ -213,7 +213,7 @@ returns-2 c =
     let told = went r .ran .given .1 in
     let s = first c in
     let a = entry s .args in (
-      turn-done (a .mode) (a .limit) (a .at) _ (s .steps .result) (s .steps .last .0) (r .rows-below .last .0) (l .later-columns .last .0) (kept-part s)
+      turn-done (a .how) (a .at) _ (s .steps .result) (s .steps .last .0) (r .rows-below .last .0) (l .later-columns .last .0) (kept-part s)
           (pivots-left s) (given (entry s)) (s .steps .ensures .0) told (r .rows-below .ensures) (l .later-columns .ensures)
           ∙ forgotten (entry s),
       leaves-done (a .at .kb) (a .at .ke) _ (s .steps .result) (bytes (blocks-left s)) (bytes (partners-left s)) (s .steps .ensures .1) told,

@@ -4,8 +4,8 @@ use Rattle.bunch_kaufman.proofs.Taking.{two-pre, pair-stop, pair-rounds
 use Rattle.bunch_kaufman.proofs.step.pair.Statement.{statement}
 use Rattle.bunch_kaufman.proofs.step.pair.Tie as tie
 
-add-t21 : tie.Need-add-t21
-add-t21 c = search needs
+add-t17 : tie.Need-add-t17
+add-t17 c = search needs
 
 exchange-if-requires : tie.Need-exchange-if-requires
 exchange-if-requires c κs = search needs
@@ -28,7 +28,7 @@ enum-known-settled c = search needs
 head-two-requires : tie.Need-head-two-requires
 head-two-requires c κs =
     let start = c .before .before .before .before .before .before .before .before .before .before .before .before .before .before .before in
-    two-pre _ _ _ _ _ _ _ _ _ _ (start .pre) (search needs)
+    two-pre _ _ _ _ _ _ (start .pre) (search needs)
 
 same-length : tie.Need-same-length
 same-length c = search needs
@@ -61,7 +61,7 @@ pub pair-spec : {M : Type 1} → statement M
 pair-spec =
     tie.close
     (tie.spec
-    add-t21
+    add-t17
     exchange-if-requires
     block-at-requires
     settle-two-requires

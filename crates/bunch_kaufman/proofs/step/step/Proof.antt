@@ -21,8 +21,8 @@ single-requires c κs =
     let start : tie.Start = search in
     let chosen : tie.After-choose = search in
     let made : tie.After-by-mode = search in
-    single-pre _ _ _ _ _ _ _ _ _ _ (start .pre .0) (c .before .before .before .choice .given .1)
-    (within-mode _ (start .args .mode) (start .args .k) (chosen .choose .result) _ (start .pre .0 .last) (chosen .choose .ensures .1) (made .by-mode .ensures))
+    single-pre _ _ _ _ _ _ (start .pre .0) (c .before .before .before .choice .given .1)
+    (within-mode _ (start .args .how .mode) (start .args .k) (chosen .choose .result) _ (start .pre .0 .last) (chosen .choose .ensures .1) (made .by-mode .ensures))
 
 enum-known-choice-2 : tie.Need-enum-known-choice-2
 enum-known-choice-2 c = search needs
@@ -32,8 +32,8 @@ moved-pair-requires c κs =
     let start : tie.Start = search in
     let chosen : tie.After-choose = search in
     let made : tie.After-by-mode = search in
-    pair-pre _ _ _ _ _ _ _ _ _ _ _ (start .pre .0) (c .before .before .before .choice2 .given .1)
-    (within-mode _ (start .args .mode) (start .args .k) (chosen .choose .result) _ (start .pre .0 .last) (chosen .choose .ensures .1) (made .by-mode .ensures))
+    pair-pre _ _ _ _ _ _ _ (start .pre .0) (c .before .before .before .choice2 .given .1)
+    (within-mode _ (start .args .how .mode) (start .args .k) (chosen .choose .result) _ (start .pre .0 .last) (chosen .choose .ensures .1) (made .by-mode .ensures))
 
 same-length : tie.Need-same-length
 same-length c = search needs
@@ -44,7 +44,7 @@ returns c =
     let chosen : tie.After-choose = search in
     let made : tie.After-by-mode = search in
     let told : tie.After-enum-told = search in
-    step-zero _ _ _ _ _ _ _ _ _ _ (start .pre .0 .last) (start .pre .1) (chosen .choose .ensures .0) (made .by-mode .ensures) (told .enum-told .given .1)
+    step-zero _ _ _ _ _ _ _ _ _ (start .pre .0 .last) (start .pre .1) (chosen .choose .ensures .0) (made .by-mode .ensures) (told .enum-told .given .1)
 
 same-length-2 : tie.Need-same-length-2
 same-length-2 c = search needs
@@ -59,7 +59,7 @@ returns-2 c =
     let made : tie.After-by-mode = search in
     let told = c .before .before .before .before .before .before .before .before in
     let done : tie.After-single = search in
-    step-single _ _ _ _ _ _ _ _ _ _ (start .pre .0 .last) (start .pre .1) (chosen .choose .ensures .0) (made .by-mode .ensures) _ _ (told .choice .given .1)
+    step-single _ _ _ _ _ _ _ _ _ (start .pre .0 .last) (start .pre .1) (chosen .choose .ensures .0) (made .by-mode .ensures) _ _ (told .choice .given .1)
     (done .single .ensures)
 
 same-length-4 : tie.Need-same-length-4
@@ -75,7 +75,7 @@ returns-3 c =
     let made : tie.After-by-mode = search in
     let told = c .before .before .before .before .before .before .before .before in
     let done : tie.After-moved-pair = search in
-    step-pair _ _ _ _ _ _ _ _ _ _ (start .pre .0 .last) (start .pre .1) (chosen .choose .ensures .0) (made .by-mode .ensures) _ _ _ (told .choice2 .given .1)
+    step-pair _ _ _ _ _ _ _ _ _ (start .pre .0 .last) (start .pre .1) (chosen .choose .ensures .0) (made .by-mode .ensures) _ _ _ (told .choice2 .given .1)
     (done .moved-pair .ensures)
 
 pub step-spec : {M : Type 1} → statement M
