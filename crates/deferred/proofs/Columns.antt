@@ -11,7 +11,7 @@ use lib.Dec.{ltb, leb}
 use lib.Ieee.{Float}
 use lib.ListN.{length}
 use Rattle.model.specs.Scalar.{_⊕_, _⊖_, _⊗_, zeroF}
-use Rattle.model.specs.Matrix.{Row, Mat, view, vec, within, withColumn, withPart}
+use Rattle.model.specs.Matrix.{Row, Mat, columnStart, view, vec, within, withColumn, withPart}
 use Rattle.model.specs.Step.{Diagonals}
 use Rattle.model.specs.Panel.{timesD, sumFrom, accOf, rowDeferred}
 use Rattle.grid.specs.Rules.{columnOf, behind, zeroed, lessEach}
@@ -35,17 +35,17 @@ sum-same f g (suc n) c e x h =
 -- ---- one column less its sums
 
 -- the column's part is lent, and the part of the sums from `from` on
-pub lose-lent : (n : ℕ) (xs ys zs : List Float) (j lo hi from : ℕ) → from ≡ max lo j → n + j * n ≤ length xs → lo ≤ hi → j ≤ hi → hi ≤ n
-    → length ys ≡ length (midOf (from + j * n) (hi + j * n - (from + j * n)) xs)
-    → vec ys ≡ withPart (vec (midOf (from + j * n) (hi + j * n - (from + j * n)) xs)) 0 (hi - from)
-    (lessEach (vec (midOf (from + j * n) (hi + j * n - (from + j * n)) xs)) (vec (midOf (from - lo) (hi - lo - (from - lo)) zs)))
-    → view n (putMid (from + j * n) (hi + j * n - (from + j * n)) xs ys)
+pub lose-lent : (n : ℕ) (xs ys zs : List Float) (j s lo hi from : ℕ) → s ≡ columnStart n j → from ≡ max lo j → n + j * n ≤ length xs → lo ≤ hi → j ≤ hi → hi ≤ n
+    → length ys ≡ length (midOf (from + s) (hi + s - (from + s)) xs)
+    → vec ys ≡ withPart (vec (midOf (from + s) (hi + s - (from + s)) xs)) 0 (hi - from)
+    (lessEach (vec (midOf (from + s) (hi + s - (from + s)) xs)) (vec (midOf (from - lo) (hi - lo - (from - lo)) zs)))
+    → view n (putMid (from + s) (hi + s - (from + s)) xs ys)
     ≡ withColumn (view n xs) j (max lo j) hi (lessEach (columnOf (view n xs) j) (behind lo (vec zs)))
 unfolding lessEach columnOf behind
-lose-lent n xs ys zs j lo hi from start room u d h ly e =
-    column-lent n xs ys j from hi _ _ _ (omega arith) (omega arith) h ly e
+lose-lent n xs ys zs j s lo hi from at start room u d h ly e =
+    column-lent n xs ys j s from hi _ _ _ at (omega arith) (omega arith) h ly e
     (λ t g. rw (
-      column-at n xs j from hi t h g,
+      column-at n xs j s from hi t at h g,
       vec-part (from - lo) (hi - lo) zs t (omega arith),
       ap (vec zs) {x = from - lo + t} {y = from + t - lo} (omega arith),
     ))

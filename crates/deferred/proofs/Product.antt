@@ -3,14 +3,14 @@ use Prim.Native.Nat.{ℕ, _+_, _-_, _*_, _<_, _≤_}
 use mathlib.Core.Path.{_≡_, refl, sym, _∙_, ap, fun-ext}
 use mathlib.Core.Bool.{Bool, true, false, false≢true}
 use mathlib.Core.List.{List}
-use lib.Dec.{ltb, eqb}
+use lib.Dec.{ltb}
 use lib.ListN.{length, getD}
 use lib.Ieee.{Float, nan}
 use native.Mathlib.Nat.{add-mul, mul-le-mul-right, le-antisymm}
 use native.Mathlib.Omega.{arith}
 use borrow.Author.Tests.{lt-ltb, le-ltb, eq-eqb, ne-eqb, ltb-true}
 use borrow.Rule.Slice.PartMut.{midOf, putMid}
-use Rattle.model.specs.Matrix.{Row, Mat, view, vec, bytes, withColumn, withPart}
+use Rattle.model.specs.Matrix.{Row, Mat, columnStart, view, vec, bytes, withColumn, withPart}
 use Rattle.model.specs.Step.{Diagonals, diagonalsOf, endsBlock}
 use Rattle.model.specs.Panel.{timesD}
 use Rattle.grid.specs.Rules.{columnOf, times, blended}
@@ -20,31 +20,24 @@ use Rattle.deferred.specs.Products.{columnProduct, withProducts, BlendPr
 
 -- ---- a column of g, lent
 
--- what is lent of rows lo up to n of the column after k
-next-at : (n : ℕ) (xs : List Float) (k lo s : ℕ) → s < n - lo
-    → vec (midOf (lo + k * n + n) (n + k * n + n - (lo + k * n + n)) xs) s ≡ view n xs (lo + s) (k + 1)
-next-at n xs k lo s g =
-    let a : lo + k * n + n ≡ lo + (k + 1) * n = omega (arith, add-mul k 1 n) in
-    let b : n + k * n + n ≡ n + (k + 1) * n = omega (arith, add-mul k 1 n) in
-    rw (a, b) (column-at n xs (k + 1) lo n s (omega arith) g)
-
-pub scale-lent : (n : ℕ) (gs hs xs : List Float) (t k lo : ℕ) (r : Float) → lo ≤ n → n + t * n ≤ length gs
-    → length hs ≡ length (midOf (lo + t * n) (n + t * n - (lo + t * n)) gs)
-    → vec hs ≡ withPart (vec (midOf (lo + t * n) (n + t * n - (lo + t * n)) gs)) 0 (n - lo) (times (vec (midOf (lo + k * n) (n + k * n - (lo + k * n)) xs)) r)
-    → view n (putMid (lo + t * n) (n + t * n - (lo + t * n)) gs hs) ≡ withColumn (view n gs) t lo n (times (columnOf (view n xs) k) r)
+-- s is where its column begins, u and v where the panel's do
+pub scale-lent : (n : ℕ) (gs hs xs : List Float) (t k lo s u : ℕ) (r : Float) → s ≡ columnStart n t → u ≡ columnStart n k → lo ≤ n → n + t * n ≤ length gs
+    → length hs ≡ length (midOf (lo + s) (n + s - (lo + s)) gs)
+    → vec hs ≡ withPart (vec (midOf (lo + s) (n + s - (lo + s)) gs)) 0 (n - lo) (times (vec (midOf (lo + u) (n + u - (lo + u)) xs)) r)
+    → view n (putMid (lo + s) (n + s - (lo + s)) gs hs) ≡ withColumn (view n gs) t lo n (times (columnOf (view n xs) k) r)
 unfolding times columnOf
-scale-lent n gs hs xs t k lo r h out l e =
-    column-lent n gs hs t lo n _ _ _ out h (omega arith) l e (λ s g. rw (column-at n xs k lo n s (omega arith) g))
+scale-lent n gs hs xs t k lo s u r own source h out l e =
+    column-lent n gs hs t s lo n _ _ _ own out h (omega arith) l e (λ i g. rw (column-at n xs k u lo n i source (omega arith) g))
 
-pub blend-lent : (n : ℕ) (gs hs xs : List Float) (t k lo : ℕ) (p q : Float) → lo ≤ n → n + t * n ≤ length gs
-    → length hs ≡ length (midOf (lo + t * n) (n + t * n - (lo + t * n)) gs)
-    → vec hs ≡ withPart (vec (midOf (lo + t * n) (n + t * n - (lo + t * n)) gs)) 0 (n - lo)
-    (blended (vec (midOf (lo + k * n) (n + k * n - (lo + k * n)) xs)) (vec (midOf (lo + k * n + n) (n + k * n + n - (lo + k * n + n)) xs)) p q)
-    → view n (putMid (lo + t * n) (n + t * n - (lo + t * n)) gs hs)
-    ≡ withColumn (view n gs) t lo n (blended (columnOf (view n xs) k) (columnOf (view n xs) (k + 1)) p q)
+pub blend-lent : (n : ℕ) (gs hs xs : List Float) (t k j lo s u v : ℕ) (p q : Float) → s ≡ columnStart n t → u ≡ columnStart n k → v ≡ columnStart n j → lo ≤ n
+    → n + t * n ≤ length gs → length hs ≡ length (midOf (lo + s) (n + s - (lo + s)) gs)
+    → vec hs ≡ withPart (vec (midOf (lo + s) (n + s - (lo + s)) gs)) 0 (n - lo)
+    (blended (vec (midOf (lo + u) (n + u - (lo + u)) xs)) (vec (midOf (lo + v) (n + v - (lo + v)) xs)) p q)
+    → view n (putMid (lo + s) (n + s - (lo + s)) gs hs) ≡ withColumn (view n gs) t lo n (blended (columnOf (view n xs) k) (columnOf (view n xs) j) p q)
 unfolding blended columnOf
-blend-lent n gs hs xs t k lo p q h out l e =
-    column-lent n gs hs t lo n _ _ _ out h (omega arith) l e (λ s g. rw (column-at n xs k lo n s (omega arith) g, next-at n xs k lo s g))
+blend-lent n gs hs xs t k j lo s u v p q own source other h out l e =
+    column-lent n gs hs t s lo n _ _ _ own out h (omega arith) l e
+    (λ i g. rw (column-at n xs k u lo n i source (omega arith) g, column-at n xs j v lo n i other (omega arith) g))
 
 -- ---- L·D of one column
 
@@ -60,27 +53,25 @@ module _ (G P a : Mat) (ds ss : List Float) (bs : List ℕ) (t lo n k : ℕ) whe
   product-first h e = e ∙ ap (λ (N : Row). withColumn G t lo n N) (fun-ext λ i. rw (eq-eqb (getD bs k 0) 1 h))
 
   pub product-second : (b : Bool) → (getD bs k 0 ≡ 1 → ⊥) → b ≡ endsBlock (bytes bs) k → b ≡ true
-      → P ≡ withColumn G t lo n (blended (columnOf a (k - 1)) (columnOf a (k - 1 + 1)) (getD ss (k - 1) nan) (getD ds k nan))
+      → P ≡ withColumn G t lo n (blended (columnOf a (k - 1)) (columnOf a k) (getD ss (k - 1) nan) (getD ds k nan))
       → P ≡ withColumn G t lo n (columnProduct (diagonalsOf ds ss bs) a k)
   unfolding columnProduct timesD blended columnOf vec bytes
-  product-second b h f g e =
-      let s : k - 1 + 1 ≡ k = omega (arith, ends-after (bytes bs) k b f g) in
-      e ∙ ap (λ (N : Row). withColumn G t lo n N) (fun-ext λ i. rw (s, ne-eqb (getD bs k 0) 1 h, sym f ∙ g))
+  product-second b h f g e = e ∙ ap (λ (N : Row). withColumn G t lo n N) (fun-ext λ i. rw (ne-eqb (getD bs k 0) 1 h, sym f ∙ g))
 
   pub product-plain : (b : Bool) → (getD bs k 0 ≡ 1 → ⊥) → b ≡ endsBlock (bytes bs) k → b ≡ false
       → P ≡ withColumn G t lo n (times (columnOf a k) (getD ds k nan)) → P ≡ withColumn G t lo n (columnProduct (diagonalsOf ds ss bs) a k)
   unfolding columnProduct timesD times columnOf vec bytes
   product-plain b h f g e = e ∙ ap (λ (N : Row). withColumn G t lo n N) (fun-ext λ i. rw (ne-eqb (getD bs k 0) 1 h, sym f ∙ g))
 
-pub first-pre : (n t k lo glen len dlen slen : ℕ) (bs : List ℕ) → ProductPre n t k lo glen len dlen slen bs → getD bs k 0 ≡ 1 → BlendPre n t k lo glen len
-first-pre n t k lo glen len dlen slen bs h e = record { rows = h .rows; out = h .out; next = h .block e }
+pub first-pre : (n t k lo glen len dlen slen : ℕ) (bs : List ℕ) → ProductPre n t k lo glen len dlen slen bs → getD bs k 0 ≡ 1
+    → BlendPre n t k (k + 1) lo glen len
+first-pre n t k lo glen len dlen slen bs h e =
+    record { rows = h .rows; out = h .out; column = h .column; other = omega (arith, h .block e, add-mul k 1 n) }
 
-pub second-pre : (n t k lo glen len : ℕ) (f : ℕ → ℕ) (b : Bool) → b ≡ endsBlock f k → b ≡ true → lo ≤ n → n + t * n ≤ glen → n + k * n ≤ len
-    → BlendPre n t (k - 1) lo glen len
-second-pre n t k lo glen len f b e h r o l =
-    let s : k - 1 + 1 ≡ k = omega (arith, ends-after f k b e h) in
-    let m : (k - 1 + 1) * n ≡ k * n = ap (λ (x : ℕ). x * n) s in
-    record { rows = r; out = o; next = omega (arith, add-mul (k - 1) 1 n) }
+pub second-pre : (n t k lo glen len : ℕ) → lo ≤ n → n + t * n ≤ glen → n + k * n ≤ len → BlendPre n t (k - 1) k lo glen len
+second-pre n t k lo glen len r o l =
+    let before : (k - 1) * n ≤ k * n = mul-le-mul-right n (omega arith) in
+    record { rows = r; out = o; column = omega arith; other = l }
 
 -- ---- L·D of all columns
 

@@ -3,7 +3,7 @@ use Prim.Native.Nat.{ℕ, zero, suc, _+_, _-_, _*_, _<_, _≤_}
 use mathlib.Core.Path.{_≡_, refl, sym, _∙_, ap, fun-ext}
 use mathlib.Core.Bool.{_&&_}
 use mathlib.Core.List.{List}
-use native.Mathlib.Nat.{mul-le-mul-right, add-mul, le-antisymm}
+use native.Mathlib.Nat.{mul-le-mul-right, le-antisymm}
 use native.Mathlib.Omega.{arith}
 use lib.Ieee.{Float, nan, binary64, add, mul}
 use lib.ListN.{length, getD, set, drop}
@@ -12,13 +12,13 @@ use borrow.Author.Tests.{lt-ltb, le-leb, ltb-true}
 use borrow.Rule.Slice.PartMut.{midOf}
 use lib.Dec.{ltb, leb}
 use Rattle.model.specs.Scalar.{_⊕_, _⊗_}
-use Rattle.model.specs.Matrix.{Row, Mat, view, vec, withPart}
+use Rattle.model.specs.Matrix.{Row, Mat, columnStart, view, vec, withPart}
 use Rattle.model.specs.Panel.{sumFrom}
 use Rattle.grid.specs.Rules.{ahead, zeroed, plusTimes, plusFour}
 use Rattle.grid.proofs.Laws.{test, vec-part}
 use Rattle.grid.proofs.Rules.{plus-four-step}
 use Rattle.deferred.specs.declared.Terms.{Terms}
-use Rattle.deferred.specs.Sums.{laterRow, rowsFrom, gathered, TermsPre, GatherPre}
+use Rattle.deferred.specs.Sums.{laterRow, rowsFrom, gathered, FourPre, TermsPre, GatherPre}
 
 -- ---- a sum in two parts
 
@@ -39,20 +39,20 @@ dropped : (q : ℕ) (gs : List Float) → vec (drop q gs) ≡ ahead q (vec gs)
 unfolding vec ahead
 dropped q gs = fun-ext λ i. getD-drop q gs i nan ∙ ap (λ (x : ℕ). getD gs x nan) (omega arith)
 
-pub four-step : (f : Row) (xs gs : List Float) (a p i n len : ℕ) (l0 l1 l2 l3 : Float) → i < n → n ≤ len → length xs ≡ len
-    → vec xs ≡ withPart f 0 i (plusFour f (ahead a (vec gs)) (ahead (a + p) (vec gs)) (ahead (a + p + p) (vec gs)) (ahead (a + p + p + p) (vec gs)) l0 l1 l2 l3)
+pub four-step : (f : Row) (xs gs : List Float) (a b c d i n len : ℕ) (l0 l1 l2 l3 : Float) → i < n → n ≤ len → length xs ≡ len
+    → vec xs ≡ withPart f 0 i (plusFour f (ahead a (vec gs)) (ahead b (vec gs)) (ahead c (vec gs)) (ahead d (vec gs)) l0 l1 l2 l3)
     → vec (set xs i (add binary64
-    (add binary64 (add binary64 (add binary64 (getD xs i nan) (mul binary64 (getD gs (a + i) nan) l0)) (mul binary64 (getD gs (a + p + i) nan) l1))
-    (mul binary64 (getD gs (a + p + p + i) nan) l2)) (mul binary64 (getD gs (a + p + p + p + i) nan) l3)))
-    ≡ withPart f 0 (i + 1) (plusFour f (ahead a (vec gs)) (ahead (a + p) (vec gs)) (ahead (a + p + p) (vec gs)) (ahead (a + p + p + p) (vec gs)) l0 l1 l2 l3)
-four-step f xs gs a p i n len l0 l1 l2 l3 l h r =
-    rw (← dropped a gs, ← dropped (a + p) gs, ← dropped (a + p + p) gs, ← dropped (a + p + p + p) gs)
+    (add binary64 (add binary64 (add binary64 (getD xs i nan) (mul binary64 (getD gs (a + i) nan) l0)) (mul binary64 (getD gs (b + i) nan) l1))
+    (mul binary64 (getD gs (c + i) nan) l2)) (mul binary64 (getD gs (d + i) nan) l3)))
+    ≡ withPart f 0 (i + 1) (plusFour f (ahead a (vec gs)) (ahead b (vec gs)) (ahead c (vec gs)) (ahead d (vec gs)) l0 l1 l2 l3)
+four-step f xs gs a b c d i n len l0 l1 l2 l3 l h r =
+    rw (← dropped a gs, ← dropped b gs, ← dropped c gs, ← dropped d gs)
     (rw (
       getD-drop a gs i nan,
-      getD-drop (a + p) gs i nan,
-      getD-drop (a + p + p) gs i nan,
-      getD-drop (a + p + p + p) gs i nan,
-    ) at (plus-four-step f xs (drop a gs) (drop (a + p) gs) (drop (a + p + p) gs) (drop (a + p + p + p) gs) i n len l0 l1 l2 l3 l h r))
+      getD-drop b gs i nan,
+      getD-drop c gs i nan,
+      getD-drop d gs i nan,
+    ) at (plus-four-step f xs (drop a gs) (drop b gs) (drop c gs) (drop d gs) i n len l0 l1 l2 l3 l h r))
 
 -- ---- one and four terms
 
@@ -65,25 +65,25 @@ part-same : (x N O : Row) (n : ℕ) → ((i : ℕ) → i < n → N i ≡ O i) �
 unfolding withPart
 part-same x N O n h = fun-ext λ i. rw (le-leb 0 i (omega arith)) (test (ltb i n) (λ q. rw q (h i (ltb-true i n q))) (λ q. rw q))
 
-pub one-term : (x y : Row) (gs : List Float) (a : Mat) (N lo n c kb t : ℕ) (l : Float) → lo + n ≤ N → l ≡ a c (kb + t)
-    → y ≡ withPart x 0 n (plusTimes x (vec (midOf (lo + t * N) (lo + t * N + n - (lo + t * N)) gs)) l)
+pub one-term : (x y : Row) (gs : List Float) (a : Mat) (N lo n c kb t s : ℕ) (l : Float) → s ≡ columnStart N t → lo + n ≤ N → l ≡ a c (kb + t)
+    → y ≡ withPart x 0 n (plusTimes x (vec (midOf (lo + s) (lo + s + n - (lo + s)) gs)) l)
     → y ≡ withPart x 0 n (gathered x (rowsFrom lo (view N gs)) (laterRow a c kb) t 1)
 unfolding gathered laterRow plusTimes sumFrom
-one-term x y gs a N lo n c kb t l h e p =
+one-term x y gs a N lo n c kb t s l at h e p =
     p ∙ part-same x _ _ n (λ i u. rw (
       e,
-      vec-part (lo + t * N) (lo + t * N + n) gs i (omega arith),
-      ap (vec gs) {x = lo + t * N + i} {y = i + (lo + t * N)} (omega arith),
-      column-from N gs t lo (lo + t * N) i (omega arith) refl,
+      vec-part (lo + s) (lo + s + n) gs i (omega arith),
+      ap (vec gs) {x = lo + s + i} {y = i + (lo + s)} (omega arith),
+      column-from N gs t lo (lo + s) i (omega arith) (omega arith),
     ))
 
-pub four-terms : (x y : Row) (gs : List Float) (a : Mat) (N lo n c kb t : ℕ) (l0 l1 l2 l3 : Float) → lo + n ≤ N → l0 ≡ a c (kb + t) → l1 ≡ a c (kb + t + 1)
+pub four-terms : (x y : Row) (gs : List Float) (a : Mat) (N lo n c kb t g0 g1 g2 g3 : ℕ) (l0 l1 l2 l3 : Float) → g0 ≡ lo + columnStart N t
+    → g1 ≡ lo + columnStart N (t + 1) → g2 ≡ lo + columnStart N (t + 2) → g3 ≡ lo + columnStart N (t + 3) → lo + n ≤ N → l0 ≡ a c (kb + t) → l1 ≡ a c (kb + t + 1)
     → l2 ≡ a c (kb + t + 2) → l3 ≡ a c (kb + t + 3)
-    → y ≡ withPart x 0 n (plusFour x (ahead (lo + t * N) (vec gs)) (ahead (lo + t * N + N) (vec gs)) (ahead (lo + t * N + N + N) (vec gs))
-    (ahead (lo + t * N + N + N + N) (vec gs)) l0 l1 l2 l3)
+    → y ≡ withPart x 0 n (plusFour x (ahead g0 (vec gs)) (ahead g1 (vec gs)) (ahead g2 (vec gs)) (ahead g3 (vec gs)) l0 l1 l2 l3)
     → y ≡ withPart x 0 n (gathered x (rowsFrom lo (view N gs)) (laterRow a c kb) t 4)
 unfolding gathered laterRow plusFour ahead sumFrom
-four-terms x y gs a N lo n c kb t l0 l1 l2 l3 h e0 e1 e2 e3 p =
+four-terms x y gs a N lo n c kb t g0 g1 g2 g3 l0 l1 l2 l3 c0 c1 c2 c3 h e0 e1 e2 e3 p =
     let s2 : t + 1 + 1 ≡ t + 2 = omega arith in
     let s3 : t + 2 + 1 ≡ t + 3 = omega arith in
     let k1 : kb + (t + 1) ≡ kb + t + 1 = omega arith in
@@ -99,11 +99,20 @@ four-terms x y gs a N lo n c kb t l0 l1 l2 l3 h e0 e1 e2 e3 p =
       k1,
       k2,
       k3,
-      column-from N gs t lo (lo + t * N) i (omega arith) refl,
-      column-from N gs (t + 1) lo (lo + t * N + N) i (omega arith) (omega (arith, add-mul t 1 N)),
-      column-from N gs (t + 2) lo (lo + t * N + N + N) i (omega arith) (omega (arith, add-mul t 2 N)),
-      column-from N gs (t + 3) lo (lo + t * N + N + N + N) i (omega arith) (omega (arith, add-mul t 3 N)),
+      column-from N gs t lo g0 i (omega arith) c0,
+      column-from N gs (t + 1) lo g1 i (omega arith) c1,
+      column-from N gs (t + 2) lo g2 i (omega arith) c2,
+      column-from N gs (t + 3) lo g3 i (omega arith) c3,
     ))
+
+-- the four columns are there
+pub four-pre : (at : Terms) (c e t g0 g1 g2 g3 xlen ylen glen len : ℕ) → g0 ≡ at .lo + columnStart (at .nrow) t → g1 ≡ at .lo + columnStart (at .nrow) (t + 1)
+    → g2 ≡ at .lo + columnStart (at .nrow) (t + 2) → g3 ≡ at .lo + columnStart (at .nrow) (t + 3) → TermsPre at c t 4 xlen glen len
+    → TermsPre at e t 4 ylen glen len → FourPre (at .n) g0 g1 g2 g3 xlen ylen glen
+four-pre at c e t g0 g1 g2 g3 xlen ylen glen len c0 c1 c2 c3 x y =
+    let rows = x .rows in
+    let out = x .out in
+    record { first = x .sums; second = y .sums; columns = (omega arith, omega arith, omega arith, omega arith) }
 
 -- ---- terms after terms
 

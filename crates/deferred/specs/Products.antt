@@ -25,11 +25,12 @@ pub record ScalePre (n t k lo glen len : ℕ) : Type 0 where
   pub out : n + t * n ≤ glen
   pub column : n + k * n ≤ len
 
--- and column k + 1
-pub record BlendPre (n t k lo glen len : ℕ) : Type 0 where
+-- and column j
+pub record BlendPre (n t k j lo glen len : ℕ) : Type 0 where
   pub rows : lo ≤ n
   pub out : n + t * n ≤ glen
-  pub next : n + k * n + n ≤ len
+  pub column : n + k * n ≤ len
+  pub other : n + j * n ≤ len
 
 -- column k of the panel and its pivot are there, and column k + 1 where a block begins at k
 pub record ProductPre (n t k lo glen len dlen slen : ℕ) (blocks : List ℕ) : Type 0 where

@@ -32,11 +32,11 @@ partDeferred a g kb w c end lo hi = λ i j. cond (within c end j && (leb j i && 
 
 -- ---- what the callers owe
 
--- four columns of a list, of which each begins p places after the one before it, the first at a: n numbers of each, and as many sums
-pub record FourPre (n a p xlen ylen glen : ℕ) : Type 0 where
+-- four columns of a list, which begin at a, b, c and d: n numbers of each, and as many sums
+pub record FourPre (n a b c d xlen ylen glen : ℕ) : Type 0 where
   pub first : n ≤ xlen
   pub second : n ≤ ylen
-  pub columns : a + p + p + p + n ≤ glen
+  pub columns : (a + n ≤ glen) × (b + n ≤ glen) × (c + n ≤ glen) × (d + n ≤ glen)
 
 -- row j is there, and so are the rows from lo on, a sum for each, and the terms from t on: columns of g, and columns of the panel after kb
 pub record TermsPre (at : Terms) (j t count xlen glen len : ℕ) : Type 0 where

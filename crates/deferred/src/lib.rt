@@ -58,8 +58,9 @@ fn lose(panel: &mut [f64], nrow: usize, j: usize, lo: usize, hi: usize, s: &[f64
         (lessEach (columnOf (view nrow (now (panel .entry))) j) (behind lo (vec (now (s .entry))))) ⌝ }
 {
     let from = larger(lo, j);
-    let a = from + j * nrow;
-    let b = hi + j * nrow;
+    let start = grid::column_start(nrow, j);
+    let a = from + start;
+    let b = hi + start;
     let p = from - lo;
     let q = hi - lo;
     grid::kernels::less_each(&mut panel[a..b], &s[p..q], hi - from);

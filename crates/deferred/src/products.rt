@@ -7,6 +7,7 @@ ghost use Rattle.model.specs.Step.{diagonalsOf};
 ghost use Rattle.grid.specs.Rules.{columnOf, times, blended};
 ghost use Rattle.deferred.specs.Products.{columnProduct, withProducts};
 ghost use Rattle.deferred.specs.Products.{ScalePre, BlendPre, ProductPre, ProductsPre};
+use grid::column_start;
 use model::Elim;
 
 // Rows from lo on of g's column t become those of the panel's column k times r.
@@ -15,36 +16,42 @@ fn scale_column(g: &mut [f64], panel: &[f64], nrow: usize, t: usize, k: usize, l
     ensures { λ _. ⌜ view nrow (now (g .exit))
         ≡ withColumn (view nrow (now (g .entry))) t lo nrow (times (columnOf (view nrow (now (panel .entry))) k) r) ⌝ }
 {
-    let a = lo + t * nrow;
-    let b = nrow + t * nrow;
-    let c = lo + k * nrow;
-    let e = nrow + k * nrow;
+    let out = column_start(nrow, t);
+    let source = column_start(nrow, k);
+    let a = lo + out;
+    let b = nrow + out;
+    let c = lo + source;
+    let e = nrow + source;
     grid::kernels::scale(&mut g[a..b], &panel[c..e], nrow - lo, r);
 }
 
-// Rows from lo on of g's column t become those of the panel's columns k and k + 1 times p and q, added.
+// Rows from lo on of g's column t become those of the panel's columns k and j times p and q, added.
 fn blend_columns(
     g: &mut [f64],
     panel: &[f64],
     nrow: usize,
     t: usize,
     k: usize,
+    j: usize,
     lo: usize,
     p: f64,
     q: f64,
 )
-    requires { ⌜ BlendPre nrow t k lo (length (now g)) (length (now panel)) ⌝ }
+    requires { ⌜ BlendPre nrow t k j lo (length (now g)) (length (now panel)) ⌝ }
     ensures { λ _. ⌜ view nrow (now (g .exit))
         ≡ withColumn (view nrow (now (g .entry))) t lo nrow
-        (blended (columnOf (view nrow (now (panel .entry))) k) (columnOf (view nrow (now (panel .entry))) (k + 1))
+        (blended (columnOf (view nrow (now (panel .entry))) k) (columnOf (view nrow (now (panel .entry))) j)
         p q) ⌝ }
 {
-    let a = lo + t * nrow;
-    let b = nrow + t * nrow;
-    let c = lo + k * nrow;
-    let e = nrow + k * nrow;
-    let u = c + nrow;
-    let v = e + nrow;
+    let out = column_start(nrow, t);
+    let source = column_start(nrow, k);
+    let other = column_start(nrow, j);
+    let a = lo + out;
+    let b = nrow + out;
+    let c = lo + source;
+    let e = nrow + source;
+    let u = lo + other;
+    let v = nrow + other;
     grid::kernels::blend(&mut g[a..b], &panel[c..e], &panel[u..v], nrow - lo, p, q);
 }
 
@@ -68,11 +75,11 @@ fn product_column(
         (view nrow (now (panel .entry))) k) ⌝ }
 {
     if blocks[k] == 1 {
-        blend_columns(g, panel, nrow, t, k, lo, d[k], sub[k]);
+        blend_columns(g, panel, nrow, t, k, k + 1, lo, d[k], sub[k]);
         return;
     }
     if diagonal::ends_block(blocks, Elim(k)) {
-        blend_columns(g, panel, nrow, t, k - 1, lo, sub[k - 1], d[k]);
+        blend_columns(g, panel, nrow, t, k - 1, k, lo, sub[k - 1], d[k]);
         return;
     }
     scale_column(g, panel, nrow, t, k, lo, d[k]);

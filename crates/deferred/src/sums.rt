@@ -3,40 +3,59 @@
 // on the contract of both_sums.
 use super::Terms;
 use grid::FourMultipliers;
+use grid::column_start;
 ghost use mathlib.Core.Path.{_≡_};
-ghost use Prim.Native.Nat.{_+_, _-_, _≤_};
+ghost use Prim.Native.Nat.{_+_, _-_, _*_, _≤_};
 ghost use lib.ListN.{length};
-ghost use Rattle.model.specs.Matrix.{view, vec, withPart};
+ghost use mir.Syntax.{w64};
+ghost use mir.Val.{Fits};
+ghost use Rattle.model.specs.Matrix.{columnStart, view, vec, withPart};
 ghost use Rattle.grid.specs.Rules.{ahead, zeroed, plusFour};
 ghost use Rattle.deferred.specs.Sums.{laterRow, rowsFrom, gathered, FourPre, TermsPre, GatherPre};
 
-// (((x + g0·l0) + g1·l1) + g2·l2) + g3·l3, and the same of y with m; the n numbers g0 begin at a of g, each of the
-// others p after the ones before them. The loop vectorises: no branch, no call.
+// Where in L·D the numbers of four of its columns begin.
+struct FourPlaces(usize, usize, usize, usize);
+
+// For the rows from lo on of columns t to t + 3.
+fn four_places(nrow: usize, t: usize, lo: usize) -> FourPlaces
+    requires { ⌜ Fits w64 (t + 3) × Fits w64 (lo + (t + 3) * nrow) ⌝ }
+    ensures { λ r. ⌜ (r .0 ≡ lo + columnStart nrow t) × (r .1 ≡ lo + columnStart nrow (t + 1)) ⌝ }
+    ensures { λ r. ⌜ (r .2 ≡ lo + columnStart nrow (t + 2)) × (r .3 ≡ lo + columnStart nrow (t + 3)) ⌝ }
+{
+    let g0 = column_start(nrow, t);
+    let g1 = column_start(nrow, t + 1);
+    let g2 = column_start(nrow, t + 2);
+    let g3 = column_start(nrow, t + 3);
+    FourPlaces(lo + g0, lo + g1, lo + g2, lo + g3)
+}
+
+// (((x + g0·l0) + g1·l1) + g2·l2) + g3·l3, and the same of y with m; the n numbers of g0 to g3 begin where `at` says. The
+// loop vectorises: no branch, no call.
 fn plus_four(
     x: &mut [f64],
     y: &mut [f64],
     g: &[f64],
-    a: usize,
-    p: usize,
+    at: FourPlaces,
     n: usize,
     l: FourMultipliers,
     m: FourMultipliers,
 )
-    requires { ⌜ FourPre n a p (length (now x)) (length (now y)) (length (now g)) ⌝ }
+    requires { ⌜ FourPre n (at .0) (at .1) (at .2) (at .3) (length (now x)) (length (now y)) (length (now g)) ⌝ }
     ensures { λ _. ⌜ vec (now (x .exit))
         ≡ withPart (vec (now (x .entry))) 0 n
-        (plusFour (vec (now (x .entry))) (ahead a (vec (now (g .entry)))) (ahead (a + p) (vec (now (g .entry))))
-        (ahead (a + p + p) (vec (now (g .entry)))) (ahead (a + p + p + p) (vec (now (g .entry))))
+        (plusFour (vec (now (x .entry))) (ahead (at .0) (vec (now (g .entry)))) (ahead (at .1) (vec (now (g .entry))))
+        (ahead (at .2) (vec (now (g .entry)))) (ahead (at .3) (vec (now (g .entry))))
         (l .0) (l .1) (l .2) (l .3)) ⌝ }
     ensures { λ _. ⌜ vec (now (y .exit))
         ≡ withPart (vec (now (y .entry))) 0 n
-        (plusFour (vec (now (y .entry))) (ahead a (vec (now (g .entry)))) (ahead (a + p) (vec (now (g .entry))))
-        (ahead (a + p + p) (vec (now (g .entry)))) (ahead (a + p + p + p) (vec (now (g .entry))))
+        (plusFour (vec (now (y .entry))) (ahead (at .0) (vec (now (g .entry)))) (ahead (at .1) (vec (now (g .entry))))
+        (ahead (at .2) (vec (now (g .entry)))) (ahead (at .3) (vec (now (g .entry))))
         (m .0) (m .1) (m .2) (m .3)) ⌝ }
 {
-    let b = a + p;
-    let c = b + p;
-    let d = c + p;
+    let a = at.0;
+    let b = at.1;
+    let c = at.2;
+    let d = at.3;
     for i in 0..n {
         let s = g[a + i];
         let t = g[b + i];
@@ -63,6 +82,7 @@ fn add_four(x: &mut [f64], y: &mut [f64], g: &[f64], panel: &[f64], at: Terms, t
     let nrow = at.nrow;
     let kb = at.kb;
     let lo = at.lo;
+    let places = four_places(nrow, t, lo);
     let l0 = grid::get(panel, nrow, at.c, kb + t);
     let l1 = grid::get(panel, nrow, at.c, kb + t + 1);
     let l2 = grid::get(panel, nrow, at.c, kb + t + 2);
@@ -71,10 +91,9 @@ fn add_four(x: &mut [f64], y: &mut [f64], g: &[f64], panel: &[f64], at: Terms, t
     let m1 = grid::get(panel, nrow, at.e, kb + t + 1);
     let m2 = grid::get(panel, nrow, at.e, kb + t + 2);
     let m3 = grid::get(panel, nrow, at.e, kb + t + 3);
-    let a = lo + t * nrow;
     let l = FourMultipliers(l0, l1, l2, l3);
     let m = FourMultipliers(m0, m1, m2, m3);
-    plus_four(x, y, g, a, nrow, at.n, l, m);
+    plus_four(x, y, g, places, at.n, l, m);
 }
 
 // They gain the terms of the columns before w by fours. The answer is the first column left.
@@ -132,7 +151,7 @@ fn add_one(x: &mut [f64], g: &[f64], panel: &[f64], at: Terms, j: usize, t: usiz
     let lo = at.lo;
     let n = at.n;
     let l = grid::get(panel, nrow, j, kb + t);
-    let a = lo + t * nrow;
+    let a = lo + column_start(nrow, t);
     let b = a + n;
     grid::kernels::plus(x, &g[a..b], n, l);
 }

@@ -1,5 +1,5 @@
 -- The multipliers' buffer by the panel's own rows and columns: what stands there, and a column of it that is written. Assumes nothing.
-use Prim.Native.Nat.{ℕ, _+_, _-_, _*_, _<_, _≤_}
+use Prim.Native.Nat.{ℕ, _+_, _-_, _<_, _≤_}
 use mathlib.Core.Path.{_≡_, sym, _∙_, ap, fun-ext}
 use mathlib.Core.Bool.{false, true≢false}
 use mathlib.Core.List.{List}
@@ -10,7 +10,7 @@ use lib.Dec.{ltb, leb, eqb}
 use lib.ListN.{length}
 use lib.Ieee.{Float}
 use Rattle.model.specs.Scalar.{_⊖_, _⊗_}
-use Rattle.model.specs.Matrix.{Row, Mat, view, vec, within, withColumn, withPart}
+use Rattle.model.specs.Matrix.{Row, Mat, columnStart, view, vec, within, withColumn, withPart}
 use Rattle.grid.specs.Rules.{columnOf, times, combined, ThreePre}
 use Rattle.grid.proofs.Laws.{test, no}
 use Rattle.grid.proofs.Parts.{mid-count, column-at, column-lent}
@@ -65,48 +65,50 @@ kept-column kb ke B c lo N′ N f l u same =
 shift : (lo kb t : ℕ) → kb ≤ lo → lo + t ≡ lo - kb + t + kb
 shift lo kb t h = omega arith
 
--- ---- the functions that lend a column of the buffer, and read columns of a panel of n rows
+-- ---- the functions that lend a column of the buffer, which begins at s, and read columns of a panel of n rows, which begin at u and v
 
-pub keep-one-lent : (nb n : ℕ) (xs ys zs : List Float) (kb ke c lo : ℕ) (r : Float) → KeepPre nb kb ke c lo (length xs) → ke ≤ n
-    → length ys ≡ length (midOf (lo - kb + (c - kb) * nb) (ke - kb + (c - kb) * nb - (lo - kb + (c - kb) * nb)) xs)
-    → vec ys ≡ withPart (vec (midOf (lo - kb + (c - kb) * nb) (ke - kb + (c - kb) * nb - (lo - kb + (c - kb) * nb)) xs)) 0 (ke - kb - (lo - kb))
-    (times (vec (midOf (lo + c * n) (ke + c * n - (lo + c * n)) zs)) r)
-    → inPanel kb ke (view nb (putMid (lo - kb + (c - kb) * nb) (ke - kb + (c - kb) * nb - (lo - kb + (c - kb) * nb)) xs ys))
+pub keep-one-lent : (nb n : ℕ) (xs ys zs : List Float) (kb ke c lo s u : ℕ) (r : Float) → s ≡ columnStart nb (c - kb) → u ≡ columnStart n c → KeepPre nb kb ke c lo (length xs) → ke ≤ n
+    → length ys ≡ length (midOf (lo - kb + s) (ke - kb + s - (lo - kb + s)) xs)
+    → vec ys ≡ withPart (vec (midOf (lo - kb + s) (ke - kb + s - (lo - kb + s)) xs)) 0 (ke - kb - (lo - kb))
+    (times (vec (midOf (lo + u) (ke + u - (lo + u)) zs)) r)
+    → inPanel kb ke (view nb (putMid (lo - kb + s) (ke - kb + s - (lo - kb + s)) xs ys))
     ≡ withColumn (inPanel kb ke (view nb xs)) c lo ke (times (columnOf (view n zs) c) r)
 unfolding times columnOf
-keep-one-lent nb n xs ys zs kb ke c lo r pre h ly e =
+keep-one-lent nb n xs ys zs kb ke c lo s u r kept source pre h ly e =
     let above = pre .above in
     ap (λ (B : Mat). inPanel kb ke B)
-    (column-lent nb xs ys (c - kb) (lo - kb) (ke - kb) _ _ (λ a. view n zs (a + kb) c ⊗ r) (omega (arith, pre .col, pre .width)) (omega (arith, pre .up)) (omega (arith, pre .width)) ly e
-    (λ t l. rw (column-at n zs c lo ke t h (omega arith), shift lo kb t above)))
+    (column-lent nb xs ys (c - kb) s (lo - kb) (ke - kb) _ _ (λ a. view n zs (a + kb) c ⊗ r) kept (omega (arith, pre .col, pre .width)) (omega (arith, pre .up)) (omega (arith, pre .width)) ly e
+    (λ t l. rw (column-at n zs c u lo ke t source h (omega arith), shift lo kb t above)))
     ∙ kept-column kb ke (view nb xs) c lo _ _ (pre .from) (pre .here) above (λ a g m. ap (λ (x : ℕ). view n zs x c ⊗ r) (omega arith))
 
 -- the parts of the buffer and of the panel are as long as they are to be
-pub keep-parts : (nb n : ℕ) (xs zs : List Float) (kb ke c t lo : ℕ) → KeepPre nb kb ke c lo (length xs) → SourcePre n ke c (length zs)
+pub keep-parts : (nb n : ℕ) (xs zs : List Float) (kb ke c t lo s u v : ℕ) → s ≡ columnStart nb (c - kb) → u ≡ columnStart n c
+    → v ≡ columnStart n t → KeepPre nb kb ke c lo (length xs) → SourcePre n ke c (length zs)
     → SourcePre n ke t (length zs)
-    → ThreePre (ke - kb - (lo - kb)) (length (midOf (lo - kb + (c - kb) * nb) (ke - kb + (c - kb) * nb - (lo - kb + (c - kb) * nb)) xs))
-    (length (midOf (lo + c * n) (ke + c * n - (lo + c * n)) zs)) (length (midOf (lo + t * n) (ke + t * n - (lo + t * n)) zs))
-keep-parts nb n xs zs kb ke c t lo pre first second =
+    → ThreePre (ke - kb - (lo - kb)) (length (midOf (lo - kb + s) (ke - kb + s - (lo - kb + s)) xs))
+    (length (midOf (lo + u) (ke + u - (lo + u)) zs)) (length (midOf (lo + v) (ke + v - (lo + v)) zs))
+keep-parts nb n xs zs kb ke c t lo s u v kept source other pre first second =
     let above = pre .above in
     let up = pre .up in
     record {
-      out = omega (arith, mid-count (lo - kb + (c - kb) * nb) (ke - kb + (c - kb) * nb) xs (omega arith) (omega (arith, pre .col, pre .width)));
-      first = omega (arith, mid-count (lo + c * n) (ke + c * n) zs (omega arith) (omega (arith, first .rows, first .col)));
-      second = omega (arith, mid-count (lo + t * n) (ke + t * n) zs (omega arith) (omega (arith, second .rows, second .col)));
+      out = omega (arith, mid-count (lo - kb + s) (ke - kb + s) xs (omega arith) (omega (arith, pre .col, pre .width)));
+      first = omega (arith, mid-count (lo + u) (ke + u) zs (omega arith) (omega (arith, first .rows, first .col)));
+      second = omega (arith, mid-count (lo + v) (ke + v) zs (omega arith) (omega (arith, second .rows, second .col)));
     }
 
-pub keep-two-lent : (nb n : ℕ) (xs ys zs : List Float) (kb ke c t lo : ℕ) (p q r : Float) → KeepPre nb kb ke c lo (length xs) → ke ≤ n
-    → length ys ≡ length (midOf (lo - kb + (c - kb) * nb) (ke - kb + (c - kb) * nb - (lo - kb + (c - kb) * nb)) xs)
-    → vec ys ≡ withPart (vec (midOf (lo - kb + (c - kb) * nb) (ke - kb + (c - kb) * nb - (lo - kb + (c - kb) * nb)) xs)) 0 (ke - kb - (lo - kb))
-    (combined (vec (midOf (lo + c * n) (ke + c * n - (lo + c * n)) zs)) (vec (midOf (lo + t * n) (ke + t * n - (lo + t * n)) zs)) p q r)
-    → inPanel kb ke (view nb (putMid (lo - kb + (c - kb) * nb) (ke - kb + (c - kb) * nb - (lo - kb + (c - kb) * nb)) xs ys))
+pub keep-two-lent : (nb n : ℕ) (xs ys zs : List Float) (kb ke c t lo s u v : ℕ) (p q r : Float) → s ≡ columnStart nb (c - kb) → u ≡ columnStart n c
+    → v ≡ columnStart n t → KeepPre nb kb ke c lo (length xs) → ke ≤ n
+    → length ys ≡ length (midOf (lo - kb + s) (ke - kb + s - (lo - kb + s)) xs)
+    → vec ys ≡ withPart (vec (midOf (lo - kb + s) (ke - kb + s - (lo - kb + s)) xs)) 0 (ke - kb - (lo - kb))
+    (combined (vec (midOf (lo + u) (ke + u - (lo + u)) zs)) (vec (midOf (lo + v) (ke + v - (lo + v)) zs)) p q r)
+    → inPanel kb ke (view nb (putMid (lo - kb + s) (ke - kb + s - (lo - kb + s)) xs ys))
     ≡ withColumn (inPanel kb ke (view nb xs)) c lo ke (combined (columnOf (view n zs) c) (columnOf (view n zs) t) p q r)
 unfolding combined columnOf
-keep-two-lent nb n xs ys zs kb ke c t lo p q r pre h ly e =
+keep-two-lent nb n xs ys zs kb ke c t lo s u v p q r kept source other pre h ly e =
     let above = pre .above in
     ap (λ (B : Mat). inPanel kb ke B)
-    (column-lent nb xs ys (c - kb) (lo - kb) (ke - kb) _ _ (λ a. (p ⊗ view n zs (a + kb) c ⊖ q ⊗ view n zs (a + kb) t) ⊗ r) (omega (arith, pre .col, pre .width))
+    (column-lent nb xs ys (c - kb) s (lo - kb) (ke - kb) _ _ (λ a. (p ⊗ view n zs (a + kb) c ⊖ q ⊗ view n zs (a + kb) t) ⊗ r) kept (omega (arith, pre .col, pre .width))
     (omega (arith, pre .up)) (omega (arith, pre .width)) ly e
-    (λ i l. rw (column-at n zs c lo ke i h (omega arith), column-at n zs t lo ke i h (omega arith), shift lo kb i above)))
+    (λ i l. rw (column-at n zs c u lo ke i source h (omega arith), column-at n zs t v lo ke i other h (omega arith), shift lo kb i above)))
     ∙ kept-column kb ke (view nb xs) c lo _ _ (pre .from) (pre .here) above
     (λ a g m. ap (λ (x : ℕ). (p ⊗ view n zs x c ⊖ q ⊗ view n zs x t) ⊗ r) (omega arith))

@@ -1,6 +1,7 @@
 // The multipliers' buffer, nb by nb, by the panel's own rows and columns: row j of column c stands at row j − kb of
 // column c − kb. What is kept is for the rows below the panel. A reader may rely on the contracts: no other number of
 // the buffer changes within the panel.
+use grid::column_start;
 use grid::kernels;
 use model::Frame;
 ghost use mathlib.Core.Path.{_≡_};
@@ -23,10 +24,12 @@ pub fn keep_one(mult: &mut [f64], panel: &[f64], at: Frame, c: usize, lo: usize,
     let ke = at.ke;
     let top = lo - kb;
     let end = ke - kb;
-    let a = top + (c - kb) * nb;
-    let b = end + (c - kb) * nb;
-    let x = lo + c * nrow;
-    let y = ke + c * nrow;
+    let kept = column_start(nb, c - kb);
+    let source = column_start(nrow, c);
+    let a = top + kept;
+    let b = end + kept;
+    let x = lo + source;
+    let y = ke + source;
     kernels::scale(&mut mult[a..b], &panel[x..y], end - top, r);
 }
 
@@ -56,12 +59,15 @@ pub fn keep_two(
     let ke = at.ke;
     let top = lo - kb;
     let end = ke - kb;
-    let a = top + (c - kb) * nb;
-    let b = end + (c - kb) * nb;
-    let x = lo + c * nrow;
-    let y = ke + c * nrow;
-    let u = lo + t * nrow;
-    let v = ke + t * nrow;
+    let kept = column_start(nb, c - kb);
+    let source = column_start(nrow, c);
+    let other = column_start(nrow, t);
+    let a = top + kept;
+    let b = end + kept;
+    let x = lo + source;
+    let y = ke + source;
+    let u = lo + other;
+    let v = ke + other;
     kernels::combine(
         &mut mult[a..b],
         &panel[x..y],

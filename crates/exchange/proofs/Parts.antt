@@ -9,22 +9,23 @@ use borrow.Author.Tests.{lt-ltb, le-ltb, le-leb, lt-leb, eq-eqb, ne-eqb, eqb-tru
 use lib.Dec.{ltb, leb, eqb}
 use lib.ListN.{length, getD, set, length-set}
 use lib.Ieee.{Float, nan}
-use Rattle.model.specs.Matrix.{Mat, view, putAt}
+use Rattle.model.specs.Matrix.{Mat, columnStart, view, putAt}
 use Rattle.grid.specs.Grid.{In}
-use Rattle.grid.proofs.Laws.{test, no, view-at, view-set}
+use Rattle.grid.proofs.Laws.{test, no, view-read, view-written}
 use Rattle.exchange.specs.Exchange.{cellsSwapped, crossExchanged, diagonalExchanged, rowsExchanged}
 
 -- (i, j) and (k, l) exchanged
 pair : Mat → ℕ → ℕ → ℕ → ℕ → Mat
 pair M i j k l = putAt (putAt M i j (M k l)) k l (M i j)
 
-view-swapped : (n : ℕ) (xs : List Float) (i j k l : ℕ) → In n i j (length xs) → In n k l (length xs)
-    → view n (cellsSwapped xs (i + j * n) (k + l * n)) ≡ pair (view n xs) i j k l
+-- s and t are where columns j and l begin
+view-swapped : (n : ℕ) (xs : List Float) (i j s k l t : ℕ) → s ≡ columnStart n j → t ≡ columnStart n l → In n i j (length xs) → In n k l (length xs)
+    → view n (cellsSwapped xs (i + s) (k + t)) ≡ pair (view n xs) i j k l
 unfolding cellsSwapped pair
-view-swapped n xs i j k l h g =
-    rw (view-at n xs i j (h .row), view-at n xs k l (g .row))
-    (view-set n (set xs (i + j * n) _) k l _ (record { row = g .row; off = simp length-set (g .off) })
-    ∙ ap (λ (P : Mat). putAt P k l (getD xs (i + j * n) nan)) (view-set n xs i j _ h))
+view-swapped n xs i j s k l t first second h g =
+    rw (← view-read n xs i j s first (h .row), ← view-read n xs k l t second (g .row))
+    (view-written n (set xs (i + s) _) k l t _ second (record { row = g .row; off = simp length-set (g .off) })
+    ∙ ap (λ (P : Mat). putAt P k l (getD xs (i + s) nan)) (view-written n xs i j s _ first h))
 
 none : (lo a : ℕ) → leb lo a && ltb a lo ≡ false
 none lo a = test (ltb a lo) (λ r. rw (r, lt-leb lo a (ltb-true a lo r))) (λ r. rw (r, no (leb lo a)))
@@ -94,25 +95,25 @@ in-both : (n len i j k l : ℕ) (xs : List Float) → i < n → k < n → i + j 
     → In n i j (length xs) × In n k l (length xs)
 in-both n len i j k l xs a b g h e = (record { row = a; off = omega arith }, record { row = b; off = omega arith })
 
-pub cross-step : (M : Mat) (xs ys : List Float) (n len p q i : ℕ) → p < q → q < n → p + 1 ≤ i → i < q → n + p * n ≤ len → n + q * n ≤ len
+pub cross-step : (M : Mat) (xs ys : List Float) (n len p q s t i : ℕ) → s ≡ columnStart n p → t ≡ columnStart n i → p < q → q < n → p + 1 ≤ i → i < q → n + p * n ≤ len → n + q * n ≤ len
     → i * n ≤ q * n → length xs ≡ len → view n xs ≡ crossExchanged M p q (p + 1) i
-    → ys ≡ cellsSwapped xs (i + p * n) (q + i * n) → view n ys ≡ crossExchanged M p q (p + 1) (i + 1)
-cross-step M xs ys n len p q i d b l h rp rq m e v y =
+    → ys ≡ cellsSwapped xs (i + s) (q + t) → view n ys ≡ crossExchanged M p q (p + 1) (i + 1)
+cross-step M xs ys n len p q s t i first own d b l h rp rq m e v y =
     let r = in-both n len i p q i xs (omega arith) (omega arith) (omega arith) (omega arith) e in
-    rw y (view-swapped n xs i p q i (r .0) (r .1) ∙ ap (λ (P : Mat). pair P i p q i) v ∙ cross-more M p q (p + 1) i (omega arith) l h)
+    rw y (view-swapped n xs i p s q i t first own (r .0) (r .1) ∙ ap (λ (P : Mat). pair P i p q i) v ∙ cross-more M p q (p + 1) i (omega arith) l h)
 
-pub rows-step : (M : Mat) (xs ys : List Float) (n len p q j : ℕ) → p < q → q < n → j < p → n + p * n ≤ len → n + q * n ≤ len
+pub rows-step : (M : Mat) (xs ys : List Float) (n len p q s j : ℕ) → s ≡ columnStart n j → p < q → q < n → j < p → n + p * n ≤ len → n + q * n ≤ len
     → j * n ≤ p * n → length xs ≡ len → view n xs ≡ rowsExchanged M p q 0 j
-    → ys ≡ cellsSwapped xs (p + j * n) (q + j * n) → view n ys ≡ rowsExchanged M p q 0 (j + 1)
-rows-step M xs ys n len p q j d b h rp rq m e v y =
+    → ys ≡ cellsSwapped xs (p + s) (q + s) → view n ys ≡ rowsExchanged M p q 0 (j + 1)
+rows-step M xs ys n len p q s j at d b h rp rq m e v y =
     let r = in-both n len p j q j xs (omega arith) (omega arith) (omega arith) (omega arith) e in
-    rw y (view-swapped n xs p j q j (r .0) (r .1) ∙ ap (λ (P : Mat). pair P p j q j) v ∙ rows-more M p q 0 j d (omega arith))
+    rw y (view-swapped n xs p j s q j s at at (r .0) (r .1) ∙ ap (λ (P : Mat). pair P p j q j) v ∙ rows-more M p q 0 j d (omega arith))
 
-pub diagonal-step : (xs ys : List Float) (n p q : ℕ) → p < q → q < n → n + p * n ≤ length xs → n + q * n ≤ length xs
-    → ys ≡ cellsSwapped xs (p + p * n) (q + q * n) → view n ys ≡ diagonalExchanged (view n xs) p q
-diagonal-step xs ys n p q d b rp rq y =
+pub diagonal-step : (xs ys : List Float) (n p q s t : ℕ) → s ≡ columnStart n p → t ≡ columnStart n q → p < q → q < n → n + p * n ≤ length xs → n + q * n ≤ length xs
+    → ys ≡ cellsSwapped xs (p + s) (q + t) → view n ys ≡ diagonalExchanged (view n xs) p q
+diagonal-step xs ys n p q s t first second d b rp rq y =
     let r = in-both n (length xs) p p q q xs (omega arith) (omega arith) (omega arith) (omega arith) refl in
-    rw y (view-swapped n xs p p q q (r .0) (r .1) ∙ diagonal-is (view n xs) p q d)
+    rw y (view-swapped n xs p p s q q t first second (r .0) (r .1) ∙ diagonal-is (view n xs) p q d)
 
 pub rows-end : (M P : Mat) (p q lo i hi : ℕ) → i ≤ hi → hi ≤ i → P ≡ rowsExchanged M p q lo i → P ≡ rowsExchanged M p q lo hi
 rows-end M P p q lo i hi h l e = e ∙ ap (λ (k : ℕ). rowsExchanged M p q lo k) (le-antisymm h l)

@@ -7,6 +7,7 @@ ghost use lib.ListN.{length};
 ghost use Rattle.model.specs.Matrix.{view, exchanged};
 ghost use Rattle.exchange.specs.Exchange.{cellsSwapped, crossExchanged, diagonalExchanged, rowsExchanged};
 ghost use Rattle.exchange.specs.Exchange.{SwapPre, PairPre, PartsPre, ExchangePre, ExchangeIfPre};
+use grid::column_start;
 use model::LocalRow;
 
 // The numbers at x and y, one for the other.
@@ -25,7 +26,9 @@ fn exchange_cross(panel: &mut [f64], nrow: usize, p: LocalRow, q: LocalRow)
     ensures { λ _. ⌜ view nrow (now (panel .exit)) ≡ crossExchanged (view nrow (now (panel .entry))) (p .0) (q .0) (p .0 + 1) (q .0) ⌝ }
 {
     for i in (p.0 + 1)..q.0 {
-        swap(panel, i + p.0 * nrow, q.0 + i * nrow);
+        let first = column_start(nrow, p.0);
+        let own = column_start(nrow, i);
+        swap(panel, i + first, q.0 + own);
     }
 }
 
@@ -34,7 +37,9 @@ fn exchange_diagonal(panel: &mut [f64], nrow: usize, p: LocalRow, q: LocalRow)
     requires { ⌜ PairPre nrow (p .0) (q .0) (length (now panel)) ⌝ }
     ensures { λ _. ⌜ view nrow (now (panel .exit)) ≡ diagonalExchanged (view nrow (now (panel .entry))) (p .0) (q .0) ⌝ }
 {
-    swap(panel, p.0 + p.0 * nrow, q.0 + q.0 * nrow);
+    let first = column_start(nrow, p.0);
+    let second = column_start(nrow, q.0);
+    swap(panel, p.0 + first, q.0 + second);
 }
 
 // The two rows in the columns before p.
@@ -43,7 +48,8 @@ fn exchange_rows(panel: &mut [f64], nrow: usize, p: LocalRow, q: LocalRow)
     ensures { λ _. ⌜ view nrow (now (panel .exit)) ≡ rowsExchanged (view nrow (now (panel .entry))) (p .0) (q .0) 0 (p .0) ⌝ }
 {
     for j in 0..p.0 {
-        swap(panel, p.0 + j * nrow, q.0 + j * nrow);
+        let start = column_start(nrow, j);
+        swap(panel, p.0 + start, q.0 + start);
     }
 }
 

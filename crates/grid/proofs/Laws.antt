@@ -14,7 +14,7 @@ use borrow.Rule.Slice.PartMut.{midOf, putMid}
 use lib.Ieee.{Float, nan}
 use mir.Syntax.{w64}
 use mir.Val.{Fits}
-use Rattle.model.specs.Matrix.{Mat, view, putAt, withColumn, vec, put, withPart}
+use Rattle.model.specs.Matrix.{Mat, columnStart, view, putAt, withColumn, vec, put, withPart}
 use Rattle.grid.specs.Grid.{In}
 
 -- ---- cases
@@ -97,6 +97,14 @@ view-set n xs i j v h =
     (λ r. rw (p, q, r) (getD-set-other xs (i + j * n) (a + b * n) v nan (λ e. eqb-false b j r (off-col n a b i j ha hi e)))))
     (λ q. rw (p, q) (getD-set-other xs (i + j * n) (a + b * n) v nan (λ e. eqb-false a i q (off-row n a b i j ha hi e)))))
     (λ p. rw (p, ne-eqb a i (λ e. omega (arith, ltb-false a n p))) refl)
+
+-- the same where a column's beginning s is at hand
+pub view-read : (n : ℕ) (xs : List Float) (i j s : ℕ) → s ≡ columnStart n j → i < n → getD xs (i + s) nan ≡ view n xs i j
+view-read n xs i j s at h = rw at (sym (view-at n xs i j h))
+
+pub view-written : (n : ℕ) (xs : List Float) (i j s : ℕ) (v : Float) → s ≡ columnStart n j → In n i j (length xs)
+    → view n (set xs (i + s) v) ≡ putAt (view n xs) i j v
+view-written n xs i j s v at h = rw at (view-set n xs i j v h)
 
 -- ---- a part of a column
 

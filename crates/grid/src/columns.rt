@@ -4,10 +4,13 @@
 use super::FourMultipliers;
 use super::ThreeMultipliers;
 use super::TwoMultipliers;
+use super::column_start;
 use super::kernels;
 ghost use mathlib.Core.Path.{_≡_};
 ghost use Prim.Native.Nat.{_+_};
 ghost use lib.ListN.{length};
+ghost use mir.Syntax.{w64};
+ghost use mir.Val.{Fits};
 ghost use Rattle.model.specs.Matrix.{view, vec, withColumn, withPart};
 ghost use Rattle.grid.specs.Rules.{columnOf, zeroed, lessTimes, lessTimesIf, lessTwo, lessThree, lessFour};
 ghost use Rattle.grid.specs.Rules.{plusTimes, times, combined, columnsExchanged};
@@ -28,8 +31,9 @@ pub fn plus(x: &mut [f64], panel: &[f64], nrow: usize, j: usize, lo: usize, hi: 
         ≡ withPart (vec (now (x .entry))) lo hi
         (plusTimes (vec (now (x .entry))) (columnOf (view nrow (now (panel .entry))) j) l) ⌝ }
 {
-    let a = lo + j * nrow;
-    let b = hi + j * nrow;
+    let start = column_start(nrow, j);
+    let a = lo + start;
+    let b = hi + start;
     kernels::plus(&mut x[lo..hi], &panel[a..b], hi - lo, l);
 }
 
@@ -40,8 +44,9 @@ pub fn scale(panel: &mut [f64], nrow: usize, j: usize, lo: usize, hi: usize, r: 
         ≡ withColumn (view nrow (now (panel .entry))) j lo hi
         (times (columnOf (view nrow (now (panel .entry))) j) r) ⌝ }
 {
-    let a = lo + j * nrow;
-    let b = hi + j * nrow;
+    let start = column_start(nrow, j);
+    let a = lo + start;
+    let b = hi + start;
     kernels::scale_own(&mut panel[a..b], hi - lo, r);
 }
 
@@ -58,6 +63,7 @@ pub fn combine(
     r: f64,
 )
     requires { ⌜ RowsPre nrow (k + 1) lo hi (length (now panel)) ⌝ }
+    requires { ⌜ Fits w64 (k + 1) ⌝ }
     ensures { λ _. ⌜ view nrow (now (panel .exit))
         ≡ withColumn
         (withColumn (view nrow (now (panel .entry))) k lo hi
@@ -66,22 +72,26 @@ pub fn combine(
         (combined (columnOf (view nrow (now (panel .entry))) (k + 1)) (columnOf (view nrow (now (panel .entry))) k)
         d11 d21 r) ⌝ }
 {
-    let a = lo + k * nrow;
-    let b = hi + k * nrow + nrow;
-    kernels::combine_own(&mut panel[a..b], nrow, hi - lo, d11, d21, d22, r);
+    let first = column_start(nrow, k);
+    let second = column_start(nrow, k + 1);
+    let a = lo + first;
+    let b = hi + second;
+    kernels::combine_own(&mut panel[a..b], second - first, hi - lo, d11, d21, d22, r);
 }
 
 // Rows lo up to hi of column j lose those of column k, which stands before it, times m. What is lent begins with them:
-// the part of the panel from lo + k·nrow on.
+// the part of the panel from row lo of column k on.
 fn less(panel: &mut [f64], nrow: usize, k: usize, j: usize, lo: usize, hi: usize, m: f64)
     requires { ⌜ LaterPre nrow k j lo hi (length (now panel)) ⌝ }
     ensures { λ _. ⌜ view nrow (now (panel .exit))
         ≡ withColumn (view nrow (now (panel .entry))) j lo hi
         (lessTimes (columnOf (view nrow (now (panel .entry))) j) (columnOf (view nrow (now (panel .entry))) k) m) ⌝ }
 {
-    let a = lo + k * nrow;
-    let x = lo + j * nrow;
-    let e = hi + j * nrow;
+    let first = column_start(nrow, k);
+    let own = column_start(nrow, j);
+    let a = lo + first;
+    let x = lo + own;
+    let e = hi + own;
     kernels::less_ahead(&mut panel[a..e], x - a, hi - lo, m);
 }
 
@@ -113,9 +123,11 @@ pub fn less_two(
         (lessTwo (columnOf (view nrow (now (panel .entry))) j) (columnOf (view nrow (now (panel .entry))) k)
         (columnOf (view nrow (now (panel .entry))) (k + 1)) (m .0) (m .1)) ⌝ }
 {
-    let a = lo + k * nrow;
-    let x = lo + j * nrow;
-    let e = hi + j * nrow;
+    let first = column_start(nrow, k);
+    let own = column_start(nrow, j);
+    let a = lo + first;
+    let x = lo + own;
+    let e = hi + own;
     kernels::less_two_ahead(&mut panel[a..e], nrow, x - a, hi - lo, m.0, m.1);
 }
 
@@ -136,9 +148,11 @@ pub fn less_three(
         (columnOf (view nrow (now (panel .entry))) (k + 1)) (columnOf (view nrow (now (panel .entry))) (k + 2))
         (m .0) (m .1) (m .2)) ⌝ }
 {
-    let a = lo + k * nrow;
-    let x = lo + j * nrow;
-    let e = hi + j * nrow;
+    let first = column_start(nrow, k);
+    let own = column_start(nrow, j);
+    let a = lo + first;
+    let x = lo + own;
+    let e = hi + own;
     kernels::less_three_ahead(&mut panel[a..e], nrow, x - a, hi - lo, m.0, m.1, m.2);
 }
 
@@ -159,9 +173,11 @@ pub fn less_four(
         (columnOf (view nrow (now (panel .entry))) (k + 1)) (columnOf (view nrow (now (panel .entry))) (k + 2))
         (columnOf (view nrow (now (panel .entry))) (k + 3)) (m .0) (m .1) (m .2) (m .3)) ⌝ }
 {
-    let a = lo + k * nrow;
-    let x = lo + j * nrow;
-    let e = hi + j * nrow;
+    let first = column_start(nrow, k);
+    let own = column_start(nrow, j);
+    let a = lo + first;
+    let x = lo + own;
+    let e = hi + own;
     kernels::less_four_ahead(&mut panel[a..e], nrow, x - a, hi - lo, m.0, m.1, m.2, m.3);
 }
 
@@ -173,9 +189,11 @@ pub fn exchange(panel: &mut [f64], nrow: usize, p: usize, q: usize, lo: usize, h
     if p == q {
         return;
     }
+    let a = column_start(nrow, p);
+    let b = column_start(nrow, q);
     for i in lo..hi {
-        let x = panel[i + p * nrow];
-        panel[i + p * nrow] = panel[i + q * nrow];
-        panel[i + q * nrow] = x;
+        let x = panel[i + a];
+        panel[i + a] = panel[i + b];
+        panel[i + b] = x;
     }
 }

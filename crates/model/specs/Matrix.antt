@@ -16,9 +16,13 @@ Mat = ℕ → ℕ → Float
 
 -- ---- lists seen as functions
 
--- a column-major panel of n rows: row i of column j stands at i + j * n; past the rows and past the list's end is not-a-number
+-- where column j of a column-major panel of n rows begins
+abbrev pub columnStart : ℕ → ℕ → ℕ
+columnStart n j = j * n
+
+-- such a panel: row i of column j stands i after its column's beginning; past the rows and past the list's end is not-a-number
 unfoldable pub view : ℕ → List Float → Mat
-view n xs = λ i j. cond (ltb i n) (getD xs (i + j * n) nan) nan
+view n xs = λ i j. cond (ltb i n) (getD xs (i + columnStart n j) nan) nan
 
 -- a list by its index: numbers, not-a-number past its end; whole numbers, 0 past its end; an order, the index itself past its end
 unfoldable pub vec : List Float → Row

@@ -7,6 +7,8 @@ use native.Mathlib.Nat.{mul-le-mul-right, le-antisymm}
 use borrow.Author.Tests.{lt-ltb, le-ltb, le-leb, lt-leb, eq-eqb, ne-eqb, eqb-true, leb-true}
 use lib.Dec.{eqb, leb}
 use lib.Ieee.{Float}
+use mir.Syntax.{w64}
+use mir.Val.{Fits}
 use Rattle.model.specs.Scalar.{reciprocalOf}
 use Rattle.model.specs.Matrix.{Mat, withColumn, exchangedPlace}
 use Rattle.model.specs.Step.{isBlock}
@@ -263,6 +265,19 @@ both-end block1 block2 M P I f kq k l c j end lo hi h g p = p ∙ ap (λ (z : �
 pub rows-two : (n k lo hi len : ℕ) (x : Diagonal) (b : Block) → x ≡ Two b → RowsPre n (lastOf k (isBlock x)) lo hi len → RowsPre n (k + 1) lo hi len
 unfolding lastOf
 rows-two n k lo hi len x b e h = rw e at h
+
+pub fits-two : (k : ℕ) (x : Diagonal) (b : Block) → x ≡ Two b → Fits w64 (lastOf k (isBlock x)) → Fits w64 (k + 1)
+unfolding lastOf
+fits-two k x b e h = rw e at h
+
+-- the last column of a pivot at column 0, and of one at l, is a number of the machine
+pub first-fits : (b : Bool) → Fits w64 (lastOf 0 b)
+unfolding lastOf
+first-fits true = record { fits = omega arith }
+first-fits false = record { fits = omega arith }
+
+pub last-fits : (l f : ℕ) (b : Bool) → f ≡ lastOf l b → Fits w64 f → Fits w64 (lastOf l b)
+last-fits l f b e h = rw e at h
 
 pub rows-one : (n k lo hi len : ℕ) (x : Diagonal) (d : Float) → x ≡ One d → RowsPre n (lastOf k (isBlock x)) lo hi len → RowsPre n k lo hi len
 unfolding lastOf

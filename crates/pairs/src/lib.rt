@@ -15,6 +15,8 @@ ghost use mathlib.Core.Path.{_≡_};
 ghost use mathlib.Core.Bool.{true, false};
 ghost use Prim.Native.Nat.{_+_, _<_, _≤_};
 ghost use lib.ListN.{length};
+ghost use mir.Syntax.{w64};
+ghost use mir.Val.{Fits};
 ghost use Rattle.model.specs.Matrix.{view, withColumn, exchangedPlace};
 ghost use Rattle.model.specs.Step.{isBlock, rowAfterStep};
 ghost use Rattle.model.specs.Head.{lastOf};
@@ -330,6 +332,7 @@ fn sweep_both(
 // The own columns of the pivot x at k: the multipliers of the rows.
 fn own_columns(part: &mut [f64], nrow: usize, rows: usize, k: usize, x: Diagonal)
     requires { ⌜ RowsPre nrow (lastOf k (isBlock x)) 0 rows (length (now part)) ⌝ }
+    requires { ⌜ Fits w64 (lastOf k (isBlock x)) ⌝ }
     ensures { λ _. ⌜ view nrow (now (part .exit)) ≡ ownBy (view nrow (now (part .entry))) k 0 rows x ⌝ }
 {
     match x {

@@ -11,13 +11,13 @@ use lib.Dec.{eqb}
 use lib.ListN.{getD}
 use lib.Ieee.{Float, nan}
 use Rattle.model.specs.Scalar.{zeroF, isFinite}
-use Rattle.model.specs.Matrix.{Row, Mat, view, vec}
+use Rattle.model.specs.Matrix.{Row, Mat, columnStart, view, vec}
 use Rattle.model.specs.Answer.{orElse}
 use Rattle.model.specs.Factor.{everyFrom, columnCheck, columnsCheck, markOf}
 use Rattle.model.specs.declared.Refusal.the-variants.{Input}
 use Rattle.model.specs.declared.Check.{Check}
 use Rattle.model.specs.declared.Check.the-variants.{Sound, Refused}
-use Rattle.grid.proofs.Laws.{test, view-at, col-in}
+use Rattle.grid.proofs.Laws.{test, col-in}
 use Rattle.grid.proofs.Parts.{column-at}
 use Rattle.scan.specs.Greatest.{DownPre}
 use Rattle.scan.specs.Finite.{markedBy, finiteFrom, columnSum, sumFinite, columnFinite, lowerFinite, firstRow, KnownFinite}
@@ -54,13 +54,13 @@ pub all-end : (f : Row) (i n m : ℕ) → i ≤ n → n ≤ i → m ≡ markOf i
 unfolding markOf finiteFrom
 all-end f i n m h l e = rw (e, le-antisymm h l) (none-marked (everyFrom (λ k. isFinite (f k)) n 0))
 
-pub column-lent : (xs : List Float) (n j lo hi : ℕ) (b : Bool) → lo ≤ hi → hi ≤ n
-    → b ≡ finiteFrom (vec (midOf (lo + j * n) (hi + j * n - (lo + j * n)) xs)) 0 (hi - lo) → b ≡ columnFinite (view n xs) j lo hi
+pub column-lent : (xs : List Float) (n j s lo hi : ℕ) (b : Bool) → s ≡ columnStart n j → lo ≤ hi → hi ≤ n
+    → b ≡ finiteFrom (vec (midOf (lo + s) (hi + s - (lo + s)) xs)) 0 (hi - lo) → b ≡ columnFinite (view n xs) j lo hi
 unfolding finiteFrom columnFinite
-column-lent xs n j lo hi b u h e =
-    let part : Row = vec (midOf (lo + j * n) (hi + j * n - (lo + j * n)) xs) in
+column-lent xs n j s lo hi b at u h e =
+    let part : Row = vec (midOf (lo + s) (hi + s - (lo + s)) xs) in
     e ∙ every-same (λ k. isFinite (part k)) (λ i. isFinite (view n xs i j)) (hi - lo) 0 lo
-    (λ k g. ap isFinite (ap part (omega arith) ∙ column-at n xs j lo hi k h g))
+    (λ k g. ap isFinite (ap part (omega arith) ∙ column-at n xs j s lo hi k at h g))
 
 -- ---- the lower positions
 
@@ -126,19 +126,18 @@ panel-sound a n c b e t = sym (columns-sound a n c 0 (sum-known a n c b e .all t
 abbrev pub fromHere : Mat → ℕ → ℕ → ℕ → ℕ → Check
 fromHere a nrow ncol j i = orElse (columnCheck a j (nrow - i) i) (columnsCheck a nrow (ncol - (j + 1)) (j + 1))
 
-module _ (xs : List Float) (n c j i : ℕ) (b : Bool) (C : Check) (h : i < n) (e : b ≡ isFinite (getD xs (i + j * n) nan))
-    (p : C ≡ fromHere (view n xs) n c j i) where
-  at : b ≡ isFinite (view n xs i j)
-  at = e ∙ ap isFinite (sym (view-at n xs i j h))
+module _ (a : Mat) (n c j i : ℕ) (x : Float) (b : Bool) (C : Check) (h : i < n) (r : x ≡ a i j) (e : b ≡ isFinite x) (p : C ≡ fromHere a n c j i) where
+  at : b ≡ isFinite (a i j)
+  at = e ∙ ap isFinite r
 
   -- a turn of the rows, and the end of them all
-  pub row-step : not b ≡ false → C ≡ fromHere (view n xs) n c j (i + 1)
+  pub row-step : not b ≡ false → C ≡ fromHere a n c j (i + 1)
   unfolding columnCheck
-  row-step f = let t : isFinite (view n xs i j) ≡ true = sym at ∙ not-false b f in p ∙ rw (left n i h, t)
+  row-step f = let t : isFinite (a i j) ≡ true = sym at ∙ not-false b f in p ∙ rw (left n i h, t)
 
   pub row-stop : not b ≡ true → Refused (Input (record { 0 = j }) (record { 0 = i })) ≡ C
   unfolding columnCheck
-  row-stop f = let t : isFinite (view n xs i j) ≡ false = sym at ∙ not-true b f in sym (p ∙ rw (left n i h, t))
+  row-stop f = let t : isFinite (a i j) ≡ false = sym at ∙ not-true b f in sym (p ∙ rw (left n i h, t))
 
 pub scan-pre : (n c j len : ℕ) → c ≤ n → len ≡ n * c → j < c → DownPre n j j n len
 scan-pre n c j len h e l = record { up = omega arith; rows = omega arith; there = col-in n c j len e l }

@@ -1,5 +1,5 @@
 -- Laws of what is left to scan, of offsets, of tests at every place and of lists by their places. Assumes nothing.
-use Prim.Native.Nat.{ℕ, zero, suc, _+_, _-_, _*_, _<_, _≤_, _^_}
+use Prim.Native.Nat.{ℕ, zero, suc, _+_, _-_, _*_, _<_, _≤_}
 use mathlib.Core.Path.{_≡_, refl, sym, _∙_, ap}
 use mathlib.Core.Bool.{Bool, true, false, _&&_, false≢true}
 use mathlib.Core.List.{List}
@@ -7,9 +7,8 @@ use native.Mathlib.Nat.{mul-le-mul-right, suc-mul, not-suc-le-zero, le-of-suc-le
 use native.Mathlib.Omega.{arith}
 use lib.ListN.{length, getD}
 use lib.Seq.{ext-getD}
-use mir.Syntax.{w64}
-use mir.Val.{Fits}
 use Rattle.model.specs.Matrix.{tabulate, tabulateFrom}
+use Rattle.grid.specs.Grid.{In}
 use Rattle.model.specs.Factor.{everyFrom}
 
 -- ---- what is left
@@ -20,18 +19,10 @@ left n i h = omega arith
 pub none : (n i : ℕ) → n ≤ i → n - i ≡ 0
 none n i h = omega arith
 
--- ---- offsets: a row's entry in the columns before hi, as the needs of an index ask it
+-- ---- a row's entry in the columns before hi
 
-pub row-in : (n hi i j len : ℕ) → i < n → j < hi → hi * n ≤ len → i + j * n < len
-row-in n hi i j len r g h = omega (arith, mul-le-mul-right n g, suc-mul j n)
-
-pub row-fits : (n hi i j len : ℕ) → i < n → j < hi → hi * n ≤ len → len < 2 ^ 64 → Fits w64 (i + j * n)
-row-fits n hi i j len r g h l = record { fits = omega (arith, row-in n hi i j len r g h) }
-
-pub row-column-fits : (n hi i j len : ℕ) → i < n → j < hi → hi * n ≤ len → len < 2 ^ 64 → Fits w64 (j * n)
-row-column-fits n hi i j len r g h l = record { fits = omega (arith, row-in n hi i j len r g h) }
-
-pub ruleset row-offsets = (row-in, row-fits, row-column-fits)
+pub row-in : (n hi i j len : ℕ) → i < n → j < hi → hi * n ≤ len → In n i j len
+row-in n hi i j len r g h = record { row = r; off = omega (arith, mul-le-mul-right n g, suc-mul j n) }
 
 -- ---- every place
 

@@ -12,7 +12,7 @@ use lib.ListN.{length, getD, set, replicate, length-set, length-replicate, getD-
 use lib.Seq.{getD-set-same, getD-set-other}
 use lib.Ieee.{Float, nan}
 use Rattle.model.specs.Scalar.{isFinite}
-use Rattle.model.specs.Matrix.{Mat, view, vec, bytes}
+use Rattle.model.specs.Matrix.{Mat, columnStart, view, vec, bytes}
 use Rattle.model.specs.Factor.{everyFrom, markOf}
 use Rattle.grid.proofs.Laws.{test, col-in}
 use Rattle.grid.proofs.Parts.{column-at}
@@ -82,13 +82,13 @@ pub tail-pre : (n c j len marks : ℕ) → c ≤ n → len ≡ n * c → j < c �
 tail-pre n c j len marks h e l m = record { rows = h; there = col-in n c j len e l; tail = m }
 
 -- a column of the tail, lent
-pub tail-lent : (xs : List Float) (ms ns : List ℕ) (n c j : ℕ) → c ≤ n → length ms ≡ n - c
-    → ns ≡ partMarked ms (midOf (c + j * n) (n + j * n - (c + j * n)) xs) (n - c) → ns ≡ marked ms (view n xs) c n j
+pub tail-lent : (xs : List Float) (ms ns : List ℕ) (n c j s : ℕ) → s ≡ columnStart n j → c ≤ n → length ms ≡ n - c
+    → ns ≡ partMarked ms (midOf (c + s) (n + s - (c + s)) xs) (n - c) → ns ≡ marked ms (view n xs) c n j
 unfolding marked partMarked vec
-tail-lent xs ms ns n c j h l p =
+tail-lent xs ms ns n c j s at h l p =
     tabulate-is 0 ns (n - c) _ (ap length p ∙ tabulate-length (length ms) _ ∙ l) (λ k g.
     ap (λ (z : List ℕ). getD z k 0) p ∙ tabulate-at (length ms) k _ 0 (omega arith)
-    ∙ rw (lt-ltb k (n - c) g) (ap (λ (x : Float). markedBy (bytes ms k) x) (column-at n xs j c n k (omega arith) g)))
+    ∙ rw (lt-ltb k (n - c) g) (ap (λ (x : Float). markedBy (bytes ms k) x) (column-at n xs j s c n k at (omega arith) g)))
 
 -- a column that is finite marks no row
 pub tail-finite : (a : Mat) (ms : List ℕ) (n c j : ℕ) (b : Bool) → length ms ≡ n - c → b ≡ columnFinite a j c n → b ≡ true → ms ≡ marked ms a c n j

@@ -1,5 +1,5 @@
 -- Laws of the greatest square: one place more, the end, and the two scans that the choice of a pivot makes. Assumes nothing.
-use Prim.Native.Nat.{ℕ, zero, suc, _+_, _-_, _*_, _<_, _≤_}
+use Prim.Native.Nat.{ℕ, zero, suc, _+_, _-_, _<_, _≤_}
 use mathlib.Core.Path.{_≡_, refl, sym, _∙_, ap, subst}
 use mathlib.Core.Logic.{inl, inr}
 use mathlib.Core.List.{List}
@@ -7,12 +7,12 @@ use native.Mathlib.Omega.{arith}
 use lib.ListN.{getD}
 use lib.Ieee.{Float, nan, lt}
 use Rattle.model.specs.Scalar.{squareOf}
-use Rattle.model.specs.Matrix.{Row, Mat, view}
+use Rattle.model.specs.Matrix.{Row, Mat, columnStart, view}
 use Rattle.model.specs.Choice.{greatest, noneYet, columnGreatest, rowGreatest}
 use Rattle.model.specs.declared.Greatest.{Greatest}
 use borrow.Author.Tests.{lt-ltb, le-ltb}
 use Rattle.grid.specs.Grid.{In}
-use Rattle.grid.proofs.Laws.{test, view-at, col-in, in-col}
+use Rattle.grid.proofs.Laws.{test, view-read, col-in, in-col}
 use Rattle.scan.specs.Greatest.{better, greatestDown, greatestAlong, across, FoundIn, DownPre, AlongPre, ColumnPre, RowPre, AcrossPre}
 use Rattle.scan.proofs.Laws.{left, none}
 
@@ -26,20 +26,20 @@ greatest-end : (f : Row) (hi i : ℕ) (g : Greatest) → hi ≤ i → greatest f
 unfolding greatest
 greatest-end f hi i g h = rw (none hi i h)
 
-pub down-step : (xs : List Float) (n column hi i : ℕ) (g h G : Greatest) → i < hi → hi ≤ n → greatestDown (view n xs) column i hi g ≡ G
-    → h ≡ better g (squareOf (getD xs (i + column * n) nan)) i → greatestDown (view n xs) column (i + 1) hi h ≡ G
+pub down-step : (xs : List Float) (n column s hi i : ℕ) (g h G : Greatest) → s ≡ columnStart n column → i < hi → hi ≤ n
+    → greatestDown (view n xs) column i hi g ≡ G → h ≡ better g (squareOf (getD xs (i + s) nan)) i → greatestDown (view n xs) column (i + 1) hi h ≡ G
 unfolding greatestDown
-down-step xs n column hi i g h G l r p e =
-    rw (e, ← view-at n xs i column (omega arith)) (greatest-step (λ k. view n xs k column) hi i g l ∙ p)
+down-step xs n column s hi i g h G at l r p e =
+    rw (e, view-read n xs i column s at (omega arith)) (greatest-step (λ k. view n xs k column) hi i g l ∙ p)
 
 pub down-end : (a : Mat) (column hi i : ℕ) (g G : Greatest) → hi ≤ i → greatestDown a column i hi g ≡ G → g ≡ G
 unfolding greatestDown
 down-end a column hi i g G h p = sym (greatest-end (λ k. a k column) hi i g h) ∙ p
 
-pub along-step : (xs : List Float) (n row hi i : ℕ) (g h G : Greatest) → i < hi → row < n → greatestAlong (view n xs) row i hi g ≡ G
-    → h ≡ better g (squareOf (getD xs (row + i * n) nan)) i → greatestAlong (view n xs) row (i + 1) hi h ≡ G
+pub along-step : (a : Mat) (row hi i : ℕ) (x : Float) (g h G : Greatest) → i < hi → greatestAlong a row i hi g ≡ G → x ≡ a row i
+    → h ≡ better g (squareOf x) i → greatestAlong a row (i + 1) hi h ≡ G
 unfolding greatestAlong
-along-step xs n row hi i g h G l r p e = rw (e, ← view-at n xs row i r) (greatest-step (view n xs row) hi i g l ∙ p)
+along-step a row hi i x g h G l p r e = rw (e, r) (greatest-step (a row) hi i g l ∙ p)
 
 pub along-end : (a : Mat) (row hi i : ℕ) (g G : Greatest) → hi ≤ i → greatestAlong a row i hi g ≡ G → g ≡ G
 unfolding greatestAlong

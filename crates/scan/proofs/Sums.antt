@@ -10,7 +10,7 @@ use lib.Dec.{ltb, eqb}
 use lib.ListN.{length, getD}
 use lib.Ieee.{Float, nan, inf, fin, add}
 use Rattle.model.specs.Scalar.{_⊕_, zeroF, isFinite}
-use Rattle.model.specs.Matrix.{Row, view, vec}
+use Rattle.model.specs.Matrix.{Row, columnStart, view, vec}
 use Rattle.model.specs.Panel.{sumFrom}
 use Rattle.grid.proofs.Laws.{test}
 use Rattle.grid.proofs.Parts.{column-at, mid-count}
@@ -214,11 +214,11 @@ of-same f g n h =
     (λ t. rw t (long-same f g n h (ltb-false n 16 t)))
 
 -- what is lent is the column from its diagonal down
-pub sum-lent : (xs : List Float) (n j : ℕ) (r : Float) → j ≤ n → n + j * n ≤ length xs
-    → r ≡ sumOf (vec (midOf (j + j * n) (n + j * n - (j + j * n)) xs)) (length (midOf (j + j * n) (n + j * n - (j + j * n)) xs))
+pub sum-lent : (xs : List Float) (n j s : ℕ) (r : Float) → s ≡ columnStart n j → j ≤ n → n + j * n ≤ length xs
+    → r ≡ sumOf (vec (midOf (j + s) (n + s - (j + s)) xs)) (length (midOf (j + s) (n + s - (j + s)) xs))
     → r ≡ columnSum (view n xs) n j
 unfolding columnSum
-sum-lent xs n j r h l e =
-    let part : Row = vec (midOf (j + j * n) (n + j * n - (j + j * n)) xs) in
-    let count : length (midOf (j + j * n) (n + j * n - (j + j * n)) xs) ≡ n - j = mid-count (j + j * n) (n + j * n) xs (omega arith) l ∙ omega arith in
-    e ∙ ap (sumOf part) count ∙ of-same part (λ i. view n xs (j + i) j) (n - j) (λ k g. column-at n xs j j n k (omega arith) g)
+sum-lent xs n j s r at h l e =
+    let part : Row = vec (midOf (j + s) (n + s - (j + s)) xs) in
+    let count : length (midOf (j + s) (n + s - (j + s)) xs) ≡ n - j = mid-count (j + s) (n + s) xs (omega arith) (omega arith) ∙ omega arith in
+    e ∙ ap (sumOf part) count ∙ of-same part (λ i. view n xs (j + i) j) (n - j) (λ k g. column-at n xs j s j n k at (omega arith) g)

@@ -46,9 +46,10 @@ fn greatest_down(
     requires { ⌜ DownPre nrow column lo hi (length (now panel)) ⌝ }
     ensures { λ g. ⌜ g ≡ greatestDown (view nrow (now (panel .entry))) column lo hi best ⌝ }
 {
+    let start = grid::column_start(nrow, column);
     let mut g = best;
     for i in lo..hi {
-        g = better(g, panel[i + column * nrow], i);
+        g = better(g, panel[i + start], i);
     }
     g
 }
@@ -67,7 +68,7 @@ fn greatest_along(
 {
     let mut g = best;
     for j in lo..hi {
-        g = better(g, panel[row + j * nrow], j);
+        g = better(g, grid::get(panel, nrow, row, j), j);
     }
     g
 }
@@ -200,9 +201,10 @@ fn column_sum(panel: &[f64], nrow: usize, j: usize) -> f64
     requires { ⌜ DownPre nrow j j nrow (length (now panel)) ⌝ }
     ensures { λ r. ⌜ r ≡ columnSum (view nrow (now (panel .entry))) nrow j ⌝ }
 {
-    let start = j + j * nrow;
-    let end = nrow + j * nrow;
-    sum_of(&panel[start..end])
+    let start = grid::column_start(nrow, j);
+    let from = j + start;
+    let end = nrow + start;
+    sum_of(&panel[from..end])
 }
 
 // A sum of all lower positions. A column's own sum waits for no other.
@@ -232,9 +234,10 @@ pub fn column_finite(panel: &[f64], nrow: usize, j: usize, lo: usize, hi: usize)
     requires { ⌜ DownPre nrow j lo hi (length (now panel)) ⌝ }
     ensures { λ r. ⌜ r ≡ columnFinite (view nrow (now (panel .entry))) j lo hi ⌝ }
 {
-    let start = lo + j * nrow;
-    let end = hi + j * nrow;
-    all_finite(&panel[start..end], hi - lo)
+    let start = grid::column_start(nrow, j);
+    let from = lo + start;
+    let end = hi + start;
+    all_finite(&panel[from..end], hi - lo)
 }
 
 // The row from which column j is looked at: its diagonal, or past its end where all of it is finite.
@@ -259,7 +262,7 @@ fn first_by_columns(input: &[f64], ncol: usize, nrow: usize) -> Check
     'columns: while column < ncol {
         row = first_row(input, nrow, column);
         while row < nrow {
-            if !scalar::is_finite(input[row + column * nrow]) {
+            if !scalar::is_finite(grid::get(input, nrow, row, column)) {
                 break 'columns;
             }
             row += 1;
@@ -302,9 +305,10 @@ fn mark_tail(marks: &mut [u8], panel: &[f64], ncol: usize, nrow: usize, j: usize
     if column_finite(panel, nrow, j, ncol, nrow) {
         return;
     }
-    let start = ncol + j * nrow;
-    let end = nrow + j * nrow;
-    mark_column(marks, &panel[start..end], nrow - ncol);
+    let start = grid::column_start(nrow, j);
+    let from = ncol + start;
+    let end = nrow + start;
+    mark_column(marks, &panel[from..end], nrow - ncol);
 }
 
 // The marks of the tail, by columns: 1 if a row holds a number not finite, else 0.

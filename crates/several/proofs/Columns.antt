@@ -20,7 +20,7 @@ unfolding runsBy columnsBy
 view-runs n f j rows W N zero h same = refl
 view-runs n f j rows W N (suc c) h same =
     let P : Row = runsBy f n (j * n) rows W c in
-    view-part n P (withPart P (j * n + c * n) (j * n + c * n + rows) (W c)) (j + c) 0 rows (W c) (N c) h
+    view-part n P (withPart P (j * n + c * n) (j * n + c * n + rows) (W c)) (j + c) ((j + c) * n) 0 rows (W c) (N c) refl h
     (ap (λ (t : ℕ). withPart P t (j * n + c * n + rows) (W c)) {y = 0 + (j + c) * n} (omega (arith, add-mul j c n))
     ∙ ap (λ (t : ℕ). withPart P (0 + (j + c) * n) t (W c)) (omega (arith, add-mul j c n)))
     (λ a x y. same c a (omega arith) y)

@@ -7,14 +7,11 @@ use Rattle.deferred.proofs.lose.Tie as tie
 larger-requires : tie.Need-larger-requires
 larger-requires c κs = search needs
 
-mul-a : tie.Need-mul-a
-mul-a c = search needs
+column-start-requires : tie.Need-column-start-requires
+column-start-requires c κs = search needs
 
 add-a : tie.Need-add-a
 add-a c = search needs
-
-mul-b : tie.Need-mul-b
-mul-b c = search needs
 
 add-b : tie.Need-add-b
 add-b c = search needs
@@ -66,9 +63,8 @@ lose-spec =
     tie.close
     (tie.spec
     larger-requires
-    mul-a
+    column-start-requires
     add-a
-    mul-b
     add-b
     sub-p
     sub-q

@@ -25,14 +25,14 @@ add-i c = search needs
 loop-holds : tie.Need-loop-holds Inv-loop μ-loop
 loop-holds c = (omega arith, omega arith, mul-le-mul-right _ (omega arith), omega arith, search cross-none)
 
-mul-swap : tie.Need-mul-swap Inv-loop μ-loop
-mul-swap c = search needs
+column-start-requires : tie.Need-column-start-requires Inv-loop μ-loop
+column-start-requires c κs = search needs
+
+column-start-requires-2 : tie.Need-column-start-requires-2 Inv-loop μ-loop
+column-start-requires-2 c κs = search needs
 
 add-swap : tie.Need-add-swap Inv-loop μ-loop
 add-swap c = search needs
-
-mul-swap-2 : tie.Need-mul-swap-2 Inv-loop μ-loop
-mul-swap-2 c = search needs
 
 add-swap-2 : tie.Need-add-swap-2 Inv-loop μ-loop
 add-swap-2 c = search needs
@@ -63,9 +63,9 @@ exchange-cross-spec =
     μ-loop
     add-i
     loop-holds
-    mul-swap
+    column-start-requires
+    column-start-requires-2
     add-swap
-    mul-swap-2
     add-swap-2
     swap-requires
     add-i-2

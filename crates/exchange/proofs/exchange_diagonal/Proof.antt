@@ -4,14 +4,14 @@ use Rattle.exchange.proofs.Parts.{diagonal-step}
 use Rattle.exchange.proofs.exchange_diagonal.Statement.{statement}
 use Rattle.exchange.proofs.exchange_diagonal.Tie as tie
 
-mul-swap : tie.Need-mul-swap
-mul-swap c = search needs
+column-start-requires : tie.Need-column-start-requires
+column-start-requires c κs = search needs
+
+column-start-requires-2 : tie.Need-column-start-requires-2
+column-start-requires-2 c κs = search needs
 
 add-swap : tie.Need-add-swap
 add-swap c = search needs
-
-mul-swap-2 : tie.Need-mul-swap-2
-mul-swap-2 c = search needs
 
 add-swap-2 : tie.Need-add-swap-2
 add-swap-2 c = search needs
@@ -27,4 +27,12 @@ returns c = search (needs, diagonal-step)
 
 pub exchange-diagonal-spec : {M : Type 1} → statement M
 exchange-diagonal-spec =
-    tie.close (tie.spec mul-swap add-swap mul-swap-2 add-swap-2 swap-requires same-length returns)
+    tie.close
+    (tie.spec
+    column-start-requires
+    column-start-requires-2
+    add-swap
+    add-swap-2
+    swap-requires
+    same-length
+    returns)

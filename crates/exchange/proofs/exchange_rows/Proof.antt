@@ -21,14 +21,11 @@ abbrev μ-loop : tie.MeasureT-loop
 loop-holds : tie.Need-loop-holds Inv-loop μ-loop
 loop-holds c = (omega arith, mul-le-mul-right _ (omega arith), omega arith, search rows-none)
 
-mul-swap : tie.Need-mul-swap Inv-loop μ-loop
-mul-swap c = search needs
+column-start-requires : tie.Need-column-start-requires Inv-loop μ-loop
+column-start-requires c κs = search needs
 
 add-swap : tie.Need-add-swap Inv-loop μ-loop
 add-swap c = search needs
-
-mul-swap-2 : tie.Need-mul-swap-2 Inv-loop μ-loop
-mul-swap-2 c = search needs
 
 add-swap-2 : tie.Need-add-swap-2 Inv-loop μ-loop
 add-swap-2 c = search needs
@@ -58,9 +55,8 @@ exchange-rows-spec =
     Inv-loop
     μ-loop
     loop-holds
-    mul-swap
+    column-start-requires
     add-swap
-    mul-swap-2
     add-swap-2
     swap-requires
     add-j

@@ -3,7 +3,7 @@ use mathlib.Core.Path.{_≡_, refl, _∙_}
 use native.Mathlib.Omega.{arith}
 use lib.ListN.{length}
 use borrow.Author.Needs.{needs}
-use Rattle.pairs.proofs.Sweeps.{placed, first-exchange, second-exchange, first-sweep, both-sweep, first-own, second-own}
+use Rattle.pairs.proofs.Sweeps.{placed, first-exchange, second-exchange, first-sweep, both-sweep, first-own, second-own, first-fits, last-fits}
 use Rattle.pairs.proofs.Rows.{pair-rows}
 use Rattle.pairs.proofs.below_pair.Statement.{statement}
 use Rattle.pairs.proofs.below_pair.Tie as tie
@@ -78,12 +78,13 @@ sweep-both-requires c κs =
 own-columns-requires : tie.Need-own-columns-requires
 own-columns-requires c κs =
     let s = c .before .before .before in
-    first-own (entry (told s) .pre .0) _ (swept-length s)
+    (first-own (entry (told s) .pre .0) _ (swept-length s), first-fits _)
 
 own-columns-requires-2 : tie.Need-own-columns-requires-2
 own-columns-requires-2 c κs =
     let o = c .before .before .before in
-    second-own (entry (told (owned o)) .pre .0) _ (o .own-columns .kept .0 ∙ swept-length (owned o))
+    let e = entry (told (owned o)) in
+    (second-own (e .pre .0) _ (o .own-columns .kept .0 ∙ swept-length (owned o)), last-fits _ _ _ (e .pre .0 .last) (e .fits .f))
 
 same-length : tie.Need-same-length
 same-length c = search needs

@@ -1,7 +1,7 @@
 -- `pairs::below_step` meets its contract: the exchange, the sweep and the own columns make the model's rows. Assumes nothing.
 use mathlib.Core.Path.{_∙_}
 use borrow.Author.Needs.{needs}
-use Rattle.pairs.proofs.Sweeps.{last-in, step-exchange, step-sweep, step-own}
+use Rattle.pairs.proofs.Sweeps.{last-in, step-exchange, step-sweep, step-own, first-fits}
 use Rattle.pairs.proofs.Rows.{step-rows}
 use Rattle.pairs.proofs.below_step.Statement.{statement}
 use Rattle.pairs.proofs.below_step.Tie as tie
@@ -48,8 +48,10 @@ sweep-first-requires c κs =
 own-columns-requires : tie.Need-own-columns-requires
 own-columns-requires c κs =
     let s = c .before .before .before in
-    let l = moved (swept s) in
-    step-own _ _ _ _ _ _ _ (entry l .pre) (told l .is-block .ensures) (l .last-column .ensures) _ (s .sweep-first .kept .0 ∙ swept s .exchange .kept .0)
+    let l = moved (swept s) in (
+      step-own _ _ _ _ _ _ _ (entry l .pre) (told l .is-block .ensures) (l .last-column .ensures) _ (s .sweep-first .kept .0 ∙ swept s .exchange .kept .0),
+      first-fits _,
+    )
 
 same-length : tie.Need-same-length
 same-length c = search needs

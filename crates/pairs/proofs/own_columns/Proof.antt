@@ -1,6 +1,6 @@
 -- `pairs::own_columns` meets its contract, for a 1x1 and for a block. Assumes nothing.
 use borrow.Author.Needs.{needs}
-use Rattle.pairs.proofs.Sweeps.{rows-one, rows-two, own-one, own-two}
+use Rattle.pairs.proofs.Sweeps.{rows-one, rows-two, fits-two, own-one, own-two}
 use Rattle.pairs.proofs.own_columns.Statement.{statement}
 use Rattle.pairs.proofs.own_columns.Tie as tie
 
@@ -20,7 +20,7 @@ reciprocal-requires-2 : tie.Need-reciprocal-requires-2
 reciprocal-requires-2 c κs = search needs
 
 combine-requires : tie.Need-combine-requires
-combine-requires c κs = search (needs, rows-two)
+combine-requires c κs = (search rows-two, search fits-two)
 
 same-length : tie.Need-same-length
 same-length c = search needs

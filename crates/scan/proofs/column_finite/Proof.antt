@@ -4,14 +4,11 @@ use Rattle.scan.proofs.Finite.{column-lent}
 use Rattle.scan.proofs.column_finite.Statement.{statement}
 use Rattle.scan.proofs.column_finite.Tie as tie
 
-mul-start : tie.Need-mul-start
-mul-start c = search needs
+column-start-requires : tie.Need-column-start-requires
+column-start-requires c κs = search needs
 
-add-start : tie.Need-add-start
-add-start c = search needs
-
-mul-end : tie.Need-mul-end
-mul-end c = search needs
+add-from : tie.Need-add-from
+add-from c = search needs
 
 add-end : tie.Need-add-end
 add-end c = search needs
@@ -41,9 +38,8 @@ pub column-finite-spec : {M : Type 1} → statement M
 column-finite-spec =
     tie.close
     (tie.spec
-    mul-start
-    add-start
-    mul-end
+    column-start-requires
+    add-from
     add-end
     mul-all-finite
     sub-all-finite

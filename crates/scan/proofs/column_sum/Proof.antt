@@ -4,14 +4,11 @@ use borrow.Author.Needs.{needs}
 use Rattle.scan.proofs.column_sum.Statement.{statement}
 use Rattle.scan.proofs.column_sum.Tie as tie
 
-mul-start : tie.Need-mul-start
-mul-start c = search needs
+column-start-requires : tie.Need-column-start-requires
+column-start-requires c κs = search needs
 
-add-start : tie.Need-add-start
-add-start c = search needs
-
-mul-end : tie.Need-mul-end
-mul-end c = search needs
+add-from : tie.Need-add-from
+add-from c = search needs
 
 add-end : tie.Need-add-end
 add-end c = search needs
@@ -38,9 +35,8 @@ pub column-sum-spec : {M : Type 1} → statement M
 column-sum-spec =
     tie.close
     (tie.spec
-    mul-start
-    add-start
-    mul-end
+    column-start-requires
+    add-from
     add-end
     mul-sum-of
     sub-sum-of

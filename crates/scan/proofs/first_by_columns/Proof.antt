@@ -9,7 +9,7 @@ use Rattle.model.specs.Matrix.{view}
 use Rattle.model.specs.Factor.{columnsCheck}
 use Rattle.model.specs.declared.Refusal.the-variants.{Input}
 use Rattle.model.specs.declared.Check.the-variants.{Refused}
-use Rattle.grid.proofs.Laws.{offsets}
+use Rattle.grid.proofs.Laws.{in-panel}
 use Rattle.scan.proofs.Finite.{fromHere, scan-pre, first-low, first-high, row-none, row-step, row-stop, row-end, column-none, column-end}
 use Rattle.scan.proofs.first_by_columns.Statement.{statement}
 use Rattle.scan.proofs.first_by_columns.Tie as tie
@@ -37,18 +37,8 @@ first-row-requires c κs = search scan-pre
 loop-holds : tie.Need-loop-holds Inv-loop μ-loop Inv-columns μ-columns
 loop-holds c = (search first-low, search first-high, search row-none)
 
-mul-is-finite : tie.Need-mul-is-finite Inv-loop μ-loop Inv-columns μ-columns
-mul-is-finite c = search (needs, offsets)
-
-add-is-finite : tie.Need-add-is-finite Inv-loop μ-loop Inv-columns μ-columns
-add-is-finite c = search (needs, offsets)
-
-mul-is-finite-2 : tie.Need-mul-is-finite-2 Inv-loop μ-loop Inv-columns μ-columns
-mul-is-finite-2 c = search (needs, offsets)
-
-shared-slice-read-is-finite :
-    tie.Need-shared-slice-read-is-finite Inv-loop μ-loop Inv-columns μ-columns
-shared-slice-read-is-finite c = search (needs, offsets)
+get-requires : tie.Need-get-requires Inv-loop μ-loop Inv-columns μ-columns
+get-requires c κs = search in-panel
 
 is-finite-requires : tie.Need-is-finite-requires Inv-loop μ-loop Inv-columns μ-columns
 is-finite-requires c κs = search needs
@@ -75,7 +65,7 @@ returns : tie.Need-returns Inv-loop μ-loop Inv-columns μ-columns
 returns c =
     ⊎-elim (λ w. absurd (let l = w .0 .left in omega arith))
     (λ w. ap (λ (i : ℕ). Refused (Input (record { 0 = c .before .before .columns .column }) (record { 0 = i }))) (w .7)
-    ∙ row-stop _ _ _ _ _ _ _ (w .3 .taken) (w .5 .ensures) (w .2 .inv .2) (w .6 .taken))
+    ∙ row-stop _ _ _ _ _ _ _ _ (w .3 .taken) (w .4 .ensures) (w .5 .ensures) (w .2 .inv .2) (w .6 .taken))
     (c .before .columns-test .came)
 
 returns-2 : tie.Need-returns-2 Inv-loop μ-loop Inv-columns μ-columns
@@ -92,10 +82,7 @@ first-by-columns-spec =
     columns-holds
     first-row-requires
     loop-holds
-    mul-is-finite
-    add-is-finite
-    mul-is-finite-2
-    shared-slice-read-is-finite
+    get-requires
     is-finite-requires
     add-row
     loop-less

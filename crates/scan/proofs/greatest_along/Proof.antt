@@ -5,7 +5,7 @@ use mathlib.Core.Path.{_≡_}
 use borrow.Author.Needs.{needs}
 use Rattle.model.specs.Matrix.{view}
 use Rattle.scan.specs.Greatest.{greatestAlong}
-use Rattle.scan.proofs.Laws.{row-offsets}
+use Rattle.scan.proofs.Laws.{row-in}
 use Rattle.scan.proofs.Squares.{along-step, along-end}
 use Rattle.scan.proofs.greatest_along.Statement.{statement}
 use Rattle.scan.proofs.greatest_along.Tie as tie
@@ -20,17 +20,8 @@ abbrev μ-loop : tie.MeasureT-loop
 loop-holds : tie.Need-loop-holds Inv-loop μ-loop
 loop-holds c = search needs
 
-mul-better : tie.Need-mul-better Inv-loop μ-loop
-mul-better c = search (needs, row-offsets)
-
-add-better : tie.Need-add-better Inv-loop μ-loop
-add-better c = search (needs, row-offsets)
-
-mul-better-2 : tie.Need-mul-better-2 Inv-loop μ-loop
-mul-better-2 c = search (needs, row-offsets)
-
-shared-slice-read-better : tie.Need-shared-slice-read-better Inv-loop μ-loop
-shared-slice-read-better c = search (needs, row-offsets)
+get-requires : tie.Need-get-requires Inv-loop μ-loop
+get-requires c κs = search (needs, row-in)
 
 better-requires : tie.Need-better-requires Inv-loop μ-loop
 better-requires c κs = search needs
@@ -54,10 +45,7 @@ greatest-along-spec =
     Inv-loop
     μ-loop
     loop-holds
-    mul-better
-    add-better
-    mul-better-2
-    shared-slice-read-better
+    get-requires
     better-requires
     add-j
     loop-less

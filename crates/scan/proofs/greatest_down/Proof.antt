@@ -10,23 +10,23 @@ use Rattle.scan.proofs.greatest_down.Statement.{statement}
 use Rattle.scan.proofs.greatest_down.Tie as tie
 
 abbrev Inv-loop : tie.InvT-loop
-Inv-loop panel nrow column lo hi g₀ i₀ g i =
+Inv-loop panel nrow column lo hi start g₀ i₀ g i =
     (lo ≤ i) × (i ≤ hi) × (greatestDown (view nrow panel) column i hi g ≡ greatestDown (view nrow panel) column lo hi g₀)
 
 abbrev μ-loop : tie.MeasureT-loop
-μ-loop panel nrow column lo hi g₀ i₀ g i = hi - i
+μ-loop panel nrow column lo hi start g₀ i₀ g i = hi - i
+
+column-start-requires : tie.Need-column-start-requires Inv-loop μ-loop
+column-start-requires c κs = search needs
 
 loop-holds : tie.Need-loop-holds Inv-loop μ-loop
 loop-holds c = search needs
 
-mul-better : tie.Need-mul-better Inv-loop μ-loop
-mul-better c = search needs
-
 add-better : tie.Need-add-better Inv-loop μ-loop
 add-better c = search needs
 
-mul-better-2 : tie.Need-mul-better-2 Inv-loop μ-loop
-mul-better-2 c = search needs
+mul-better : tie.Need-mul-better Inv-loop μ-loop
+mul-better c = search needs
 
 shared-slice-read-better : tie.Need-shared-slice-read-better Inv-loop μ-loop
 shared-slice-read-better c = search needs
@@ -52,10 +52,10 @@ greatest-down-spec =
     (tie.spec
     Inv-loop
     μ-loop
+    column-start-requires
     loop-holds
-    mul-better
     add-better
-    mul-better-2
+    mul-better
     shared-slice-read-better
     better-requires
     add-i

@@ -10,14 +10,11 @@ column-finite-requires c κs = search needs
 returns : tie.Need-returns
 returns c = search (needs, tail-finite)
 
-mul-start : tie.Need-mul-start
-mul-start c = search needs
+column-start-requires : tie.Need-column-start-requires
+column-start-requires c κs = search needs
 
-add-start : tie.Need-add-start
-add-start c = search needs
-
-mul-end : tie.Need-mul-end
-mul-end c = search needs
+add-from : tie.Need-add-from
+add-from c = search needs
 
 add-end : tie.Need-add-end
 add-end c = search needs
@@ -52,9 +49,8 @@ mark-tail-spec =
     (tie.spec
     column-finite-requires
     returns
-    mul-start
-    add-start
-    mul-end
+    column-start-requires
+    add-from
     add-end
     mul-mark-column
     sub-mark-column

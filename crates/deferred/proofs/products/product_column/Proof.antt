@@ -7,6 +7,9 @@ use Rattle.deferred.proofs.products.product_column.Tie as tie
 shared-slice-read-if1 : tie.Need-shared-slice-read-if1
 shared-slice-read-if1 c = search needs
 
+add-blend-columns : tie.Need-add-blend-columns
+add-blend-columns c = search needs
+
 mul-blend-columns : tie.Need-mul-blend-columns
 mul-blend-columns c = search needs
 
@@ -78,6 +81,7 @@ product-column-spec =
     tie.close
     (tie.spec
     shared-slice-read-if1
+    add-blend-columns
     mul-blend-columns
     shared-slice-read-blend-columns
     mul-blend-columns-2

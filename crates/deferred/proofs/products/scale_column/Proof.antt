@@ -4,26 +4,20 @@ use Rattle.deferred.proofs.Product.{scale-lent}
 use Rattle.deferred.proofs.products.scale_column.Statement.{statement}
 use Rattle.deferred.proofs.products.scale_column.Tie as tie
 
-mul-a : tie.Need-mul-a
-mul-a c = search needs
+column-start-requires : tie.Need-column-start-requires
+column-start-requires c κs = search needs
+
+column-start-requires-2 : tie.Need-column-start-requires-2
+column-start-requires-2 c κs = search needs
 
 add-a : tie.Need-add-a
 add-a c = search needs
 
-mul-b : tie.Need-mul-b
-mul-b c = search needs
-
 add-b : tie.Need-add-b
 add-b c = search needs
 
-mul-c : tie.Need-mul-c
-mul-c c = search needs
-
 add-c : tie.Need-add-c
 add-c c = search needs
-
-mul-e : tie.Need-mul-e
-mul-e c = search needs
 
 add-e : tie.Need-add-e
 add-e c = search needs
@@ -68,13 +62,11 @@ pub scale-column-spec : {M : Type 1} → statement M
 scale-column-spec =
     tie.close
     (tie.spec
-    mul-a
+    column-start-requires
+    column-start-requires-2
     add-a
-    mul-b
     add-b
-    mul-c
     add-c
-    mul-e
     add-e
     mul-scale
     sub-scale

@@ -1,8 +1,11 @@
 -- `deferred::sums::add_four` meets its contract: four terms of both columns. Assumes nothing.
-use Rattle.deferred.proofs.Sum.{four-terms}
+use Rattle.deferred.proofs.Sum.{four-pre, four-terms}
 use borrow.Author.Needs.{needs}
 use Rattle.deferred.proofs.sums.add_four.Statement.{statement}
 use Rattle.deferred.proofs.sums.add_four.Tie as tie
+
+four-places-requires : tie.Need-four-places-requires
+four-places-requires c κs = search needs
 
 add-get : tie.Need-add-get
 add-get c = search needs
@@ -70,14 +73,12 @@ add-get-14 c = search needs
 get-requires-8 : tie.Need-get-requires-8
 get-requires-8 c κs = search needs
 
-mul-a : tie.Need-mul-a
-mul-a c = search needs
-
-add-a : tie.Need-add-a
-add-a c = search needs
-
 plus-four-requires : tie.Need-plus-four-requires
-plus-four-requires c κs = search needs
+plus-four-requires c κs =
+    let start = c .before .before .before .before .before .before .before .before .before .before in
+    let at = start .four-places .ensures in
+    let pre = start .before .before .before .before .before .pre in
+    four-pre _ _ _ _ _ _ _ _ _ _ _ _ (at .0 .0) (at .0 .1) (at .1 .0) (at .1 .1) (pre .0) (pre .1)
 
 same-length : tie.Need-same-length
 same-length c = search needs
@@ -96,16 +97,20 @@ returns c =
     let l2 = l3 .before in
     let l1 = l2 .before in
     let l0 = l1 .before in
-    let pre = l0 .before .before .before .before .before .pre in
+    let at = l0 .before .four-places .ensures in
+    let pre = l0 .before .before .before .before .before .before .pre in
     let gave = four .plus-four .ensures in (
-      four-terms _ _ _ _ _ _ _ _ _ _ _ _ _ _ (pre .0 .rows) (l0 .get .ensures) (l1 .get2 .ensures) (l2 .get3 .ensures) (l3 .get4 .ensures) (gave .0),
-      four-terms _ _ _ _ _ _ _ _ _ _ _ _ _ _ (pre .1 .rows) (m0 .get5 .ensures) (m1 .get6 .ensures) (m2 .get7 .ensures) (m3 .get8 .ensures) (gave .1),
+      four-terms _ _ _ _ _ _ _ _ _ _ _ _ _ _ _ _ _ _ (at .0 .0) (at .0 .1) (at .1 .0) (at .1 .1) (pre .0 .rows) (l0 .get .ensures) (l1 .get2 .ensures)
+          (l2 .get3 .ensures) (l3 .get4 .ensures) (gave .0),
+      four-terms _ _ _ _ _ _ _ _ _ _ _ _ _ _ _ _ _ _ (at .0 .0) (at .0 .1) (at .1 .0) (at .1 .1) (pre .1 .rows) (m0 .get5 .ensures) (m1 .get6 .ensures)
+          (m2 .get7 .ensures) (m3 .get8 .ensures) (gave .1),
     )
 
 pub add-four-spec : {M : Type 1} → statement M
 add-four-spec =
     tie.close
     (tie.spec
+    four-places-requires
     add-get
     get-requires
     add-get-2
@@ -128,8 +133,6 @@ add-four-spec =
     add-get-13
     add-get-14
     get-requires-8
-    mul-a
-    add-a
     plus-four-requires
     same-length
     same-length-2

@@ -10,8 +10,8 @@ add-get c = search needs
 get-requires : tie.Need-get-requires
 get-requires c κs = search needs
 
-mul-a : tie.Need-mul-a
-mul-a c = search needs
+column-start-requires : tie.Need-column-start-requires
+column-start-requires c κs = search needs
 
 add-a : tie.Need-add-a
 add-a c = search needs
@@ -46,7 +46,7 @@ add-one-spec =
     (tie.spec
     add-get
     get-requires
-    mul-a
+    column-start-requires
     add-a
     add-b
     mul-plus

@@ -1,6 +1,6 @@
 -- `deferred::sums::plus_four` meets its contract. The invariant: the places before i of both are done by the rule; the measure is what is left.
 -- Assumes nothing.
-use Prim.Native.Nat.{_+_, _-_, _≤_}
+use Prim.Native.Nat.{_-_, _≤_}
 use mathlib.Core.Path.{_≡_}
 use lib.ListN.{length}
 use borrow.Author.Needs.{needs}
@@ -9,29 +9,19 @@ use Rattle.grid.specs.Rules.{ahead, plusFour}
 use Rattle.grid.proofs.Laws.{withPart-end}
 use Rattle.grid.proofs.Rules.{rule-none}
 use Rattle.deferred.proofs.Sum.{four-step}
-use borrow.Author.Needs.{needs}
 use Rattle.deferred.proofs.sums.plus_four.Statement.{statement}
 use Rattle.deferred.proofs.sums.plus_four.Tie as tie
 
 abbrev Inv-loop : tie.InvT-loop
-Inv-loop x₀ y₀ g a p n l m b c d i₀ x y i =
+Inv-loop x₀ y₀ g n l m a b c d i₀ x y i =
     (i ≤ n) × (length x ≡ length x₀) × (length y ≡ length y₀)
     × (vec x ≡ withPart (vec x₀) 0 i
-    (plusFour (vec x₀) (ahead a (vec g)) (ahead (a + p) (vec g)) (ahead (a + p + p) (vec g)) (ahead (a + p + p + p) (vec g)) (l .0) (l .1) (l .2) (l .3)))
+    (plusFour (vec x₀) (ahead a (vec g)) (ahead b (vec g)) (ahead c (vec g)) (ahead d (vec g)) (l .0) (l .1) (l .2) (l .3)))
     × (vec y ≡ withPart (vec y₀) 0 i
-    (plusFour (vec y₀) (ahead a (vec g)) (ahead (a + p) (vec g)) (ahead (a + p + p) (vec g)) (ahead (a + p + p + p) (vec g)) (m .0) (m .1) (m .2) (m .3)))
+    (plusFour (vec y₀) (ahead a (vec g)) (ahead b (vec g)) (ahead c (vec g)) (ahead d (vec g)) (m .0) (m .1) (m .2) (m .3)))
 
 abbrev μ-loop : tie.MeasureT-loop
-μ-loop x₀ y₀ g a p n l m b c d i₀ x y i = n - i
-
-add-b : tie.Need-add-b Inv-loop μ-loop
-add-b c = search needs
-
-add-c : tie.Need-add-c Inv-loop μ-loop
-add-c c = search needs
-
-add-d : tie.Need-add-d Inv-loop μ-loop
-add-d c = search needs
+μ-loop x₀ y₀ g n l m a b c d i₀ x y i = n - i
 
 loop-holds : tie.Need-loop-holds Inv-loop μ-loop
 loop-holds c = search (needs, rule-none)
@@ -120,9 +110,6 @@ plus-four-spec =
     (tie.spec
     Inv-loop
     μ-loop
-    add-b
-    add-c
-    add-d
     loop-holds
     add-s
     mul-s

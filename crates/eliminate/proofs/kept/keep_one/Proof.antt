@@ -10,32 +10,23 @@ sub-top c = search needs
 sub-end : tie.Need-sub-end
 sub-end c = search needs
 
-sub-a : tie.Need-sub-a
-sub-a c = search needs
+sub-column-start : tie.Need-sub-column-start
+sub-column-start c = search needs
 
-mul-a : tie.Need-mul-a
-mul-a c = search needs
+column-start-requires : tie.Need-column-start-requires
+column-start-requires c κs = search needs
+
+column-start-requires-2 : tie.Need-column-start-requires-2
+column-start-requires-2 c κs = search needs
 
 add-a : tie.Need-add-a
 add-a c = search needs
 
-sub-b : tie.Need-sub-b
-sub-b c = search needs
-
-mul-b : tie.Need-mul-b
-mul-b c = search needs
-
 add-b : tie.Need-add-b
 add-b c = search needs
 
-mul-x : tie.Need-mul-x
-mul-x c = search needs
-
 add-x : tie.Need-add-x
 add-x c = search needs
-
-mul-y : tie.Need-mul-y
-mul-y c = search needs
 
 add-y : tie.Need-add-y
 add-y c = search needs
@@ -82,15 +73,12 @@ keep-one-spec =
     (tie.spec
     sub-top
     sub-end
-    sub-a
-    mul-a
+    sub-column-start
+    column-start-requires
+    column-start-requires-2
     add-a
-    sub-b
-    mul-b
     add-b
-    mul-x
     add-x
-    mul-y
     add-y
     mul-scale
     sub-scale

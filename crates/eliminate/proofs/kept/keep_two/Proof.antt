@@ -10,44 +10,32 @@ sub-top c = search needs
 sub-end : tie.Need-sub-end
 sub-end c = search needs
 
-sub-a : tie.Need-sub-a
-sub-a c = search needs
+sub-column-start : tie.Need-sub-column-start
+sub-column-start c = search needs
 
-mul-a : tie.Need-mul-a
-mul-a c = search needs
+column-start-requires : tie.Need-column-start-requires
+column-start-requires c κs = search needs
+
+column-start-requires-2 : tie.Need-column-start-requires-2
+column-start-requires-2 c κs = search needs
+
+column-start-requires-3 : tie.Need-column-start-requires-3
+column-start-requires-3 c κs = search needs
 
 add-a : tie.Need-add-a
 add-a c = search needs
 
-sub-b : tie.Need-sub-b
-sub-b c = search needs
-
-mul-b : tie.Need-mul-b
-mul-b c = search needs
-
 add-b : tie.Need-add-b
 add-b c = search needs
-
-mul-x : tie.Need-mul-x
-mul-x c = search needs
 
 add-x : tie.Need-add-x
 add-x c = search needs
 
-mul-y : tie.Need-mul-y
-mul-y c = search needs
-
 add-y : tie.Need-add-y
 add-y c = search needs
 
-mul-u : tie.Need-mul-u
-mul-u c = search needs
-
 add-u : tie.Need-add-u
 add-u c = search needs
-
-mul-v : tie.Need-mul-v
-mul-v c = search needs
 
 add-v : tie.Need-add-v
 add-v c = search needs
@@ -93,8 +81,10 @@ sub-combine-4 c = search needs
 
 combine-requires : tie.Need-combine-requires
 combine-requires c κs =
-    let pre = c .before .before .before .before .before .pre in
-    keep-parts _ _ _ _ _ _ _ _ _ (pre .0) (pre .1 .0) (pre .1 .1)
+    let starts = c .before .before .before in
+    let pre = starts .before .before .before .before .before .pre in
+    keep-parts _ _ _ _ _ _ _ _ _ _ _ _ (starts .before .before .column-start .ensures) (starts .before .column-start2 .ensures)
+    (starts .column-start3 .ensures) (pre .0) (pre .1 .0) (pre .1 .1)
 
 same-length : tie.Need-same-length
 same-length c = search needs
@@ -108,19 +98,15 @@ keep-two-spec =
     (tie.spec
     sub-top
     sub-end
-    sub-a
-    mul-a
+    sub-column-start
+    column-start-requires
+    column-start-requires-2
+    column-start-requires-3
     add-a
-    sub-b
-    mul-b
     add-b
-    mul-x
     add-x
-    mul-y
     add-y
-    mul-u
     add-u
-    mul-v
     add-v
     mul-combine
     sub-combine

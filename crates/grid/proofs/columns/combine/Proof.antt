@@ -4,20 +4,20 @@ use Rattle.grid.proofs.Parts.{combine-lent}
 use Rattle.grid.proofs.columns.combine.Statement.{statement}
 use Rattle.grid.proofs.columns.combine.Tie as tie
 
-mul-a : tie.Need-mul-a
-mul-a c = search needs
+column-start-requires : tie.Need-column-start-requires
+column-start-requires c κs = search needs
+
+add-column-start : tie.Need-add-column-start
+add-column-start c = search needs
+
+column-start-requires-2 : tie.Need-column-start-requires-2
+column-start-requires-2 c κs = search needs
 
 add-a : tie.Need-add-a
 add-a c = search needs
 
-mul-b : tie.Need-mul-b
-mul-b c = search needs
-
 add-b : tie.Need-add-b
 add-b c = search needs
-
-add-b-2 : tie.Need-add-b-2
-add-b-2 c = search needs
 
 mul-combine-own : tie.Need-mul-combine-own
 mul-combine-own c = search needs
@@ -34,6 +34,9 @@ part-combine-own-end c = search needs
 sub-combine-own-2 : tie.Need-sub-combine-own-2
 sub-combine-own-2 c = search needs
 
+sub-combine-own-3 : tie.Need-sub-combine-own-3
+sub-combine-own-3 c = search needs
+
 combine-own-requires : tie.Need-combine-own-requires
 combine-own-requires c κs = search needs
 
@@ -47,16 +50,17 @@ pub combine-spec : {M : Type 1} → statement M
 combine-spec =
     tie.close
     (tie.spec
-    mul-a
+    column-start-requires
+    add-column-start
+    column-start-requires-2
     add-a
-    mul-b
     add-b
-    add-b-2
     mul-combine-own
     sub-combine-own
     part-combine-own-start
     part-combine-own-end
     sub-combine-own-2
+    sub-combine-own-3
     combine-own-requires
     same-length
     returns)

@@ -11,62 +11,56 @@ use Rattle.grid.proofs.columns.exchange.Statement.{statement}
 use Rattle.grid.proofs.columns.exchange.Tie as tie
 
 abbrev Inv-loop : tie.InvT-loop
-Inv-loop panel₀ nrow p q lo hi i₀ panel i =
+Inv-loop panel₀ nrow p q lo hi a b i₀ panel i =
     (lo ≤ i) × (i ≤ hi) × (length panel ≡ length panel₀) × (view nrow panel ≡ columnsExchanged (view nrow panel₀) p q lo i)
 
 abbrev μ-loop : tie.MeasureT-loop
-μ-loop panel₀ nrow p q lo hi i₀ panel i = hi - i
+μ-loop panel₀ nrow p q lo hi a b i₀ panel i = hi - i
 
 returns : tie.Need-returns Inv-loop μ-loop
 returns c = search (needs, exchange-same)
 
+column-start-requires : tie.Need-column-start-requires Inv-loop μ-loop
+column-start-requires c κs = search needs
+
+column-start-requires-2 : tie.Need-column-start-requires-2 Inv-loop μ-loop
+column-start-requires-2 c κs = search needs
+
 loop-holds : tie.Need-loop-holds Inv-loop μ-loop
 loop-holds c = search (needs, exchange-none)
-
-mul-x : tie.Need-mul-x Inv-loop μ-loop
-mul-x c = search needs
 
 add-x : tie.Need-add-x Inv-loop μ-loop
 add-x c = search needs
 
-mul-x-2 : tie.Need-mul-x-2 Inv-loop μ-loop
-mul-x-2 c = search needs
+mul-x : tie.Need-mul-x Inv-loop μ-loop
+mul-x c = search needs
 
 slice-read-x : tie.Need-slice-read-x Inv-loop μ-loop
 slice-read-x c = search needs
 
-mul-panel : tie.Need-mul-panel Inv-loop μ-loop
-mul-panel c = search needs
-
 add-panel : tie.Need-add-panel Inv-loop μ-loop
 add-panel c = search needs
 
-mul-panel-2 : tie.Need-mul-panel-2 Inv-loop μ-loop
-mul-panel-2 c = search needs
+mul-panel : tie.Need-mul-panel Inv-loop μ-loop
+mul-panel c = search needs
 
 slice-read-panel : tie.Need-slice-read-panel Inv-loop μ-loop
 slice-read-panel c = search needs
 
-mul-panel-3 : tie.Need-mul-panel-3 Inv-loop μ-loop
-mul-panel-3 c = search needs
-
 add-panel-2 : tie.Need-add-panel-2 Inv-loop μ-loop
 add-panel-2 c = search needs
 
-mul-panel-4 : tie.Need-mul-panel-4 Inv-loop μ-loop
-mul-panel-4 c = search needs
+mul-panel-2 : tie.Need-mul-panel-2 Inv-loop μ-loop
+mul-panel-2 c = search needs
 
 slice-write-panel : tie.Need-slice-write-panel Inv-loop μ-loop
 slice-write-panel c = search needs
 
-mul-panel-5 : tie.Need-mul-panel-5 Inv-loop μ-loop
-mul-panel-5 c = search needs
-
 add-panel-3 : tie.Need-add-panel-3 Inv-loop μ-loop
 add-panel-3 c = search needs
 
-mul-panel-6 : tie.Need-mul-panel-6 Inv-loop μ-loop
-mul-panel-6 c = search needs
+mul-panel-3 : tie.Need-mul-panel-3 Inv-loop μ-loop
+mul-panel-3 c = search needs
 
 slice-write-panel-2 : tie.Need-slice-write-panel-2 Inv-loop μ-loop
 slice-write-panel-2 c = simp length-set (omega arith)
@@ -93,22 +87,20 @@ exchange-spec =
     Inv-loop
     μ-loop
     returns
+    column-start-requires
+    column-start-requires-2
     loop-holds
-    mul-x
     add-x
-    mul-x-2
+    mul-x
     slice-read-x
-    mul-panel
     add-panel
-    mul-panel-2
+    mul-panel
     slice-read-panel
-    mul-panel-3
     add-panel-2
-    mul-panel-4
+    mul-panel-2
     slice-write-panel
-    mul-panel-5
     add-panel-3
-    mul-panel-6
+    mul-panel-3
     slice-write-panel-2
     add-i
     loop-less

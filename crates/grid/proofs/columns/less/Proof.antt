@@ -4,38 +4,35 @@ use Rattle.grid.proofs.Parts.{later-room, later-ahead, less-lent}
 use Rattle.grid.proofs.columns.less.Statement.{statement}
 use Rattle.grid.proofs.columns.less.Tie as tie
 
-mul-a : tie.Need-mul-a
-mul-a c = let room = later-room _ _ _ _ _ _ (c .before .pre) in search needs
+column-start-requires : tie.Need-column-start-requires
+column-start-requires c κs = let room = later-room _ _ _ _ _ _ (c .before .pre) in search needs
+
+column-start-requires-2 : tie.Need-column-start-requires-2
+column-start-requires-2 c κs = search needs
 
 add-a : tie.Need-add-a
-add-a c = let room = later-room _ _ _ _ _ _ (c .before .pre) in search needs
-
-mul-x : tie.Need-mul-x
-mul-x c = search needs
+add-a c = let room = later-room _ _ _ _ _ _ (c .before .before .before .pre) in search needs
 
 add-x : tie.Need-add-x
 add-x c = search needs
-
-mul-e : tie.Need-mul-e
-mul-e c = search needs
 
 add-e : tie.Need-add-e
 add-e c = search needs
 
 mul-less-ahead : tie.Need-mul-less-ahead
-mul-less-ahead c = let room = later-room _ _ _ _ _ _ (c .before .pre) in search needs
+mul-less-ahead c = let room = later-room _ _ _ _ _ _ (c .before .before .before .pre) in search needs
 
 sub-less-ahead : tie.Need-sub-less-ahead
-sub-less-ahead c = let room = later-room _ _ _ _ _ _ (c .before .pre) in search needs
+sub-less-ahead c = let room = later-room _ _ _ _ _ _ (c .before .before .before .pre) in search needs
 
 part-less-ahead-start : tie.Need-part-less-ahead-start
-part-less-ahead-start c = let room = later-room _ _ _ _ _ _ (c .before .pre) in search needs
+part-less-ahead-start c = let room = later-room _ _ _ _ _ _ (c .before .before .before .pre) in search needs
 
 part-less-ahead-end : tie.Need-part-less-ahead-end
 part-less-ahead-end c = search needs
 
 sub-less-ahead-2 : tie.Need-sub-less-ahead-2
-sub-less-ahead-2 c = let room = later-room _ _ _ _ _ _ (c .before .before .pre) in search needs
+sub-less-ahead-2 c = let room = later-room _ _ _ _ _ _ (c .before .before .before .before .pre) in search needs
 
 sub-less-ahead-3 : tie.Need-sub-less-ahead-3
 sub-less-ahead-3 c = search needs
@@ -53,11 +50,10 @@ pub less-spec : {M : Type 1} → statement M
 less-spec =
     tie.close
     (tie.spec
-    mul-a
+    column-start-requires
+    column-start-requires-2
     add-a
-    mul-x
     add-x
-    mul-e
     add-e
     mul-less-ahead
     sub-less-ahead

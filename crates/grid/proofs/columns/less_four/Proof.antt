@@ -4,38 +4,35 @@ use Rattle.grid.proofs.Parts.{later-room-more, later-four-ahead, less-f
 use Rattle.grid.proofs.columns.less_four.Statement.{statement}
 use Rattle.grid.proofs.columns.less_four.Tie as tie
 
-mul-a : tie.Need-mul-a
-mul-a c = let room = later-room-more _ _ 3 _ _ _ _ (c .before .pre) in search needs
+column-start-requires : tie.Need-column-start-requires
+column-start-requires c κs = let room = later-room-more _ _ 3 _ _ _ _ (c .before .pre) in search needs
+
+column-start-requires-2 : tie.Need-column-start-requires-2
+column-start-requires-2 c κs = search needs
 
 add-a : tie.Need-add-a
-add-a c = let room = later-room-more _ _ 3 _ _ _ _ (c .before .pre) in search needs
-
-mul-x : tie.Need-mul-x
-mul-x c = search needs
+add-a c = let room = later-room-more _ _ 3 _ _ _ _ (c .before .before .before .pre) in search needs
 
 add-x : tie.Need-add-x
 add-x c = search needs
-
-mul-e : tie.Need-mul-e
-mul-e c = search needs
 
 add-e : tie.Need-add-e
 add-e c = search needs
 
 mul-less-four-ahead : tie.Need-mul-less-four-ahead
-mul-less-four-ahead c = let room = later-room-more _ _ 3 _ _ _ _ (c .before .pre) in search needs
+mul-less-four-ahead c = let room = later-room-more _ _ 3 _ _ _ _ (c .before .before .before .pre) in search needs
 
 sub-less-four-ahead : tie.Need-sub-less-four-ahead
-sub-less-four-ahead c = let room = later-room-more _ _ 3 _ _ _ _ (c .before .pre) in search needs
+sub-less-four-ahead c = let room = later-room-more _ _ 3 _ _ _ _ (c .before .before .before .pre) in search needs
 
 part-less-four-ahead-start : tie.Need-part-less-four-ahead-start
-part-less-four-ahead-start c = let room = later-room-more _ _ 3 _ _ _ _ (c .before .pre) in search needs
+part-less-four-ahead-start c = let room = later-room-more _ _ 3 _ _ _ _ (c .before .before .before .pre) in search needs
 
 part-less-four-ahead-end : tie.Need-part-less-four-ahead-end
 part-less-four-ahead-end c = search needs
 
 sub-less-four-ahead-2 : tie.Need-sub-less-four-ahead-2
-sub-less-four-ahead-2 c = let room = later-room-more _ _ 3 _ _ _ _ (c .before .before .pre) in search needs
+sub-less-four-ahead-2 c = let room = later-room-more _ _ 3 _ _ _ _ (c .before .before .before .before .pre) in search needs
 
 sub-less-four-ahead-3 : tie.Need-sub-less-four-ahead-3
 sub-less-four-ahead-3 c = search needs
@@ -53,11 +50,10 @@ pub less-four-spec : {M : Type 1} → statement M
 less-four-spec =
     tie.close
     (tie.spec
-    mul-a
+    column-start-requires
+    column-start-requires-2
     add-a
-    mul-x
     add-x
-    mul-e
     add-e
     mul-less-four-ahead
     sub-less-four-ahead

@@ -4,14 +4,11 @@ use Rattle.grid.proofs.Parts.{plus-lent}
 use Rattle.grid.proofs.columns.plus.Statement.{statement}
 use Rattle.grid.proofs.columns.plus.Tie as tie
 
-mul-a : tie.Need-mul-a
-mul-a c = search needs
+column-start-requires : tie.Need-column-start-requires
+column-start-requires c κs = search needs
 
 add-a : tie.Need-add-a
 add-a c = search needs
-
-mul-b : tie.Need-mul-b
-mul-b c = search needs
 
 add-b : tie.Need-add-b
 add-b c = search needs
@@ -56,9 +53,8 @@ pub plus-spec : {M : Type 1} → statement M
 plus-spec =
     tie.close
     (tie.spec
-    mul-a
+    column-start-requires
     add-a
-    mul-b
     add-b
     mul-plus
     sub-plus
