@@ -8,7 +8,7 @@ use borrow.Author.Tests.{eqb-true, ltb-true, not-false}
 use lib.ListN.{length, getD, set}
 use lib.Ieee.{Float, nan}
 use Rattle.model.specs.Scalar.{_⊕_}
-use Rattle.model.specs.Matrix.{Row, Mat, view, vec, bytes, columnMajor}
+use Rattle.model.specs.Matrix.{Row, Mat, columnStart, view, vec, bytes, columnMajor}
 use Rattle.model.specs.Assembly.{Entries, entriesSound, firstNot, placeSound, assemblyCheck, addedAt, assembledFrom, assemblyOf}
 use Rattle.model.specs.declared.Refusal.{Refusal}
 use Rattle.model.specs.declared.Refusal.the-variants.{AssemblyLength, AssemblyPlace, AssemblyNumber}
@@ -70,10 +70,10 @@ module _ (ncol nrow : ℕ) (es : Entries) (panel : List Float) where
 
 -- ---- the entries
 
-pub added-set : (n : ℕ) (xs : List Float) (i j : ℕ) (v : Float) → In n i j (length xs)
-    → view n (set xs (i + j * n) (getD xs (i + j * n) nan ⊕ v)) ≡ addedAt (view n xs) i j v
+pub added-set : (n : ℕ) (xs : List Float) (i j s : ℕ) (v : Float) → s ≡ columnStart n j → In n i j (length xs)
+    → view n (set xs (i + s) (getD xs (i + s) nan ⊕ v)) ≡ addedAt (view n xs) i j v
 unfolding addedAt
-added-set n xs i j v h = own-set n xs i j (λ x. x ⊕ v) h
+added-set n xs i j s v at h = rw at (own-set n xs i j (λ x. x ⊕ v) h)
 
 pub place-in : (n : ℕ) (is js : List ℕ) (xs : List Float) (k len m : ℕ) → AddPre n is js xs len → k < length is → m ≡ len → In n (bytes is k) (bytes js k) m
 place-in n is js xs k len m w h e = rw e (w .places k h)

@@ -107,7 +107,8 @@ fn add_at(panel: &mut [f64], nrow: usize, row: LocalRow, column: Elim, v: f64)
     requires { ⌜ In nrow (row .0) (column .0) (length (now panel)) ⌝ }
     ensures { λ _. ⌜ view nrow (now (panel .exit)) ≡ addedAt (view nrow (now (panel .entry))) (row .0) (column .0) v ⌝ }
 {
-    let at = row.0 + column.0 * nrow;
+    let start = grid::column_start(nrow, column.0);
+    let at = row.0 + start;
     panel[at] = panel[at] + v;
 }
 

@@ -192,6 +192,9 @@ module _ (nrow ncol nb kb ke k len lenM ld ls lb lp : ℕ) (sizes : TailPre nrow
       let few : k + 1 ≤ ncol = omega (arith, sizes .cols) in
       omega (arith, mul-le-mul-right nrow few, add-mul k 1 nrow, mul-comm nrow ncol, sizes .size, sizes .head, sizes .cols)
 
+  pub lent-place : (a : ℕ) → a ≡ ke + k * nrow → a ≤ len
+  lent-place a e = omega (arith, lent-start)
+
   pub lent-pre : (lenP : ℕ) → lenP ≡ len - (ke + k * nrow) → LentPre nrow ke k lenP
   lent-pre lenP e =
       let few : k + (ke - k - 1) + 1 ≤ ncol = omega (arith, sizes .cols) in

@@ -43,6 +43,10 @@ module _ (a e : ℕ) (xs : List Float) (end : e ≡ length xs) where
   pub part-length : length (midOf a (e - a) xs) ≡ e - a
   part-length = ap length part-is ∙ length-drop a xs ∙ ap (λ (n : ℕ). n - a) (sym end)
 
+  -- the same where a is the place b
+  pub part-count : (b : ℕ) → a ≡ b → length (midOf a (e - a) xs) ≡ e - b
+  part-count b at = part-length ∙ ap (λ (n : ℕ). e - n) at
+
   module _ (ys : List Float) (h : a ≤ e) (ly : length ys ≡ length (midOf a (e - a) xs)) where
     same-length : length ys ≡ e - a
     same-length = ly ∙ part-length

@@ -5,6 +5,7 @@
 use diagonal::block_begins;
 use diagonal::diagonal_at;
 use diagonal::past;
+use grid::column_start;
 use grid::columns;
 use model::Elim;
 use model::Frame;
@@ -16,7 +17,9 @@ ghost use mathlib.Core.Path.{_≡_};
 ghost use Prim.Native.Nat.{_+_, _-_, _<_, _≤_};
 ghost use lib.Dec.{eqb};
 ghost use lib.ListN.{length};
-ghost use Rattle.model.specs.Matrix.{view, bytes};
+ghost use mir.Syntax.{w64};
+ghost use mir.Val.{Fits};
+ghost use Rattle.model.specs.Matrix.{columnStart, view, bytes};
 ghost use Rattle.model.specs.Step.{diagonalsOf, pastOf, firstOf, arrived, rowStepped, rowAfterSteps};
 ghost use Rattle.model.specs.Kept.{Starts};
 ghost use Rattle.whole.specs.Whole.{below};
@@ -40,6 +43,14 @@ fn column_from(k: Elim, row: LocalRow) -> usize
     ensures { λ r. ⌜ r ≡ row .0 - k .0 ⌝ }
 {
     row.0 - k.0
+}
+
+// Where row i of column j stands, in a panel of nrow rows.
+fn place(nrow: usize, i: usize, j: usize) -> usize
+    requires { ⌜ Fits w64 (i + columnStart nrow j) ⌝ }
+    ensures { λ r. ⌜ r ≡ i + columnStart nrow j ⌝ }
+{
+    i + column_start(nrow, j)
 }
 
 // The exchange before the step at k: of a block's first column, where its row is another.
@@ -106,7 +117,7 @@ fn tail_step(
         nb,
         columns: ke - k.0,
     };
-    let start = (k.0 - kb) + (k.0 - kb) * nb;
+    let start = place(nb, k.0 - kb, k.0 - kb);
     below_step(part, &mult[start..], lent, column_from(k, kp), pivot);
 }
 
@@ -152,7 +163,7 @@ fn tail_pair(
         nb,
         columns: ke - k.0,
     };
-    let start = (k.0 - kb) + (k.0 - kb) * nb;
+    let start = place(nb, k.0 - kb, k.0 - kb);
     below_pair(
         part,
         &mult[start..],
@@ -194,7 +205,7 @@ fn turn(
 {
     let nrow = at.nrow;
     let ke = at.ke;
-    let start = ke + k.0 * nrow;
+    let start = place(nrow, ke, k.0);
     let l = past(blocks, k);
     if l < ke {
         if stays(blocks, partners, ke, Elim(l)) {

@@ -9,7 +9,7 @@ use lib.Dec.{ltb}
 use lib.ListN.{length, getD, set}
 use lib.Ieee.{Float, nan}
 use Rattle.model.specs.Scalar.{_⊕_, _⊖_, _⊗_, zeroF}
-use Rattle.model.specs.Matrix.{Row, Mat, view, vec, bytes, within, withPart}
+use Rattle.model.specs.Matrix.{Row, Mat, columnStart, view, vec, bytes, within, withPart}
 use Rattle.model.specs.Panel.{timesD, sumFrom}
 use Rattle.model.proofs.Cases.{test}
 use Rattle.grid.specs.Grid.{In}
@@ -115,10 +115,10 @@ sum-column nk n i room panel v s len w h e =
 
 -- ---- what a column loses
 
-pub less-set : (n : ℕ) (xs : List Float) (i j : ℕ) (x : Float) → In n i j (length xs)
-    → view n (set xs (i + j * n) (getD xs (i + j * n) nan ⊖ x)) ≡ lessAt (view n xs) i j x
+pub less-set : (n : ℕ) (xs : List Float) (i j s : ℕ) (x : Float) → s ≡ columnStart n j → In n i j (length xs)
+    → view n (set xs (i + s) (getD xs (i + s) nan ⊖ x)) ≡ lessAt (view n xs) i j x
 unfolding lessAt
-less-set n xs i j x h = own-set n xs i j (λ y. y ⊖ x) h
+less-set n xs i j s x at h = rw at (own-set n xs i j (λ y. y ⊖ x) h)
 
 module _ (places : ℕ → ℕ) (acc : Row) (j hi : ℕ) where
   pub less-step : (r : ℕ) (a b w : Mat) (p : ℕ) (x : Float) → r < hi → p ≡ places r → x ≡ acc r → b ≡ lessAt a p j x

@@ -10,6 +10,7 @@ ghost use Rattle.update.specs.Apply.{weighed, sums, fromRow, lessAt, les
 ghost use Rattle.update.specs.Apply.{WeightPre, WeighPre, SumPre, SubtractPre, ApplyPre, RowPre};
 use super::Shapes;
 use super::rows;
+use grid::column_start;
 use grid::columns;
 use model::COLUMNS_MAX;
 use model::Elim;
@@ -89,7 +90,8 @@ fn less_at(panel: &mut [f64], nrow: usize, row: LocalRow, column: Elim, x: f64)
     requires { ⌜ In nrow (row .0) (column .0) (length (now panel)) ⌝ }
     ensures { λ _. ⌜ view nrow (now (panel .exit)) ≡ lessAt (view nrow (now (panel .entry))) (row .0) (column .0) x ⌝ }
 {
-    let at = row.0 + column.0 * nrow;
+    let start = column_start(nrow, column.0);
+    let at = row.0 + start;
     panel[at] = panel[at] - x;
 }
 

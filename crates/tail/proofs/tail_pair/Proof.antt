@@ -3,7 +3,7 @@ use mathlib.Core.Path.{refl}
 use native.Mathlib.Omega.{arith}
 use borrow.Author.Needs.{needs}
 use Rattle.tail.proofs.Asked.{start-fits, pivot-pre, pair-pre, lent-kept, column-is, row-ahead, past-later}
-use Rattle.tail.proofs.Lent.{part-length, kept-from}
+use Rattle.tail.proofs.Lent.{part-count, kept-from}
 use Rattle.tail.proofs.Laws.{pair-done}
 use Rattle.tail.proofs.tail_pair.Statement.{statement}
 use Rattle.tail.proofs.tail_pair.Tie as tie
@@ -20,10 +20,14 @@ abbrev first : tie.After-past → tie.After-partner
 first c = c .before .before
 
 abbrev read : tie.After-below-pair-arg → tie.After-past
-read c = c .before .before .before .before
+read c = c .before .before .before .before .before
+
+-- where the multipliers begin
+abbrev placed : tie.After-column-from → tie.After-place
+placed c = c .before .before .before .before .before .before
 
 abbrev counted : tie.After-column-from → tie.After-past
-counted c = c .before .before .before .before .before .before .before .before .before
+counted c = c .before .before .before .before .before .before .before .before .before .before
 
 -- from what was read last to the function's entry
 abbrev start : tie.After-past → tie.Start
@@ -59,30 +63,24 @@ past-requires c κs =
 sub-last : tie.Need-sub-last
 sub-last c = let more = past-later _ _ _ (c .past .ensures) in search needs
 
-sub-start : tie.Need-sub-start
-sub-start c = search needs
+sub-place : tie.Need-sub-place
+sub-place c = search needs
 
-sub-start-2 : tie.Need-sub-start-2
-sub-start-2 c = search needs
+sub-place-2 : tie.Need-sub-place-2
+sub-place-2 c = search needs
 
-sub-start-3 : tie.Need-sub-start-3
-sub-start-3 c =
+sub-place-3 : tie.Need-sub-place-3
+sub-place-3 c =
     let from = start (c .before .before) .pre .1 .0 .from in
     search needs
 
-sub-start-4 : tie.Need-sub-start-4
-sub-start-4 c =
+sub-place-4 : tie.Need-sub-place-4
+sub-place-4 c =
     let from = start (c .before .before .before) .pre .1 .0 .from in
     search needs
 
-mul-start : tie.Need-mul-start
-mul-start c =
-    let s = start (c .before .before .before) in
-    let room = start-fits _ _ _ _ _ _ _ _ _ (s .pre .1 .0) (s .pre .0 .here) in
-    search needs
-
-add-start : tie.Need-add-start
-add-start c =
+place-requires : tie.Need-place-requires
+place-requires c κs =
     let s = start (c .before .before .before) in
     let room = start-fits _ _ _ _ _ _ _ _ _ (s .pre .1 .0) (s .pre .0 .here) in
     search needs
@@ -140,7 +138,7 @@ below-pair-requires c κs =
     let s = entry b in
     let after = s .pre .1 .1 .1 in
     pair-pre _ _ _ _ _ _ _ _ _ _ _ _ _ _ (lent-kept _ _ _ _ _ (s .pre .0) (b .arrive .kept .0)) (s .pre .1 .0) (s .pre .1 .1 .0)
-    (part-length _ _ (s .args .mult .now) refl) _ _ _ _ _ _ _ _ _ _ (after .1 .0 .0) (after .1 .0 .1) (after .0)
+    (part-count _ _ (s .args .mult .now) refl _ (placed (c .before) .place .ensures)) _ _ _ _ _ _ _ _ _ _ (after .1 .0 .0) (after .1 .0 .1) (after .0)
     (first p .before .before .diagonal-at .ensures) (first p .before .diagonal-at2 .ensures) (p .past .ensures) refl refl
     (column-is _ _ _ _ (c .before .column-from .ensures) (first p .partner .ensures)) (column-is _ _ _ _ (c .column-from2 .ensures) (p .before .partner2 .ensures))
 
@@ -156,7 +154,7 @@ returns c =
     let r = s .pre .1 .0 in
     let after = s .pre .1 .1 .1 in
     let more = past-later _ _ _ (after .1 .0 .0) in
-    pair-done _ _ _ _ (kept-from _ _ _ _ _ _ (s .args .mult .now) (r .from) (r .width) refl refl) _ _ _ _ _ _ _ _ (s .pre .1 .1 .0) (b .arrive .ensures) _ _ _ _ _ _
+    pair-done _ _ _ _ (kept-from _ _ _ _ _ _ (s .args .mult .now) (r .from) (r .width) (placed (f .before) .place .ensures) refl) _ _ _ _ _ _ _ _ (s .pre .1 .1 .0) (b .arrive .ensures) _ _ _ _ _ _
     (omega arith) (after .0) (after .1 .1) (first p .before .before .diagonal-at .ensures) (first p .before .diagonal-at2 .ensures)
     (column-is _ _ _ _ (f .before .column-from .ensures) (first p .partner .ensures)) (column-is _ _ _ _ (f .column-from2 .ensures) (p .before .partner2 .ensures)) refl
     (c .before .before .below-pair .ensures)
@@ -172,12 +170,11 @@ tail-pair-spec =
     partner-requires-2
     past-requires
     sub-last
-    sub-start
-    sub-start-2
-    sub-start-3
-    sub-start-4
-    mul-start
-    add-start
+    sub-place
+    sub-place-2
+    sub-place-3
+    sub-place-4
+    place-requires
     mul-below-pair
     sub-below-pair
     part-below-pair-start

@@ -2,7 +2,7 @@
 use mathlib.Core.Path.{refl}
 use borrow.Author.Needs.{needs}
 use Rattle.tail.proofs.Asked.{start-fits, pivot-pre, step-pre, lent-kept, column-is, row-ahead}
-use Rattle.tail.proofs.Lent.{part-length, kept-from}
+use Rattle.tail.proofs.Lent.{part-count, kept-from}
 use Rattle.tail.proofs.Laws.{step-done}
 use Rattle.tail.proofs.tail_step.Statement.{statement}
 use Rattle.tail.proofs.tail_step.Tie as tie
@@ -16,7 +16,7 @@ abbrev begun : tie.After-partner → tie.After-arrive
 begun c = c .before .before .before .before
 
 abbrev read : tie.After-below-step-arg → tie.After-partner
-read c = c .before .before .before .before
+read c = c .before .before .before .before .before
 
 -- ---- the needs
 
@@ -31,26 +31,20 @@ diagonal-at-requires c κs =
 partner-requires : tie.Need-partner-requires
 partner-requires c κs = search needs
 
-sub-start : tie.Need-sub-start
-sub-start c = search needs
+sub-place : tie.Need-sub-place
+sub-place c = search needs
 
-sub-start-2 : tie.Need-sub-start-2
-sub-start-2 c = search needs
+sub-place-2 : tie.Need-sub-place-2
+sub-place-2 c = search needs
 
-sub-start-3 : tie.Need-sub-start-3
-sub-start-3 c = search needs
+sub-place-3 : tie.Need-sub-place-3
+sub-place-3 c = search needs
 
-sub-start-4 : tie.Need-sub-start-4
-sub-start-4 c = search needs
+sub-place-4 : tie.Need-sub-place-4
+sub-place-4 c = search needs
 
-mul-start : tie.Need-mul-start
-mul-start c =
-    let s = entry (begun (c .before .before .before)) in
-    let room = start-fits _ _ _ _ _ _ _ _ _ (s .pre .1 .0) (s .pre .0 .here) in
-    search needs
-
-add-start : tie.Need-add-start
-add-start c =
+place-requires : tie.Need-place-requires
+place-requires c κs =
     let s = entry (begun (c .before .before .before)) in
     let room = start-fits _ _ _ _ _ _ _ _ _ (s .pre .1 .0) (s .pre .0 .here) in
     search needs
@@ -87,7 +81,7 @@ below-step-requires c κs =
     let b = begun p in
     let s = entry b in
     step-pre _ _ _ _ _ _ _ _ _ _ _ _ _ _ (lent-kept _ _ _ _ _ (s .pre .0) (b .arrive .kept .0)) (s .pre .1 .0) (s .pre .1 .1)
-    (part-length _ _ (s .args .mult .now) refl) _ _ _ _ (p .before .diagonal-at .ensures)
+    (part-count _ _ (s .args .mult .now) refl _ (c .before .before .before .place .ensures)) _ _ _ _ (p .before .diagonal-at .ensures)
     (column-is _ _ _ _ (c .column-from .ensures) (p .partner .ensures))
 
 same-length : tie.Need-same-length
@@ -100,7 +94,7 @@ returns c =
     let b = begun p in
     let s = entry b in
     let r = s .pre .1 .0 in
-    step-done _ _ _ _ (kept-from _ _ _ _ _ _ (s .args .mult .now) (r .from) (r .width) refl refl) _ _ _ _ _ _ _ _ (s .pre .1 .1) (b .arrive .ensures) _ _
+    step-done _ _ _ _ (kept-from _ _ _ _ _ _ (s .args .mult .now) (r .from) (r .width) (f .before .before .before .place .ensures) refl) _ _ _ _ _ _ _ _ (s .pre .1 .1) (b .arrive .ensures) _ _
     (p .before .diagonal-at .ensures) (column-is _ _ _ _ (f .column-from .ensures) (p .partner .ensures)) (c .before .before .below-step .ensures)
 
 pub tail-step-spec : {M : Type 1} → statement M
@@ -110,12 +104,11 @@ tail-step-spec =
     arrive-requires
     diagonal-at-requires
     partner-requires
-    sub-start
-    sub-start-2
-    sub-start-3
-    sub-start-4
-    mul-start
-    add-start
+    sub-place
+    sub-place-2
+    sub-place-3
+    sub-place-4
+    place-requires
     mul-below-step
     sub-below-step
     part-below-step-start

@@ -5,8 +5,8 @@ use borrow.Author.Needs.{needs}
 use Rattle.model.specs.Matrix.{bytes}
 use Rattle.model.specs.Kept.{Starts}
 use Rattle.tail.specs.Tail.{HerePre}
-use Rattle.tail.proofs.Asked.{here-pre, starts-past, lent-start, lent-pre, read-pre, past-later, still-first}
-use Rattle.tail.proofs.Lent.{part-length, lent-rows}
+use Rattle.tail.proofs.Asked.{here-pre, starts-past, lent-start, lent-place, lent-pre, read-pre, past-later, still-first}
+use Rattle.tail.proofs.Lent.{part-count, lent-rows}
 use Rattle.tail.proofs.Laws.{stepped-since, both-since, turned-step, turned-both}
 use Rattle.tail.proofs.turn.Statement.{statement}
 use Rattle.tail.proofs.turn.Tie as tie
@@ -35,15 +35,9 @@ there c = here-pre _ _ _ _ _ (entry (c .before) .pre .1 .0) (c .if1 .taken) (sta
 
 -- ---- the needs
 
-mul-start : tie.Need-mul-start
-mul-start c =
-    let s = c .before .before .before .before .before .before .before in
-    let room = lent-start _ _ _ _ _ _ _ _ _ _ _ _ (s .pre .0) (s .pre .1 .1 .1 .0) in
-    search needs
-
-add-start : tie.Need-add-start
-add-start c =
-    let s = c .before .before .before .before .before .before .before in
+place-requires : tie.Need-place-requires
+place-requires c κs =
+    let s = c .before .before .before .before .before .before in
     let room = lent-start _ _ _ _ _ _ _ _ _ _ _ _ (s .pre .0) (s .pre .1 .1 .1 .0) in
     search needs
 
@@ -81,7 +75,7 @@ tail-pair-requires c κs =
     let t = paired (c .before) in
     let s = entry (t .before) in
     let k-in = s .pre .1 .1 .1 .0 in (
-      lent-pre _ _ _ _ _ _ _ _ _ _ _ _ (s .pre .0) k-in _ (part-length _ _ (s .args .panel .now) refl),
+      lent-pre _ _ _ _ _ _ _ _ _ _ _ _ (s .pre .0) k-in _ (part-count _ _ (s .args .panel .now) refl _ (t .before .before .place .ensures)),
       (
         read-pre _ _ _ _ _ _ _ _ _ _ _ _ (s .pre .0) k-in (s .pre .1 .1 .0),
         (
@@ -109,13 +103,13 @@ returns c =
     let t = paired (p .before .before) in
     let s = entry (t .before) in
     let k-in = s .pre .1 .1 .1 .0 in
-    let room = lent-start _ _ _ _ _ _ _ _ _ _ _ _ (s .pre .0) k-in in
+    let room = lent-place _ _ _ _ _ _ _ _ _ _ _ _ (s .pre .0) k-in _ (t .before .before .place .ensures) in
     let more = past-later _ _ _ (t .before .past .ensures) in
     let after = past-later _ _ _ (c .past2 .ensures) in
     let pair = both-since _ _ _ _ _ _ _ _ (here s) (there t) (omega arith) in
-    let rows = lent-pre _ _ _ _ _ _ _ _ _ _ _ _ (s .pre .0) k-in _ (part-length _ _ (s .args .panel .now) refl) in (
+    let rows = lent-pre _ _ _ _ _ _ _ _ _ _ _ _ (s .pre .0) k-in _ (part-count _ _ (s .args .panel .now) refl _ (t .before .before .place .ensures)) in (
       turned-both _ _ _ _ _ _ _ _ _ _ _ k-in (t .before .past .ensures) _ (t .if1 .taken) (c .past2 .ensures)
-          (lent-rows _ _ _ _ _ _ (rows .height) refl refl _ _ room (p .tail-pair .kept .0) pair (p .tail-pair .ensures)),
+          (lent-rows _ _ _ _ _ _ (rows .height) (t .before .before .place .ensures) refl _ _ room (p .tail-pair .kept .0) pair (p .tail-pair .ensures)),
       (omega arith, starts-past _ _ _ _ (s .pre .1 .0 .recorded .paired) (t .if1 .taken) (c .past2 .ensures)),
     )
 
@@ -144,7 +138,7 @@ tail-step-requires : tie.Need-tail-step-requires
 tail-step-requires c κs =
     let s = entry (c .before .before) in
     let k-in = s .pre .1 .1 .1 .0 in (
-      lent-pre _ _ _ _ _ _ _ _ _ _ _ _ (s .pre .0) k-in _ (part-length _ _ (s .args .panel .now) refl),
+      lent-pre _ _ _ _ _ _ _ _ _ _ _ _ (s .pre .0) k-in _ (part-count _ _ (s .args .panel .now) refl _ (c .before .before .before .place .ensures)),
       (read-pre _ _ _ _ _ _ _ _ _ _ _ _ (s .pre .0) k-in (s .pre .1 .1 .0), here s),
     )
 
@@ -157,11 +151,11 @@ returns-2 c =
     let p = t .before .before .before in
     let s = entry p in
     let k-in = s .pre .1 .1 .1 .0 in
-    let room = lent-start _ _ _ _ _ _ _ _ _ _ _ _ (s .pre .0) k-in in
+    let room = lent-place _ _ _ _ _ _ _ _ _ _ _ _ (s .pre .0) k-in _ (p .before .place .ensures) in
     let more = past-later _ _ _ (p .past .ensures) in
-    let rows = lent-pre _ _ _ _ _ _ _ _ _ _ _ _ (s .pre .0) k-in _ (part-length _ _ (s .args .panel .now) refl) in (
+    let rows = lent-pre _ _ _ _ _ _ _ _ _ _ _ _ (s .pre .0) k-in _ (part-count _ _ (s .args .panel .now) refl _ (p .before .place .ensures)) in (
       turned-step _ _ _ _ _ _ _ _ _ _ _ k-in (p .past .ensures)
-          (lent-rows _ _ _ _ _ _ (rows .height) refl refl _ _ room (t .tail-step .kept .0) (stepped-since _ _ _ _ _ _ _ (here s)) (t .tail-step .ensures)),
+          (lent-rows _ _ _ _ _ _ (rows .height) (p .before .place .ensures) refl _ _ room (t .tail-step .kept .0) (stepped-since _ _ _ _ _ _ _ (here s)) (t .tail-step .ensures)),
       (omega arith, starts p),
     )
 
@@ -169,8 +163,7 @@ pub turn-spec : {M : Type 1} → statement M
 turn-spec =
     tie.close
     (tie.spec
-    mul-start
-    add-start
+    place-requires
     past-requires
     stays-requires
     mul-tail-pair

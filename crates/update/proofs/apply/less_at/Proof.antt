@@ -4,8 +4,8 @@ use Rattle.update.proofs.Numbers.{less-set}
 use Rattle.update.proofs.apply.less_at.Statement.{statement}
 use Rattle.update.proofs.apply.less_at.Tie as tie
 
-mul-at : tie.Need-mul-at
-mul-at c = search needs
+column-start-requires : tie.Need-column-start-requires
+column-start-requires c κs = search needs
 
 add-at : tie.Need-add-at
 add-at c = search needs
@@ -26,13 +26,13 @@ same-length : tie.Need-same-length
 same-length c = search needs
 
 returns : tie.Need-returns
-returns c = less-set _ _ _ _ _ (c .before .before .before .pre)
+returns c = search (needs, less-set)
 
 pub less-at-spec : {M : Type 1} → statement M
 less-at-spec =
     tie.close
     (tie.spec
-    mul-at
+    column-start-requires
     add-at
     mul-panel
     slice-read-panel
