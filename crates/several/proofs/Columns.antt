@@ -7,7 +7,7 @@ use native.Mathlib.Nat.{mul-le-mul-right, suc-mul, add-mul}
 use borrow.Author.Tests.{lt-ltb}
 use lib.ListN.{length}
 use lib.Ieee.{Float}
-use Rattle.model.specs.Matrix.{Row, Mat, view, vec, withPart, withColumn}
+use Rattle.model.specs.Matrix.{Row, Mat, columnStart, view, vec, withPart, withColumn}
 use Rattle.grid.specs.Rules.{columnOf, behind, lessTimes, lessTwo, lessThree}
 use Rattle.grid.proofs.Parts.{rowView, view-part}
 use Rattle.several.specs.Several.{runsBy, twoFrom, threeFrom, fourLessTwo, twoLessThree, columnsBy, fourColumns, twoColumns, RunsPre, ColumnsPre}
@@ -56,33 +56,33 @@ module _ (n : ℕ) (xs : List Float) (j rows : ℕ) (h : rows ≤ n) (u a : ℕ)
     seen 2 (a + (j + u) * n - (j * n + u * n - (n + n))) (omega arith),
   )
 
--- ---- the two functions
+-- ---- the two functions; s is where column j begins
 
-module _ (n : ℕ) (xs ys : List Float) (j rows : ℕ) where
+module _ (n : ℕ) (xs ys : List Float) (j s rows : ℕ) (own : s ≡ columnStart n j) where
   pub four-columns : (a1 a2 b1 b2 c1 c2 d1 d2 : Float) → ColumnsPre n rows 1 j (j + 3) (length xs)
-      → vec ys ≡ runsBy (vec xs) n (j * n) rows (fourLessTwo (vec xs) n (j * n) a1 a2 b1 b2 c1 c2 d1 d2) 4
+      → vec ys ≡ runsBy (vec xs) n s rows (fourLessTwo (vec xs) n s a1 a2 b1 b2 c1 c2 d1 d2) 4
       → view n ys ≡ columnsBy (view n xs) j 0 rows (fourColumns (view n xs) j a1 a2 b1 b2 c1 c2 d1 d2) 4
   unfolding view vec fourLessTwo fourColumns
   four-columns a1 a2 b1 b2 c1 c2 d1 d2 h e =
-      ap (rowView n) e ∙ view-runs n (vec xs) j rows _ _ 4 (h .height) (λ u a l g. two-seen n xs j rows (h .height) u a g _ _ (h .past))
+      ap (rowView n) (rw own at e) ∙ view-runs n (vec xs) j rows _ _ 4 (h .height) (λ u a l g. two-seen n xs j rows (h .height) u a g _ _ (h .past))
 
   pub two-columns : (a1 a2 a3 b1 b2 b3 : Float) → ColumnsPre n rows 2 j (j + 1) (length xs)
-      → vec ys ≡ runsBy (vec xs) n (j * n) rows (twoLessThree (vec xs) n (j * n) a1 a2 a3 b1 b2 b3) 2
+      → vec ys ≡ runsBy (vec xs) n s rows (twoLessThree (vec xs) n s a1 a2 a3 b1 b2 b3) 2
       → view n ys ≡ columnsBy (view n xs) j 0 rows (twoColumns (view n xs) j a1 a2 a3 b1 b2 b3) 2
   unfolding view vec twoLessThree twoColumns
   two-columns a1 a2 a3 b1 b2 b3 h e =
-      ap (rowView n) e ∙ view-runs n (vec xs) j rows _ _ 2 (h .height) (λ u a l g. three-seen n xs j rows (h .height) u a g _ _ _ (h .past))
+      ap (rowView n) (rw own at e) ∙ view-runs n (vec xs) j rows _ _ 2 (h .height) (λ u a l g. three-seen n xs j rows (h .height) u a g _ _ _ (h .past))
 
 -- the columns read stand before those that are written, and the last of these is there
-columns-runs : (n rows c j z r w len : ℕ) → ColumnsPre n rows c j (j + z) len → r ≡ c * n → w ≡ j * n + z * n → RunsPre rows n r (j * n) w len
-columns-runs n rows c j z r w len h e d =
+columns-runs : (n rows c j s z r w len : ℕ) → s ≡ columnStart n j → ColumnsPre n rows c j (j + z) len → r ≡ c * n → w ≡ s + z * n → RunsPre rows n r s w len
+columns-runs n rows c j s z r w len own h e d =
     record { apart = h .height; last = omega (arith, h .height, mul-le-mul-right n (h .past), suc-mul c n); out = omega (arith, h .col, add-mul j z n) }
 
-pub four-runs : (n rows j len : ℕ) → ColumnsPre n rows 1 j (j + 3) len → RunsPre rows n n (j * n) (j * n + n + n + n) len
-four-runs n rows j len h = columns-runs n rows 1 j 3 n _ len h (omega arith) (omega arith)
+pub four-runs : (n rows j s len : ℕ) → s ≡ columnStart n j → ColumnsPre n rows 1 j (j + 3) len → RunsPre rows n n s (s + n + n + n) len
+four-runs n rows j s len own h = columns-runs n rows 1 j s 3 n _ len own h (omega arith) (omega arith)
 
-pub two-runs : (n rows j len : ℕ) → ColumnsPre n rows 2 j (j + 1) len → RunsPre rows n (n + n) (j * n) (j * n + n) len
-two-runs n rows j len h = columns-runs n rows 2 j 1 (n + n) _ len h (omega arith) (omega arith)
+pub two-runs : (n rows j s len : ℕ) → s ≡ columnStart n j → ColumnsPre n rows 2 j (j + 1) len → RunsPre rows n (n + n) s (s + n) len
+two-runs n rows j s len own h = columns-runs n rows 2 j s 1 (n + n) _ len own h (omega arith) (omega arith)
 
 -- column j begins within the part
 pub column-fits : (n rows c j z len : ℕ) → ColumnsPre n rows c j (j + z) len → j * n ≤ len

@@ -3,6 +3,7 @@
 // their order. A reader may rely on the contracts: no other number changes.
 use grid::ThreeMultipliers;
 use grid::TwoMultipliers;
+use grid::column_start;
 ghost use mathlib.Core.Path.{_≡_};
 ghost use Prim.Native.Nat.{_+_};
 ghost use lib.ListN.{length};
@@ -83,7 +84,8 @@ pub fn less_two_of_four(
         ≡ columnsBy (view nrow (now (part .entry))) j 0 rows
         (fourColumns (view nrow (now (part .entry))) j (a .0) (a .1) (b .0) (b .1) (c .0) (c .1) (d .0) (d .1)) 4 ⌝ }
 {
-    four_less_two(part, nrow, j * nrow, rows, a, b, c, d);
+    let start = column_start(nrow, j);
+    four_less_two(part, nrow, start, rows, a, b, c, d);
 }
 
 // The first `rows` rows of columns j and j + 1 lose those of columns 0, 1 and 2 in turn, times their own multipliers.
@@ -100,5 +102,6 @@ pub fn less_three_of_two(
         ≡ columnsBy (view nrow (now (part .entry))) j 0 rows
         (twoColumns (view nrow (now (part .entry))) j (a .0) (a .1) (a .2) (b .0) (b .1) (b .2)) 2 ⌝ }
 {
-    two_less_three(part, nrow, j * nrow, rows, a, b);
+    let start = column_start(nrow, j);
+    two_less_three(part, nrow, start, rows, a, b);
 }

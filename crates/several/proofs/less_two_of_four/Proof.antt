@@ -4,8 +4,8 @@ use Rattle.several.proofs.Columns.{column-fits, four-runs, four-columns
 use Rattle.several.proofs.less_two_of_four.Statement.{statement}
 use Rattle.several.proofs.less_two_of_four.Tie as tie
 
-mul-four-less-two : tie.Need-mul-four-less-two
-mul-four-less-two c = let room = column-fits _ _ _ _ _ _ (c .before .before .pre) in search needs
+column-start-requires : tie.Need-column-start-requires
+column-start-requires c κs = let room = column-fits _ _ _ _ _ _ (c .before .pre) in search needs
 
 four-less-two-requires : tie.Need-four-less-two-requires
 four-less-two-requires c κs = search (needs, four-runs)
@@ -17,4 +17,4 @@ returns : tie.Need-returns
 returns c = search (needs, four-columns)
 
 pub less-two-of-four-spec : {M : Type 1} → statement M
-less-two-of-four-spec = tie.close (tie.spec mul-four-less-two four-less-two-requires same-length returns)
+less-two-of-four-spec = tie.close (tie.spec column-start-requires four-less-two-requires same-length returns)
