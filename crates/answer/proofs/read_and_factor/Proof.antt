@@ -4,21 +4,12 @@ use Rattle.answer.proofs.Calls.{panel-there, sizes-pre, factor-printed}
 use Rattle.answer.proofs.read_and_factor.Statement.{statement}
 use Rattle.answer.proofs.read_and_factor.Tie as tie
 
-numbers-at-requires : tie.Need-numbers-at-requires
-numbers-at-requires c κs = search (needs, panel-there)
-
-with-buffers-requires : tie.Need-with-buffers-requires
-with-buffers-requires c κs = search (needs, sizes-pre)
-
-returns : tie.Need-returns
-returns c = search (needs, factor-printed)
-
 pub read-and-factor-spec : {M : Type 1} → statement M
 read-and-factor-spec =
     tie.close
     (tie.spec
-    numbers-at-requires
-    with-buffers-requires
+    (λ c κs. search (needs, panel-there))
+    (λ c κs. search (needs, sizes-pre))
     (λ c. search needs)
     (λ c. search needs)
-    returns)
+    (λ c. search (needs, factor-printed)))

@@ -9,9 +9,6 @@ use Rattle.answer.proofs.work_size.Tie as tie
 mul-result-2 : tie.Need-mul-result-2
 mul-result-2 c = omega (arith, rows-few (c .args .nrow) (c .args .nb) (c .pre .0) (c .pre .1))
 
-mul-result-3 : tie.Need-mul-result-3
-mul-result-3 c = omega (arith, square-few (c .args .nb) (c .pre .1))
-
 add-result-2 : tie.Need-add-result-2
 add-result-2 c = omega (arith, rows-few (c .args .nrow) (c .args .nb) (c .pre .0) (c .pre .1), square-few (c .args .nb) (c .pre .1))
 
@@ -25,6 +22,6 @@ work-size-spec =
     (λ c. search needs)
     (λ c. search needs)
     mul-result-2
-    mul-result-3
+    (λ c. omega (arith, square-few (c .args .nb) (c .pre .1)))
     add-result-2
     returns)

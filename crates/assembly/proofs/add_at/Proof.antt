@@ -4,39 +4,9 @@ use Rattle.assembly.proofs.Laws.{added-set}
 use Rattle.assembly.proofs.add_at.Statement.{statement}
 use Rattle.assembly.proofs.add_at.Tie as tie
 
-column-start-requires : tie.Need-column-start-requires
-column-start-requires c κs = search needs
-
-add-at : tie.Need-add-at
-add-at c = search needs
-
-mul-panel : tie.Need-mul-panel
-mul-panel c = search needs
-
-slice-read-panel : tie.Need-slice-read-panel
-slice-read-panel c = search needs
-
-mul-panel-2 : tie.Need-mul-panel-2
-mul-panel-2 c = search needs
-
-slice-write-panel : tie.Need-slice-write-panel
-slice-write-panel c = search needs
-
-same-length : tie.Need-same-length
-same-length c = search needs
-
-returns : tie.Need-returns
-returns c = search (needs, added-set)
-
 pub add-at-spec : {M : Type 1} → statement M
 add-at-spec =
     tie.close
     (tie.spec
-    column-start-requires
-    add-at
-    mul-panel
-    slice-read-panel
-    mul-panel-2
-    slice-write-panel
-    same-length
-    returns)
+    (λ c κs. search needs) (λ c. search needs) (λ c. search needs) (λ c. search needs) (λ c. search needs) (λ c. search needs) (λ c. search needs)
+    (λ c. search (needs, added-set)))

@@ -19,34 +19,13 @@ Inv-loop numbers k₀ k =
 abbrev μ-loop : tie.MeasureT-loop
 μ-loop numbers k₀ k = length numbers - k
 
-loop-holds : tie.Need-loop-holds Inv-loop μ-loop
-loop-holds c = search (needs, first-none)
-
-mul-is-finite : tie.Need-mul-is-finite Inv-loop μ-loop
-mul-is-finite c = search needs
-
-shared-slice-read-is-finite : tie.Need-shared-slice-read-is-finite Inv-loop μ-loop
-shared-slice-read-is-finite c = search needs
-
-is-finite-requires : tie.Need-is-finite-requires Inv-loop μ-loop
-is-finite-requires c κs = search needs
-
 returns : tie.Need-returns Inv-loop μ-loop
 unfolding finiteAt vec
 returns c = search first-bad
 
-add-k : tie.Need-add-k Inv-loop μ-loop
-add-k c = search needs
-
-loop-less : tie.Need-loop-less Inv-loop μ-loop
-loop-less c = search needs
-
 loop-again : tie.Need-loop-again Inv-loop μ-loop
 unfolding finiteAt vec
 loop-again c = (search needs, search first-step)
-
-returns-2 : tie.Need-returns-2 Inv-loop μ-loop
-returns-2 c = search first-end
 
 pub first-bad-number-spec : {M : Type 1} → statement M
 first-bad-number-spec =
@@ -54,12 +33,9 @@ first-bad-number-spec =
     (tie.spec
     Inv-loop
     μ-loop
-    loop-holds
-    mul-is-finite
-    shared-slice-read-is-finite
-    is-finite-requires
+    (λ c. search (needs, first-none))
+    (λ c. search needs) (λ c. search needs) (λ c κs. search needs)
     returns
-    add-k
-    loop-less
+    (λ c. search needs) (λ c. search needs)
     loop-again
-    returns-2)
+    (λ c. search first-end))

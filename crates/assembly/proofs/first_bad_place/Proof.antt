@@ -19,40 +19,13 @@ Inv-loop ncol nrow rows cols k₀ k =
 abbrev μ-loop : tie.MeasureT-loop
 μ-loop ncol nrow rows cols k₀ k = length rows - k
 
-loop-holds : tie.Need-loop-holds Inv-loop μ-loop
-loop-holds c = search (needs, first-none)
-
-mul-t6 : tie.Need-mul-t6 Inv-loop μ-loop
-mul-t6 c = search needs
-
-shared-slice-read-t9 : tie.Need-shared-slice-read-t9 Inv-loop μ-loop
-shared-slice-read-t9 c = search needs
-
-mul-t11 : tie.Need-mul-t11 Inv-loop μ-loop
-mul-t11 c = search needs
-
-shared-slice-read-t13 : tie.Need-shared-slice-read-t13 Inv-loop μ-loop
-shared-slice-read-t13 c = search needs
-
-place-sound-requires : tie.Need-place-sound-requires Inv-loop μ-loop
-place-sound-requires c κs = search needs
-
 returns : tie.Need-returns Inv-loop μ-loop
 unfolding placeSound bytes
 returns c = search first-bad
 
-add-k : tie.Need-add-k Inv-loop μ-loop
-add-k c = search needs
-
-loop-less : tie.Need-loop-less Inv-loop μ-loop
-loop-less c = search needs
-
 loop-again : tie.Need-loop-again Inv-loop μ-loop
 unfolding placeSound bytes
 loop-again c = (search needs, search first-step)
-
-returns-2 : tie.Need-returns-2 Inv-loop μ-loop
-returns-2 c = search first-end
 
 pub first-bad-place-spec : {M : Type 1} → statement M
 first-bad-place-spec =
@@ -60,14 +33,9 @@ first-bad-place-spec =
     (tie.spec
     Inv-loop
     μ-loop
-    loop-holds
-    mul-t6
-    shared-slice-read-t9
-    mul-t11
-    shared-slice-read-t13
-    place-sound-requires
+    (λ c. search (needs, first-none))
+    (λ c. search needs) (λ c. search needs) (λ c. search needs) (λ c. search needs) (λ c κs. search needs)
     returns
-    add-k
-    loop-less
+    (λ c. search needs) (λ c. search needs)
     loop-again
-    returns-2)
+    (λ c. search first-end))

@@ -4,18 +4,6 @@ use Rattle.capi.proofs.Laws.{panel-left}
 use Rattle.capi.proofs.misuktaan_assemble.Statement.{statement}
 use Rattle.capi.proofs.misuktaan_assemble.Tie as tie
 
-assemble-requires : tie.Need-assemble-requires
-assemble-requires c κs = search needs
-
-panel-outcome-requires : tie.Need-panel-outcome-requires
-panel-outcome-requires c κs = search needs
-
-same-length : tie.Need-same-length
-same-length c = search needs
-
-returns : tie.Need-returns
-returns c = search (needs, panel-left)
-
 pub misuktaan-assemble-spec : {M : Type 1} → statement M
 misuktaan-assemble-spec =
-    tie.close (tie.spec assemble-requires panel-outcome-requires same-length returns)
+    tie.close (tie.spec (λ c κs. search needs) (λ c κs. search needs) (λ c. search needs) (λ c. search (needs, panel-left)))

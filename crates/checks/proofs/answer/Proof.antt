@@ -5,17 +5,5 @@ use Rattle.checks.specs.Answers.{answerOf}
 use Rattle.checks.proofs.answer.Statement.{statement}
 use Rattle.checks.proofs.answer.Tie as tie
 
-enum-told : tie.Need-enum-told
-enum-told c = search needs
-
-enum-known-checked : tie.Need-enum-known-checked
-enum-known-checked c = search needs
-
-returns : tie.Need-returns
-returns c = search needs
-
-returns-2 : tie.Need-returns-2
-returns-2 c = sym (ap answerOf (c .before .checked .given .1))
-
 pub answer-spec : {M : Type 1} → statement M
-answer-spec = tie.close (tie.spec enum-told enum-known-checked returns returns-2)
+answer-spec = tie.close (tie.spec (λ c. search needs) (λ c. search needs) (λ c. search needs) (λ c. sym (ap answerOf (c .before .checked .given .1))))

@@ -19,37 +19,15 @@ Inv-loop blocks k₀ k =
 abbrev μ-loop : tie.MeasureT-loop
 μ-loop blocks k₀ k = length blocks - k
 
-loop-holds : tie.Need-loop-holds Inv-loop μ-loop
-loop-holds c = search (needs, bytes-scan)
-
-byte-sound-requires : tie.Need-byte-sound-requires Inv-loop μ-loop
-byte-sound-requires c κs = search needs
-
-returns : tie.Need-returns Inv-loop μ-loop
-returns c = search first-bad
-
-add-k : tie.Need-add-k Inv-loop μ-loop
-add-k c = search needs
-
-loop-less : tie.Need-loop-less Inv-loop μ-loop
-loop-less c = search needs
-
-loop-again : tie.Need-loop-again Inv-loop μ-loop
-loop-again c = (search needs, search first-step)
-
-returns-2 : tie.Need-returns-2 Inv-loop μ-loop
-returns-2 c = search first-end
-
 pub first-bad-byte-spec : {M : Type 1} → statement M
 first-bad-byte-spec =
     tie.close
     (tie.spec
     Inv-loop
     μ-loop
-    loop-holds
-    byte-sound-requires
-    returns
-    add-k
-    loop-less
-    loop-again
-    returns-2)
+    (λ c. search (needs, bytes-scan))
+    (λ c κs. search needs)
+    (λ c. search first-bad)
+    (λ c. search needs) (λ c. search needs)
+    (λ c. (search needs, search first-step))
+    (λ c. search first-end))

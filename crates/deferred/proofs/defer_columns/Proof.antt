@@ -20,29 +20,8 @@ abbrev μ-loop : tie.MeasureT-loop
 loop-holds : tie.Need-loop-holds Inv-loop μ-loop
 loop-holds c = (search needs, search needs, search needs, search rows-none)
 
-sub-smaller : tie.Need-sub-smaller Inv-loop μ-loop
-sub-smaller c = search needs
-
-smaller-requires : tie.Need-smaller-requires Inv-loop μ-loop
-smaller-requires c κs = search needs
-
-add-hi : tie.Need-add-hi Inv-loop μ-loop
-add-hi c = search needs
-
-defer-rows-requires : tie.Need-defer-rows-requires Inv-loop μ-loop
-defer-rows-requires c κs = (search columns-still, search needs)
-
-loop-less : tie.Need-loop-less Inv-loop μ-loop
-loop-less c = search needs
-
 loop-again : tie.Need-loop-again Inv-loop μ-loop
 loop-again c = (search needs, search needs, search needs, search rows-step)
-
-same-length : tie.Need-same-length Inv-loop μ-loop
-same-length c = search needs
-
-returns : tie.Need-returns Inv-loop μ-loop
-returns c = search rows-end
 
 pub defer-columns-spec : {M : Type 1} → statement M
 defer-columns-spec =
@@ -51,11 +30,9 @@ defer-columns-spec =
     Inv-loop
     μ-loop
     loop-holds
-    sub-smaller
-    smaller-requires
-    add-hi
-    defer-rows-requires
-    loop-less
+    (λ c. search needs) (λ c κs. search needs) (λ c. search needs)
+    (λ c κs. (search columns-still, search needs))
+    (λ c. search needs)
     loop-again
-    same-length
-    returns)
+    (λ c. search needs)
+    (λ c. search rows-end))

@@ -17,32 +17,14 @@ Inv-loop panel₀ g at lo hi x₀ y₀ end c₀ panel x y c =
 abbrev μ-loop : tie.MeasureT-loop
 μ-loop panel₀ g at lo hi x₀ y₀ end c₀ panel x y c = end - c
 
-smaller-requires : tie.Need-smaller-requires Inv-loop μ-loop
-smaller-requires c κs = search needs
-
 loop-holds : tie.Need-loop-holds Inv-loop μ-loop
 loop-holds c = (search needs, search needs, search needs, search needs, search needs, search columns-none)
-
-slice-aggregate-defer-next : tie.Need-slice-aggregate-defer-next Inv-loop μ-loop
-slice-aggregate-defer-next c = search needs
-
-slice-aggregate-defer-next-2 : tie.Need-slice-aggregate-defer-next-2 Inv-loop μ-loop
-slice-aggregate-defer-next-2 c = search needs
 
 defer-next-requires : tie.Need-defer-next-requires Inv-loop μ-loop
 defer-next-requires c κs = (search columns-still, (search needs, (search needs, search needs)))
 
-loop-less : tie.Need-loop-less Inv-loop μ-loop
-loop-less c = search needs
-
 loop-again : tie.Need-loop-again Inv-loop μ-loop
 loop-again c = (search needs, search needs, search needs, search needs, search needs, search columns-step)
-
-same-length : tie.Need-same-length Inv-loop μ-loop
-same-length c = search needs
-
-returns : tie.Need-returns Inv-loop μ-loop
-returns c = search columns-end
 
 pub defer-rows-spec : {M : Type 1} → statement M
 defer-rows-spec =
@@ -50,12 +32,11 @@ defer-rows-spec =
     (tie.spec
     Inv-loop
     μ-loop
-    smaller-requires
+    (λ c κs. search needs)
     loop-holds
-    slice-aggregate-defer-next
-    slice-aggregate-defer-next-2
+    (λ c. search needs) (λ c. search needs)
     defer-next-requires
-    loop-less
+    (λ c. search needs)
     loop-again
-    same-length
-    returns)
+    (λ c. search needs)
+    (λ c. search columns-end))

@@ -5,12 +5,9 @@ use Rattle.model.specs.Matrix.{bytes}
 use Rattle.diagonal.proofs.block_begins.Statement.{statement}
 use Rattle.diagonal.proofs.block_begins.Tie as tie
 
-shared-slice-read-result : tie.Need-shared-slice-read-result
-shared-slice-read-result c = search needs
-
 returns : tie.Need-returns
 unfolding bytes
 returns c = refl
 
 pub block-begins-spec : {M : Type 1} → statement M
-block-begins-spec = tie.close (tie.spec shared-slice-read-result returns)
+block-begins-spec = tie.close (tie.spec (λ c. search needs) returns)

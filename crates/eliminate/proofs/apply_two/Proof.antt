@@ -5,22 +5,7 @@ use Rattle.eliminate.proofs.Rows.{two-applied}
 use Rattle.eliminate.proofs.apply_two.Statement.{statement}
 use Rattle.eliminate.proofs.apply_two.Tie as tie
 
-sweep-two-requires : tie.Need-sweep-two-requires
-sweep-two-requires c κs = search needs
-
-reciprocal-requires : tie.Need-reciprocal-requires
-reciprocal-requires c κs = search needs
-
-combine-requires : tie.Need-combine-requires
-combine-requires c κs = search (needs, own-pre)
-
-same-length : tie.Need-same-length
-same-length c = search needs
-
-returns : tie.Need-returns
-returns c = search (needs, two-applied)
-
 pub apply-two-spec : {M : Type 1} → statement M
 apply-two-spec =
     tie.close
-    (tie.spec sweep-two-requires reciprocal-requires combine-requires same-length returns)
+    (tie.spec (λ c κs. search needs) (λ c κs. search needs) (λ c κs. search (needs, own-pre)) (λ c. search needs) (λ c. search (needs, two-applied)))

@@ -21,32 +21,8 @@ abbrev μ-loop : tie.MeasureT-loop
 loop-holds : tie.Need-loop-holds Inv-loop μ-loop
 loop-holds c = (omega arith, mul-le-mul-right _ (omega arith), omega arith, search rows-none)
 
-column-start-requires : tie.Need-column-start-requires Inv-loop μ-loop
-column-start-requires c κs = search needs
-
-add-swap : tie.Need-add-swap Inv-loop μ-loop
-add-swap c = search needs
-
-add-swap-2 : tie.Need-add-swap-2 Inv-loop μ-loop
-add-swap-2 c = search needs
-
-swap-requires : tie.Need-swap-requires Inv-loop μ-loop
-swap-requires c κs = search needs
-
-add-j : tie.Need-add-j Inv-loop μ-loop
-add-j c = search needs
-
-loop-less : tie.Need-loop-less Inv-loop μ-loop
-loop-less c = search needs
-
 loop-again : tie.Need-loop-again Inv-loop μ-loop
 loop-again c = (omega arith, mul-le-mul-right _ (omega arith), search needs, search rows-step)
-
-same-length : tie.Need-same-length Inv-loop μ-loop
-same-length c = search needs
-
-returns : tie.Need-returns Inv-loop μ-loop
-returns c = search (needs, rows-end)
 
 pub exchange-rows-spec : {M : Type 1} → statement M
 exchange-rows-spec =
@@ -55,12 +31,7 @@ exchange-rows-spec =
     Inv-loop
     μ-loop
     loop-holds
-    column-start-requires
-    add-swap
-    add-swap-2
-    swap-requires
-    add-j
-    loop-less
+    (λ c κs. search needs) (λ c. search needs) (λ c. search needs) (λ c κs. search needs) (λ c. search needs) (λ c. search needs)
     loop-again
-    same-length
-    returns)
+    (λ c. search needs)
+    (λ c. search (needs, rows-end)))

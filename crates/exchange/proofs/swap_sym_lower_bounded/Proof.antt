@@ -4,14 +4,5 @@ use Rattle.exchange.proofs.Whole.{parts-pre}
 use Rattle.exchange.proofs.swap_sym_lower_bounded.Statement.{statement}
 use Rattle.exchange.proofs.swap_sym_lower_bounded.Tie as tie
 
-exchange-parts-requires : tie.Need-exchange-parts-requires
-exchange-parts-requires c κs = search parts-pre
-
-same-length : tie.Need-same-length
-same-length c = search needs
-
-returns : tie.Need-returns
-returns c = search needs
-
 pub swap-sym-lower-bounded-spec : {M : Type 1} → statement M
-swap-sym-lower-bounded-spec = tie.close (tie.spec exchange-parts-requires same-length returns)
+swap-sym-lower-bounded-spec = tie.close (tie.spec (λ c κs. search parts-pre) (λ c. search needs) (λ c. search needs))

@@ -12,21 +12,6 @@ marked c = c .before .before .before .before .before .before .before
 abbrev entry : tie.After-marks-of → tie.Start
 entry c = c .before .before .before .before .before .before .before .before .before .before .before
 
-marks-of-requires : tie.Need-marks-of-requires
-marks-of-requires c κs = search needs
-
-zero-requires : tie.Need-zero-requires
-zero-requires c κs = search needs
-
-tally-requires : tie.Need-tally-requires
-tally-requires c κs = search needs
-
-same-length : tie.Need-same-length
-same-length c = search needs
-
-same-length-2 : tie.Need-same-length-2
-same-length-2 c = search needs
-
 returns : tie.Need-returns
 returns c =
     let m = marked c in
@@ -38,4 +23,4 @@ returns c =
 pub accept-spec : {M : Type 1} → statement M
 accept-spec =
     tie.close
-    (tie.spec marks-of-requires zero-requires tally-requires same-length same-length-2 returns)
+    (tie.spec (λ c κs. search needs) (λ c κs. search needs) (λ c κs. search needs) (λ c. search needs) (λ c. search needs) returns)

@@ -58,12 +58,6 @@ made p =
 begin-requires : tie.Need-begin-requires
 begin-requires c κs = let e = entry c in copy-pre (e .args .c) (e .args .input .now) (lent e) (e .pre)
 
-width-requires : tie.Need-width-requires
-width-requires c κs = search needs
-
-slice-aggregate-panels : tie.Need-slice-aggregate-panels
-slice-aggregate-panels c = search needs
-
 panels-requires : tie.Need-panels-requires
 panels-requires c κs =
     let w = c .before .before .before .before .before .before .before .before .before in
@@ -81,27 +75,6 @@ panels-requires c κs =
 
 same-length : tie.Need-same-length
 same-length c = called c .panels .kept .0 ∙ begun (sized (called c)) .begin .kept .1 .0
-
-same-length-2 : tie.Need-same-length-2
-same-length-2 c = search needs
-
-same-length-3 : tie.Need-same-length-3
-same-length-3 c = search needs
-
-same-length-4 : tie.Need-same-length-4
-same-length-4 c = search needs
-
-same-length-5 : tie.Need-same-length-5
-same-length-5 c = search needs
-
-same-length-6 : tie.Need-same-length-6
-same-length-6 c = search needs
-
-same-length-7 : tie.Need-same-length-7
-same-length-7 c = search needs
-
-same-length-8 : tie.Need-same-length-8
-same-length-8 c = search needs
 
 returns : tie.Need-returns
 returns c =
@@ -127,15 +100,8 @@ eliminate-spec =
     tie.close
     (tie.spec
     begin-requires
-    width-requires
-    slice-aggregate-panels
+    (λ c κs. search needs) (λ c. search needs)
     panels-requires
     same-length
-    same-length-2
-    same-length-3
-    same-length-4
-    same-length-5
-    same-length-6
-    same-length-7
-    same-length-8
+    (λ c. search needs) (λ c. search needs) (λ c. search needs) (λ c. search needs) (λ c. search needs) (λ c. search needs) (λ c. search needs)
     returns)

@@ -27,20 +27,11 @@ lent c =
     buffersOf (a .panel .now) (a .d .now) (a .sub .now) (a .blocks .now) (a .lifts .now) (a .amounts .now) (a .order .now)
     (a .marks .now) (a .work .now)
 
-check-requires : tie.Need-check-requires
-check-requires c κs = search needs
-
-enum-known-entry : tie.Need-enum-known-entry
-enum-known-entry c = search needs
-
 returns : tie.Need-returns
 returns c =
     let k = c .before .before .before in
     let s = entry k in
     sym (entry-refused (s .args .c) (s .args .input .now) (lent s) _ (k .check .ensures) _ (c .before .entry .given .1))
-
-enum-told : tie.Need-enum-told
-enum-told c = search needs
 
 run-requires : tie.Need-run-requires
 run-requires c κs =
@@ -49,52 +40,14 @@ run-requires c κs =
     let s = entry k in
     entry-sound (s .args .c) (s .args .input .now) (lent s) _ (k .check .ensures) (t .enum-told .given .1)
 
-same-length : tie.Need-same-length
-same-length c = search needs
-
-same-length-2 : tie.Need-same-length-2
-same-length-2 c = search needs
-
-same-length-3 : tie.Need-same-length-3
-same-length-3 c = search needs
-
-same-length-4 : tie.Need-same-length-4
-same-length-4 c = search needs
-
-same-length-5 : tie.Need-same-length-5
-same-length-5 c = search needs
-
-same-length-6 : tie.Need-same-length-6
-same-length-6 c = search needs
-
-same-length-7 : tie.Need-same-length-7
-same-length-7 c = search needs
-
-same-length-8 : tie.Need-same-length-8
-same-length-8 c = search needs
-
-same-length-9 : tie.Need-same-length-9
-same-length-9 c = search needs
-
-returns-2 : tie.Need-returns-2
-returns-2 c = ran c .run .ensures
-
 pub factor-spec : {M : Type 1} → statement M
 factor-spec =
     tie.close
     (tie.spec
-    check-requires
-    enum-known-entry
+    (λ c κs. search needs) (λ c. search needs)
     returns
-    enum-told
+    (λ c. search needs)
     run-requires
-    same-length
-    same-length-2
-    same-length-3
-    same-length-4
-    same-length-5
-    same-length-6
-    same-length-7
-    same-length-8
-    same-length-9
-    returns-2)
+    (λ c. search needs) (λ c. search needs) (λ c. search needs) (λ c. search needs) (λ c. search needs) (λ c. search needs) (λ c. search needs)
+    (λ c. search needs) (λ c. search needs)
+    (λ c. ran c .run .ensures))

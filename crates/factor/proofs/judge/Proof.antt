@@ -58,44 +58,8 @@ outcome c =
 
 -- ---- the needs
 
-known-finite-requires : tie.Need-known-finite-requires
-known-finite-requires c κs = search needs
-
 first-unsound-requires : tie.Need-first-unsound-requires
 first-unsound-requires c κs = (result-pre _ _ _ _ _ _ _ (entry c .pre), search (needs, sum-known))
-
-enum-known-found : tie.Need-enum-known-found
-enum-known-found c = search needs
-
-zero-all-requires : tie.Need-zero-all-requires
-zero-all-requires c κs = search needs
-
-same-length : tie.Need-same-length
-same-length c = search needs
-
-same-length-2 : tie.Need-same-length-2
-same-length-2 c = search needs
-
-same-length-3 : tie.Need-same-length-3
-same-length-3 c = search needs
-
-same-length-4 : tie.Need-same-length-4
-same-length-4 c = search needs
-
-same-length-5 : tie.Need-same-length-5
-same-length-5 c = search needs
-
-same-length-6 : tie.Need-same-length-6
-same-length-6 c = search needs
-
-same-length-7 : tie.Need-same-length-7
-same-length-7 c = search needs
-
-same-length-8 : tie.Need-same-length-8
-same-length-8 c = search needs
-
-same-length-9 : tie.Need-same-length-9
-same-length-9 c = search needs
 
 returns : tie.Need-returns
 returns c =
@@ -106,39 +70,6 @@ returns c =
     let a = e .args in
     judge-refused (a .c .nrow) (a .c .ncol) (a .rounds) (lent e) (u .first-unsound .result) (u .first-unsound .ensures) _ (cleared z)
     (f .found .given .1) (z .zero-all .ensures)
-
-enum-told : tie.Need-enum-told
-enum-told c = search needs
-
-accept-requires : tie.Need-accept-requires
-accept-requires c κs = search (needs, sum-known)
-
-same-length-10 : tie.Need-same-length-10
-same-length-10 c = search needs
-
-same-length-11 : tie.Need-same-length-11
-same-length-11 c = search needs
-
-same-length-12 : tie.Need-same-length-12
-same-length-12 c = search needs
-
-same-length-13 : tie.Need-same-length-13
-same-length-13 c = search needs
-
-same-length-14 : tie.Need-same-length-14
-same-length-14 c = search needs
-
-same-length-15 : tie.Need-same-length-15
-same-length-15 c = search needs
-
-same-length-16 : tie.Need-same-length-16
-same-length-16 c = search needs
-
-same-length-17 : tie.Need-same-length-17
-same-length-17 c = search needs
-
-same-length-18 : tie.Need-same-length-18
-same-length-18 c = search needs
 
 returns-2 : tie.Need-returns-2
 returns-2 c =
@@ -153,29 +84,13 @@ pub judge-spec : {M : Type 1} → statement M
 judge-spec =
     tie.close
     (tie.spec
-    known-finite-requires
+    (λ c κs. search needs)
     first-unsound-requires
-    enum-known-found
-    zero-all-requires
-    same-length
-    same-length-2
-    same-length-3
-    same-length-4
-    same-length-5
-    same-length-6
-    same-length-7
-    same-length-8
-    same-length-9
+    (λ c. search needs) (λ c κs. search needs) (λ c. search needs) (λ c. search needs) (λ c. search needs) (λ c. search needs) (λ c. search needs)
+    (λ c. search needs) (λ c. search needs) (λ c. search needs) (λ c. search needs)
     returns
-    enum-told
-    accept-requires
-    same-length-10
-    same-length-11
-    same-length-12
-    same-length-13
-    same-length-14
-    same-length-15
-    same-length-16
-    same-length-17
-    same-length-18
+    (λ c. search needs)
+    (λ c κs. search (needs, sum-known))
+    (λ c. search needs) (λ c. search needs) (λ c. search needs) (λ c. search needs) (λ c. search needs) (λ c. search needs) (λ c. search needs)
+    (λ c. search needs) (λ c. search needs)
     returns-2)

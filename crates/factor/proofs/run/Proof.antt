@@ -88,48 +88,6 @@ same-lengths c =
 
 -- ---- the needs
 
-eliminate-requires : tie.Need-eliminate-requires
-eliminate-requires c κs = search needs
-
-enum-known-ran : tie.Need-enum-known-ran
-enum-known-ran c = search needs
-
-enum-told : tie.Need-enum-told
-enum-told c = search needs
-
-zero-all-requires : tie.Need-zero-all-requires
-zero-all-requires c κs = search needs
-
-refusal-requires : tie.Need-refusal-requires
-refusal-requires c κs = search needs
-
-same-length : tie.Need-same-length
-same-length c = search needs
-
-same-length-2 : tie.Need-same-length-2
-same-length-2 c = search needs
-
-same-length-3 : tie.Need-same-length-3
-same-length-3 c = search needs
-
-same-length-4 : tie.Need-same-length-4
-same-length-4 c = search needs
-
-same-length-5 : tie.Need-same-length-5
-same-length-5 c = search needs
-
-same-length-6 : tie.Need-same-length-6
-same-length-6 c = search needs
-
-same-length-7 : tie.Need-same-length-7
-same-length-7 c = search needs
-
-same-length-8 : tie.Need-same-length-8
-same-length-8 c = search needs
-
-same-length-9 : tie.Need-same-length-9
-same-length-9 c = search needs
-
 returns : tie.Need-returns
 returns c =
     let z = zeroed c in
@@ -171,9 +129,6 @@ same-length-15 c = judged c .judge .kept .1 .1 .1 .1 .1 .1 .1 .0 ∙ same-length
 same-length-16 : tie.Need-same-length-16
 same-length-16 c = judged c .judge .kept .1 .1 .1 .1 .1 .1 .1 .1 .0 ∙ same-lengths (eliminated c) .order
 
-same-length-17 : tie.Need-same-length-17
-same-length-17 c = judged c .judge .kept .1 .1 .1 .1 .1 .1 .1 .1 .1 .0
-
 same-length-18 : tie.Need-same-length-18
 same-length-18 c = judged c .judge .kept .1 .1 .1 .1 .1 .1 .1 .1 .1 .1 .0 ∙ same-lengths (eliminated c) .work
 
@@ -192,20 +147,8 @@ pub run-spec : {M : Type 1} → statement M
 run-spec =
     tie.close
     (tie.spec
-    eliminate-requires
-    enum-known-ran
-    enum-told
-    zero-all-requires
-    refusal-requires
-    same-length
-    same-length-2
-    same-length-3
-    same-length-4
-    same-length-5
-    same-length-6
-    same-length-7
-    same-length-8
-    same-length-9
+    (λ c κs. search needs) (λ c. search needs) (λ c. search needs) (λ c κs. search needs) (λ c κs. search needs) (λ c. search needs) (λ c. search needs)
+    (λ c. search needs) (λ c. search needs) (λ c. search needs) (λ c. search needs) (λ c. search needs) (λ c. search needs) (λ c. search needs)
     returns
     judge-requires
     same-length-10
@@ -215,6 +158,6 @@ run-spec =
     same-length-14
     same-length-15
     same-length-16
-    same-length-17
+    (λ c. judged c .judge .kept .1 .1 .1 .1 .1 .1 .1 .1 .1 .0)
     same-length-18
     returns-2)

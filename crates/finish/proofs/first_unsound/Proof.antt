@@ -18,37 +18,15 @@ Inv-loop panel d sub blocks nrow ncol finite k₀ k =
 abbrev μ-loop : tie.MeasureT-loop
 μ-loop panel d sub blocks nrow ncol finite k₀ k = ncol - k
 
-loop-holds : tie.Need-loop-holds Inv-loop μ-loop
-loop-holds c = search (needs, result-none)
-
-column-sound-requires : tie.Need-column-sound-requires Inv-loop μ-loop
-column-sound-requires c κs = search needs
-
-returns : tie.Need-returns Inv-loop μ-loop
-returns c = search result-found
-
-add-k : tie.Need-add-k Inv-loop μ-loop
-add-k c = search needs
-
-loop-less : tie.Need-loop-less Inv-loop μ-loop
-loop-less c = search needs
-
-loop-again : tie.Need-loop-again Inv-loop μ-loop
-loop-again c = search (needs, result-step)
-
-returns-2 : tie.Need-returns-2 Inv-loop μ-loop
-returns-2 c = search result-end
-
 pub first-unsound-spec : {M : Type 1} → statement M
 first-unsound-spec =
     tie.close
     (tie.spec
     Inv-loop
     μ-loop
-    loop-holds
-    column-sound-requires
-    returns
-    add-k
-    loop-less
-    loop-again
-    returns-2)
+    (λ c. search (needs, result-none))
+    (λ c κs. search needs)
+    (λ c. search result-found)
+    (λ c. search needs) (λ c. search needs)
+    (λ c. search (needs, result-step))
+    (λ c. search result-end))

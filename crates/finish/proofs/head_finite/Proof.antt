@@ -4,14 +4,5 @@ use Rattle.finish.proofs.Result.{column-down, column-known}
 use Rattle.finish.proofs.head_finite.Statement.{statement}
 use Rattle.finish.proofs.head_finite.Tie as tie
 
-returns : tie.Need-returns
-returns c = search (needs, column-known)
-
-column-finite-requires : tie.Need-column-finite-requires
-column-finite-requires c κs = search (needs, column-down)
-
-returns-2 : tie.Need-returns-2
-returns-2 c = search needs
-
 pub head-finite-spec : {M : Type 1} → statement M
-head-finite-spec = tie.close (tie.spec returns column-finite-requires returns-2)
+head-finite-spec = tie.close (tie.spec (λ c. search (needs, column-known)) (λ c κs. search (needs, column-down)) (λ c. search needs))

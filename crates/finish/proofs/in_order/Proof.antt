@@ -17,27 +17,6 @@ abbrev μ-loop : tie.MeasureT-loop
 loop-holds : tie.Need-loop-holds Inv-loop μ-loop
 loop-holds c = (search needs, search needs, search needs, below-none _)
 
-mul-order : tie.Need-mul-order Inv-loop μ-loop
-mul-order c = search needs
-
-slice-write-order : tie.Need-slice-write-order Inv-loop μ-loop
-slice-write-order c = search needs
-
-add-i : tie.Need-add-i Inv-loop μ-loop
-add-i c = search needs
-
-loop-less : tie.Need-loop-less Inv-loop μ-loop
-loop-less c = search needs
-
-loop-again : tie.Need-loop-again Inv-loop μ-loop
-loop-again c = search (needs, order-step)
-
-same-length : tie.Need-same-length Inv-loop μ-loop
-same-length c = search needs
-
-returns : tie.Need-returns Inv-loop μ-loop
-returns c = search (needs, order-end)
-
 pub in-order-spec : {M : Type 1} → statement M
 in-order-spec =
     tie.close
@@ -45,10 +24,7 @@ in-order-spec =
     Inv-loop
     μ-loop
     loop-holds
-    mul-order
-    slice-write-order
-    add-i
-    loop-less
-    loop-again
-    same-length
-    returns)
+    (λ c. search needs) (λ c. search needs) (λ c. search needs) (λ c. search needs)
+    (λ c. search (needs, order-step))
+    (λ c. search needs)
+    (λ c. search (needs, order-end)))

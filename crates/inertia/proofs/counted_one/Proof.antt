@@ -4,22 +4,13 @@ use borrow.Author.Needs.{needs}
 use Rattle.inertia.proofs.counted_one.Statement.{statement}
 use Rattle.inertia.proofs.counted_one.Tie as tie
 
-added-requires : tie.Need-added-requires
-added-requires c κs = search needs
-
 returns : tie.Need-returns
 unfolding oneCounted
 returns c = rw (c .before .if1 .taken) (c .added .ensures)
 
-added-requires-2 : tie.Need-added-requires-2
-added-requires-2 c κs = search needs
-
 returns-2 : tie.Need-returns-2
 unfolding oneCounted
 returns-2 c = rw (c .before .before .if1 .left, c .before .if2 .taken) (c .added2 .ensures)
-
-added-requires-3 : tie.Need-added-requires-3
-added-requires-3 c κs = search needs
 
 returns-3 : tie.Need-returns-3
 unfolding oneCounted
@@ -28,4 +19,4 @@ returns-3 c = rw (c .before .before .if1 .left, c .before .if2 .left) (c .added3
 pub counted-one-spec : {M : Type 1} → statement M
 counted-one-spec =
     tie.close
-    (tie.spec added-requires returns added-requires-2 returns-2 added-requires-3 returns-3)
+    (tie.spec (λ c κs. search needs) returns (λ c κs. search needs) returns-2 (λ c κs. search needs) returns-3)

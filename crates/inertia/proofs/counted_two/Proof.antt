@@ -4,36 +4,21 @@ use borrow.Author.Needs.{needs}
 use Rattle.inertia.proofs.counted_two.Statement.{statement}
 use Rattle.inertia.proofs.counted_two.Tie as tie
 
-added-requires : tie.Need-added-requires
-added-requires c κs = search needs
-
 returns : tie.Need-returns
 unfolding twoCounted
 returns c = rw (c .before .if1 .taken) (c .added .ensures)
-
-added-requires-2 : tie.Need-added-requires-2
-added-requires-2 c κs = search needs
 
 returns-2 : tie.Need-returns-2
 unfolding twoCounted
 returns-2 c = rw (c .before .before .before .before .if1 .left, c .before .before .if2 .taken, c .before .if3 .taken) (c .added2 .ensures)
 
-added-requires-3 : tie.Need-added-requires-3
-added-requires-3 c κs = search needs
-
 returns-3 : tie.Need-returns-3
 unfolding twoCounted
 returns-3 c = rw (c .before .before .before .before .if1 .left, c .before .before .if2 .taken, c .before .if3 .left) (c .added3 .ensures)
 
-added-requires-4 : tie.Need-added-requires-4
-added-requires-4 c κs = search needs
-
 returns-4 : tie.Need-returns-4
 unfolding twoCounted
 returns-4 c = rw (c .before .before .before .before .if1 .left, c .before .before .if2 .left, c .before .if4 .taken) (c .added4 .ensures)
-
-added-requires-5 : tie.Need-added-requires-5
-added-requires-5 c κs = search needs
 
 returns-5 : tie.Need-returns-5
 unfolding twoCounted
@@ -43,13 +28,13 @@ pub counted-two-spec : {M : Type 1} → statement M
 counted-two-spec =
     tie.close
     (tie.spec
-    added-requires
+    (λ c κs. search needs)
     returns
-    added-requires-2
+    (λ c κs. search needs)
     returns-2
-    added-requires-3
+    (λ c κs. search needs)
     returns-3
-    added-requires-4
+    (λ c κs. search needs)
     returns-4
-    added-requires-5
+    (λ c κs. search needs)
     returns-5)

@@ -4,15 +4,6 @@ use Rattle.inertia.proofs.Answered.{checked-lists, inertia-counts, iner
 use Rattle.inertia.proofs.inertia.Statement.{statement}
 use Rattle.inertia.proofs.inertia.Tie as tie
 
-inertia-check-requires : tie.Need-inertia-check-requires
-inertia-check-requires c κs = search needs
-
-enum-known-checked : tie.Need-enum-known-checked
-enum-known-checked c = search needs
-
-enum-told : tie.Need-enum-told
-enum-told c = search needs
-
 tally-requires : tie.Need-tally-requires
 tally-requires c κs = checked-lists _ _ _ _ (c .before .before .inertia-check .ensures) (c .enum-told .given .1)
 
@@ -25,4 +16,4 @@ returns-2 c = inertia-counts _ _ _ _ (c .before .before .before .inertia-check .
 pub inertia-spec : {M : Type 1} → statement M
 inertia-spec =
     tie.close
-    (tie.spec inertia-check-requires enum-known-checked enum-told tally-requires returns returns-2)
+    (tie.spec (λ c κs. search needs) (λ c. search needs) (λ c. search needs) tally-requires returns returns-2)

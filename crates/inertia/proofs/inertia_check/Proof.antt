@@ -8,12 +8,9 @@ returns : tie.Need-returns
 unfolding inertiaCheck
 returns c = rw (c .if1 .taken)
 
-first-bad-byte-requires : tie.Need-first-bad-byte-requires
-first-bad-byte-requires c κs = search needs
-
 returns-2 : tie.Need-returns-2
 unfolding inertiaCheck
 returns-2 c = rw (c .before .if1 .left) (c .first-bad-byte .ensures)
 
 pub inertia-check-spec : {M : Type 1} → statement M
-inertia-check-spec = tie.close (tie.spec returns first-bad-byte-requires returns-2)
+inertia-check-spec = tie.close (tie.spec returns (λ c κs. search needs) returns-2)

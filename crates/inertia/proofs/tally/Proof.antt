@@ -18,26 +18,8 @@ Inv-loop d sub blocks t₀ k₀ t k =
 abbrev μ-loop : tie.MeasureT-loop
 μ-loop d sub blocks t₀ k₀ t k = length d - k
 
-loop-holds : tie.Need-loop-holds Inv-loop μ-loop
-loop-holds c = (search needs, search needs, search tally-none)
-
-diagonal-at-requires : tie.Need-diagonal-at-requires Inv-loop μ-loop
-diagonal-at-requires c κs = search (needs, pivot-pre)
-
-tallied-requires : tie.Need-tallied-requires Inv-loop μ-loop
-tallied-requires c κs = search needs
-
-past-requires : tie.Need-past-requires Inv-loop μ-loop
-past-requires c κs = search needs
-
-loop-less : tie.Need-loop-less Inv-loop μ-loop
-loop-less c = search past-less
-
 loop-again : tie.Need-loop-again Inv-loop μ-loop
 loop-again c = (search (needs, past-within), search total-step, search tally-step)
-
-returns : tie.Need-returns Inv-loop μ-loop
-returns c = search tally-end
 
 pub tally-spec : {M : Type 1} → statement M
 tally-spec =
@@ -45,10 +27,9 @@ tally-spec =
     (tie.spec
     Inv-loop
     μ-loop
-    loop-holds
-    diagonal-at-requires
-    tallied-requires
-    past-requires
-    loop-less
+    (λ c. (search needs, search needs, search tally-none))
+    (λ c κs. search (needs, pivot-pre))
+    (λ c κs. search needs) (λ c κs. search needs)
+    (λ c. search past-less)
     loop-again
-    returns)
+    (λ c. search tally-end))

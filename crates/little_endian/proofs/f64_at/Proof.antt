@@ -5,14 +5,8 @@ use borrow.Author.Needs.{needs}
 use Rattle.little_endian.proofs.f64_at.Statement.{statement}
 use Rattle.little_endian.proofs.f64_at.Tie as tie
 
-u64-at-requires : tie.Need-u64-at-requires
-u64-at-requires c κs = search needs
-
-number-of-requires : tie.Need-number-of-requires
-number-of-requires c κs = search needs
-
 returns : tie.Need-returns
 returns c = c .number-of .ensures ∙ ap (ofBits binary64) (c .before .u64-at .ensures)
 
 pub f64-at-spec : {M : Type 1} → statement M
-f64-at-spec = tie.close (tie.spec u64-at-requires number-of-requires returns)
+f64-at-spec = tie.close (tie.spec (λ c κs. search needs) (λ c κs. search needs) returns)

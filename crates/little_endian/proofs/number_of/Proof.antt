@@ -6,14 +6,5 @@ use Rattle.little_endian.proofs.Laws.{above-infinity, not-above-infinit
 use Rattle.little_endian.proofs.number_of.Statement.{statement}
 use Rattle.little_endian.proofs.number_of.Tie as tie
 
-returns : tie.Need-returns
-returns c = nan-made ∙ above-infinity _ (c .if1 .taken)
-
-float-from-bits-result : tie.Need-float-from-bits-result
-float-from-bits-result c = not-above-infinity _ (c .if1 .left)
-
-returns-2 : tie.Need-returns-2
-returns-2 c = search needs
-
 pub number-of-spec : {M : Type 1} → statement M
-number-of-spec = tie.close (tie.spec returns float-from-bits-result returns-2)
+number-of-spec = tie.close (tie.spec (λ c. nan-made ∙ above-infinity _ (c .if1 .taken)) (λ c. not-above-infinity _ (c .if1 .left)) (λ c. search needs))

@@ -5,14 +5,5 @@ use Rattle.little_endian.proofs.Laws.{nan-pattern}
 use Rattle.little_endian.proofs.pattern_of.Statement.{statement}
 use Rattle.little_endian.proofs.pattern_of.Tie as tie
 
-returns : tie.Need-returns
-returns c = nan-pattern _ (c .if1 .taken)
-
-float-to-bits-result : tie.Need-float-to-bits-result
-float-to-bits-result c = no-nan _ (c .if1 .left)
-
-returns-2 : tie.Need-returns-2
-returns-2 c = search needs
-
 pub pattern-of-spec : {M : Type 1} → statement M
-pattern-of-spec = tie.close (tie.spec returns float-to-bits-result returns-2)
+pattern-of-spec = tie.close (tie.spec (λ c. nan-pattern _ (c .if1 .taken)) (λ c. no-nan _ (c .if1 .left)) (λ c. search needs))

@@ -6,14 +6,5 @@ use borrow.Author.Needs.{needs}
 use Rattle.node.proofs.print.Statement.{statement}
 use Rattle.node.proofs.print.Tie as tie
 
-slice-aggregate-write-all : tie.Need-slice-aggregate-write-all
-slice-aggregate-write-all c = sym (length-take-le _ _ (omega arith))
-
-write-all-requires : tie.Need-write-all-requires
-write-all-requires c κs = search needs
-
-returns : tie.Need-returns
-returns c = search needs
-
 pub print-spec : {M : Type 1} → statement M
-print-spec = tie.close (tie.spec slice-aggregate-write-all write-all-requires returns)
+print-spec = tie.close (tie.spec (λ c. sym (length-take-le _ _ (omega arith))) (λ c κs. search needs) (λ c. search needs))

@@ -41,15 +41,6 @@ swept-length c = c .sweep-both .kept .0 ∙ swept c .sweep-first .kept .0 ∙ mo
 
 -- ---- the needs
 
-is-block-requires : tie.Need-is-block-requires
-is-block-requires c κs = search needs
-
-is-block-requires-2 : tie.Need-is-block-requires-2
-is-block-requires-2 c κs = search needs
-
-sub-exchange : tie.Need-sub-exchange
-sub-exchange c = search needs
-
 exchange-requires : tie.Need-exchange-requires
 exchange-requires c κs = let pre = entry (c .before) .pre in first-exchange (pre .0) _ refl _ (pre .1)
 
@@ -86,9 +77,6 @@ own-columns-requires-2 c κs =
     let e = entry (told (owned o)) in
     (second-own (e .pre .0) _ (o .own-columns .kept .0 ∙ swept-length (owned o)), last-fits _ _ _ (e .pre .0 .last) (e .fits .f))
 
-same-length : tie.Need-same-length
-same-length c = search needs
-
 returns : tie.Need-returns
 returns c =
     let last = c .before .before in
@@ -105,9 +93,7 @@ pub below-pair-spec : {M : Type 1} → statement M
 below-pair-spec =
     tie.close
     (tie.spec
-    is-block-requires
-    is-block-requires-2
-    sub-exchange
+    (λ c κs. search needs) (λ c κs. search needs) (λ c. search needs)
     exchange-requires
     exchange-requires-2
     add-sweep-first
@@ -115,5 +101,5 @@ below-pair-spec =
     sweep-both-requires
     own-columns-requires
     own-columns-requires-2
-    same-length
+    (λ c. search needs)
     returns)

@@ -22,12 +22,6 @@ swept c = c .before .before .before .before
 
 -- ---- the needs
 
-is-block-requires : tie.Need-is-block-requires
-is-block-requires c κs = search needs
-
-last-column-requires : tie.Need-last-column-requires
-last-column-requires c κs = search needs
-
 exchange-requires : tie.Need-exchange-requires
 exchange-requires c κs =
     let l = c .before in
@@ -53,9 +47,6 @@ own-columns-requires c κs =
       first-fits _,
     )
 
-same-length : tie.Need-same-length
-same-length c = search needs
-
 returns : tie.Need-returns
 returns c =
     let o = c .before .before in
@@ -68,11 +59,10 @@ pub below-step-spec : {M : Type 1} → statement M
 below-step-spec =
     tie.close
     (tie.spec
-    is-block-requires
-    last-column-requires
+    (λ c κs. search needs) (λ c κs. search needs)
     exchange-requires
     add-sweep-first
     sweep-first-requires
     own-columns-requires
-    same-length
+    (λ c. search needs)
     returns)

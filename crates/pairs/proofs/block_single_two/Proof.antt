@@ -24,17 +24,11 @@ get-requires c κs =
     let at = start .pre .1 in
     second-kept (start .pre .0) _ (omega arith) (omega arith)
 
-add-multiplier-before : tie.Need-add-multiplier-before
-add-multiplier-before c = search needs
-
 multiplier-before-requires-3 : tie.Need-multiplier-before-requires-3
 multiplier-before-requires-3 c κs =
     let start = c .before .before .before .before .before in
     let at = start .pre .1 in
     both-kept (start .pre .0) _ (omega arith) (omega arith)
-
-add-multiplier-before-2 : tie.Need-add-multiplier-before-2
-add-multiplier-before-2 c = search needs
 
 multiplier-before-requires-4 : tie.Need-multiplier-before-requires-4
 multiplier-before-requires-4 c κs =
@@ -42,17 +36,11 @@ multiplier-before-requires-4 c κs =
     let at = start .pre .1 in
     both-kept-next (start .pre .0) _ (omega arith) (omega arith)
 
-add-get : tie.Need-add-get
-add-get c = search needs
-
 get-requires-2 : tie.Need-get-requires-2
 get-requires-2 c κs =
     let start = c .before .before .before .before .before .before .before in
     let at = start .pre .1 in
     second-kept (start .pre .0) _ (omega arith) (omega arith)
-
-neither-zero-requires : tie.Need-neither-zero-requires
-neither-zero-requires c κs = search needs
 
 less-three-of-two-requires : tie.Need-less-three-of-two-requires
 less-three-of-two-requires c κs =
@@ -64,9 +52,6 @@ add-result c =
     let start = c .before .before .before .before .before .before .before .before .before .before .before .before .before .before in
     let at = start .pre .1 in
     search needs
-
-same-length : tie.Need-same-length
-same-length c = search needs
 
 returns : tie.Need-returns
 returns c =
@@ -94,15 +79,15 @@ block-single-two-spec =
     multiplier-before-requires
     multiplier-before-requires-2
     get-requires
-    add-multiplier-before
+    (λ c. search needs)
     multiplier-before-requires-3
-    add-multiplier-before-2
+    (λ c. search needs)
     multiplier-before-requires-4
-    add-get
+    (λ c. search needs)
     get-requires-2
-    neither-zero-requires
+    (λ c κs. search needs)
     less-three-of-two-requires
     add-result
-    same-length
+    (λ c. search needs)
     returns
     returns-2)

@@ -18,17 +18,11 @@ get-requires c κs =
     let at = start .pre .1 in
     second-kept (start .pre .0) _ (omega arith) (omega arith)
 
-add-multiplier-before : tie.Need-add-multiplier-before
-add-multiplier-before c = search needs
-
 multiplier-before-requires-2 : tie.Need-multiplier-before-requires-2
 multiplier-before-requires-2 c κs =
     let start = c .before .before .before .before in
     let at = start .pre .1 in
     both-kept (start .pre .0) _ (omega arith) (omega arith)
-
-add-get : tie.Need-add-get
-add-get c = search needs
 
 get-requires-2 : tie.Need-get-requires-2
 get-requires-2 c κs =
@@ -36,17 +30,11 @@ get-requires-2 c κs =
     let at = start .pre .1 in
     second-kept (start .pre .0) _ (omega arith) (omega arith)
 
-add-multiplier-before-2 : tie.Need-add-multiplier-before-2
-add-multiplier-before-2 c = search needs
-
 multiplier-before-requires-3 : tie.Need-multiplier-before-requires-3
 multiplier-before-requires-3 c κs =
     let start = c .before .before .before .before .before .before in
     let at = start .pre .1 in
     both-kept (start .pre .0) _ (omega arith) (omega arith)
-
-add-get-2 : tie.Need-add-get-2
-add-get-2 c = search needs
 
 get-requires-3 : tie.Need-get-requires-3
 get-requires-3 c κs =
@@ -54,35 +42,17 @@ get-requires-3 c κs =
     let at = start .pre .1 in
     second-kept (start .pre .0) _ (omega arith) (omega arith)
 
-add-multiplier-before-3 : tie.Need-add-multiplier-before-3
-add-multiplier-before-3 c = search needs
-
 multiplier-before-requires-4 : tie.Need-multiplier-before-requires-4
 multiplier-before-requires-4 c κs =
     let start = c .before .before .before .before .before .before .before .before in
     let at = start .pre .1 in
     both-kept (start .pre .0) _ (omega arith) (omega arith)
 
-add-get-3 : tie.Need-add-get-3
-add-get-3 c = search needs
-
 get-requires-4 : tie.Need-get-requires-4
 get-requires-4 c κs =
     let start = c .before .before .before .before .before .before .before .before .before in
     let at = start .pre .1 in
     second-kept (start .pre .0) _ (omega arith) (omega arith)
-
-neither-zero-requires : tie.Need-neither-zero-requires
-neither-zero-requires c κs = search needs
-
-neither-zero-requires-2 : tie.Need-neither-zero-requires-2
-neither-zero-requires-2 c κs = search needs
-
-neither-zero-requires-3 : tie.Need-neither-zero-requires-3
-neither-zero-requires-3 c κs = search needs
-
-neither-zero-requires-4 : tie.Need-neither-zero-requires-4
-neither-zero-requires-4 c κs = search needs
 
 less-two-of-four-requires : tie.Need-less-two-of-four-requires
 less-two-of-four-requires c κs =
@@ -96,9 +66,6 @@ add-result c =
     let start = read .before .before .before .before .before .before .before .before .before .before in
     let at = start .pre .1 in
     search needs
-
-same-length : tie.Need-same-length
-same-length c = search needs
 
 returns : tie.Need-returns
 returns c =
@@ -129,24 +96,21 @@ four-singles-spec =
     (tie.spec
     multiplier-before-requires
     get-requires
-    add-multiplier-before
+    (λ c. search needs)
     multiplier-before-requires-2
-    add-get
+    (λ c. search needs)
     get-requires-2
-    add-multiplier-before-2
+    (λ c. search needs)
     multiplier-before-requires-3
-    add-get-2
+    (λ c. search needs)
     get-requires-3
-    add-multiplier-before-3
+    (λ c. search needs)
     multiplier-before-requires-4
-    add-get-3
+    (λ c. search needs)
     get-requires-4
-    neither-zero-requires
-    neither-zero-requires-2
-    neither-zero-requires-3
-    neither-zero-requires-4
+    (λ c κs. search needs) (λ c κs. search needs) (λ c κs. search needs) (λ c κs. search needs)
     less-two-of-four-requires
     add-result
-    same-length
+    (λ c. search needs)
     returns
     returns-2)

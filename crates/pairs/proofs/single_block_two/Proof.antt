@@ -30,26 +30,17 @@ get-requires-2 c κs =
     let at = start .pre .1 in
     second-kept-next (start .pre .0) _ (omega arith) (omega arith)
 
-add-multiplier-before : tie.Need-add-multiplier-before
-add-multiplier-before c = search needs
-
 multiplier-before-requires-2 : tie.Need-multiplier-before-requires-2
 multiplier-before-requires-2 c κs =
     let start = c .before .before .before .before .before in
     let at = start .pre .1 in
     both-kept (start .pre .0) _ (omega arith) (omega arith)
 
-add-get-2 : tie.Need-add-get-2
-add-get-2 c = search needs
-
 get-requires-3 : tie.Need-get-requires-3
 get-requires-3 c κs =
     let start = c .before .before .before .before .before .before in
     let at = start .pre .1 in
     second-kept (start .pre .0) _ (omega arith) (omega arith)
-
-add-get-3 : tie.Need-add-get-3
-add-get-3 c = search needs
 
 add-get-4 : tie.Need-add-get-4
 add-get-4 c =
@@ -63,9 +54,6 @@ get-requires-4 c κs =
     let at = start .pre .1 in
     second-kept-next (start .pre .0) _ (omega arith) (omega arith)
 
-neither-zero-requires : tie.Need-neither-zero-requires
-neither-zero-requires c κs = search needs
-
 less-three-of-two-requires : tie.Need-less-three-of-two-requires
 less-three-of-two-requires c κs =
     let start = c .before .before .before .before .before .before .before .before .before .before .before in
@@ -76,9 +64,6 @@ add-result c =
     let start = c .before .before .before .before .before .before .before .before .before .before .before .before .before .before in
     let at = start .pre .1 in
     search needs
-
-same-length : tie.Need-same-length
-same-length c = search needs
 
 returns : tie.Need-returns
 returns c =
@@ -107,16 +92,16 @@ single-block-two-spec =
     get-requires
     add-get
     get-requires-2
-    add-multiplier-before
+    (λ c. search needs)
     multiplier-before-requires-2
-    add-get-2
+    (λ c. search needs)
     get-requires-3
-    add-get-3
+    (λ c. search needs)
     add-get-4
     get-requires-4
-    neither-zero-requires
+    (λ c κs. search needs)
     less-three-of-two-requires
     add-result
-    same-length
+    (λ c. search needs)
     returns
     returns-2)

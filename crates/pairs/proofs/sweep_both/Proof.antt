@@ -19,17 +19,8 @@ Inv-loop part₀ mult block1 block2 at l f kq j₀ part j =
 abbrev μ-loop : tie.MeasureT-loop
 μ-loop part₀ mult block1 block2 at l f kq j₀ part j = at .columns - j
 
-add-j : tie.Need-add-j Inv-loop μ-loop
-add-j c = search needs
-
 loop-holds : tie.Need-loop-holds Inv-loop μ-loop
 loop-holds c = let at = placed (c .before .before .pre) in (omega arith, omega arith, refl, both-none _ _ _ _ _ _ _ _ _ _ _)
-
-sweep-next-requires : tie.Need-sweep-next-requires Inv-loop μ-loop
-sweep-next-requires c κs = search needs
-
-loop-less : tie.Need-loop-less Inv-loop μ-loop
-loop-less c = search needs
 
 loop-again : tie.Need-loop-again Inv-loop μ-loop
 loop-again c =
@@ -44,12 +35,7 @@ loop-again c =
           (turn .sweep-next .ensures .0),
     )
 
-same-length : tie.Need-same-length Inv-loop μ-loop
-same-length c = search needs
-
-returns : tie.Need-returns Inv-loop μ-loop
-returns c = search (needs, both-end)
-
 pub sweep-both-spec : {M : Type 1} → statement M
 sweep-both-spec =
-    tie.close (tie.spec Inv-loop μ-loop add-j loop-holds sweep-next-requires loop-less loop-again same-length returns)
+    tie.close (tie.spec Inv-loop μ-loop (λ c. search needs) loop-holds (λ c κs. search needs) (λ c. search needs) loop-again (λ c. search needs)
+    (λ c. search (needs, both-end)))

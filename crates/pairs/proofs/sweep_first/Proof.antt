@@ -21,15 +21,6 @@ abbrev μ-loop : tie.MeasureT-loop
 loop-holds : tie.Need-loop-holds Inv-loop μ-loop
 loop-holds c = (omega arith, c .before .before .pre .up, refl, first-none _ _ _ _ _ _ _ _ _)
 
-column-first-requires : tie.Need-column-first-requires Inv-loop μ-loop
-column-first-requires c κs = search (needs, sweep-column)
-
-add-j : tie.Need-add-j Inv-loop μ-loop
-add-j c = search needs
-
-loop-less : tie.Need-loop-less Inv-loop μ-loop
-loop-less c = search needs
-
 loop-again : tie.Need-loop-again Inv-loop μ-loop
 loop-again c =
     let turn = c .before .before .before .before in
@@ -41,13 +32,10 @@ loop-again c =
       first-step _ _ _ _ _ _ _ _ _ _ _ _ (pre .past) (inv .0) (inv .3) (c .before .before .column-first .ensures),
     )
 
-same-length : tie.Need-same-length Inv-loop μ-loop
-same-length c = search needs
-
 returns : tie.Need-returns Inv-loop μ-loop
 returns c = let inv = c .before .loop .inv in first-end _ _ _ _ _ _ _ _ _ _ _ _ (inv .1) (search needs) (inv .3)
 
 pub sweep-first-spec : {M : Type 1} → statement M
 sweep-first-spec =
     tie.close
-    (tie.spec Inv-loop μ-loop loop-holds column-first-requires add-j loop-less loop-again same-length returns)
+    (tie.spec Inv-loop μ-loop loop-holds (λ c κs. search (needs, sweep-column)) (λ c. search needs) (λ c. search needs) loop-again (λ c. search needs) returns)

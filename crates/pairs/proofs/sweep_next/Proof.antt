@@ -4,24 +4,6 @@ use Rattle.pairs.proofs.Several.{both-more}
 use Rattle.pairs.proofs.sweep_next.Statement.{statement}
 use Rattle.pairs.proofs.sweep_next.Tie as tie
 
-several-next-requires : tie.Need-several-next-requires
-several-next-requires c κs = search needs
-
-same-length : tie.Need-same-length
-same-length c = search needs
-
-returns : tie.Need-returns
-returns c = search needs
-
-column-both-requires : tie.Need-column-both-requires
-column-both-requires c κs = search needs
-
-add-result : tie.Need-add-result
-add-result c = search needs
-
-same-length-2 : tie.Need-same-length-2
-same-length-2 c = search needs
-
 returns-2 : tie.Need-returns-2
 returns-2 c =
     let left = c .before .before .before .before in
@@ -37,10 +19,5 @@ pub sweep-next-spec : {M : Type 1} → statement M
 sweep-next-spec =
     tie.close
     (tie.spec
-    several-next-requires
-    same-length
-    returns
-    column-both-requires
-    add-result
-    same-length-2
+    (λ c κs. search needs) (λ c. search needs) (λ c. search needs) (λ c κs. search needs) (λ c. search needs) (λ c. search needs)
     returns-2)

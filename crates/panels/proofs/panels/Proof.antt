@@ -116,9 +116,6 @@ loop-holds c =
       start .pre .1 .1,
     )
 
-panel-end-requires : tie.Need-panel-end-requires Inv-loop μ-loop
-panel-end-requires c κs = search needs
-
 turn-requires : tie.Need-turn-requires Inv-loop μ-loop
 turn-requires c κs =
     let p = c .before .before .before .before .before .before .before .before .before in
@@ -131,39 +128,6 @@ turn-requires c κs =
         (pre .0 .rounds, noted-more _ _ _ _ _ _ (inv .11) (begun _ _ _ _ (pre .0 .some) test (p .panel-end .ensures))),
       ),
     )
-
-enum-known-ran : tie.Need-enum-known-ran Inv-loop μ-loop
-enum-known-ran c = search needs
-
-enum-told : tie.Need-enum-told Inv-loop μ-loop
-enum-told c = search needs
-
-same-length : tie.Need-same-length Inv-loop μ-loop
-same-length c = search needs
-
-same-length-2 : tie.Need-same-length-2 Inv-loop μ-loop
-same-length-2 c = search needs
-
-same-length-3 : tie.Need-same-length-3 Inv-loop μ-loop
-same-length-3 c = search needs
-
-same-length-4 : tie.Need-same-length-4 Inv-loop μ-loop
-same-length-4 c = search needs
-
-same-length-5 : tie.Need-same-length-5 Inv-loop μ-loop
-same-length-5 c = search needs
-
-same-length-6 : tie.Need-same-length-6 Inv-loop μ-loop
-same-length-6 c = search needs
-
-same-length-7 : tie.Need-same-length-7 Inv-loop μ-loop
-same-length-7 c = search needs
-
-same-length-8 : tie.Need-same-length-8 Inv-loop μ-loop
-same-length-8 c = search needs
-
-same-length-9 : tie.Need-same-length-9 Inv-loop μ-loop
-same-length-9 c = search needs
 
 returns : tie.Need-returns Inv-loop μ-loop
 returns c =
@@ -206,33 +170,6 @@ loop-again c =
       done-leaves (l .kb) (p .panel-end .result) _ (t .turn .result) (blocks-left t) (partners-left t) (t .turn .ensures .1) told,
     )
 
-same-length-10 : tie.Need-same-length-10 Inv-loop μ-loop
-same-length-10 c = search needs
-
-same-length-11 : tie.Need-same-length-11 Inv-loop μ-loop
-same-length-11 c = search needs
-
-same-length-12 : tie.Need-same-length-12 Inv-loop μ-loop
-same-length-12 c = search needs
-
-same-length-13 : tie.Need-same-length-13 Inv-loop μ-loop
-same-length-13 c = search needs
-
-same-length-14 : tie.Need-same-length-14 Inv-loop μ-loop
-same-length-14 c = search needs
-
-same-length-15 : tie.Need-same-length-15 Inv-loop μ-loop
-same-length-15 c = search needs
-
-same-length-16 : tie.Need-same-length-16 Inv-loop μ-loop
-same-length-16 c = search needs
-
-same-length-17 : tie.Need-same-length-17 Inv-loop μ-loop
-same-length-17 c = search needs
-
-same-length-18 : tie.Need-same-length-18 Inv-loop μ-loop
-same-length-18 c = search needs
-
 returns-2 : tie.Need-returns-2 Inv-loop μ-loop
 returns-2 c =
     let head = c .before in
@@ -248,29 +185,13 @@ panels-spec =
     Inv-loop
     μ-loop
     loop-holds
-    panel-end-requires
+    (λ c κs. search needs)
     turn-requires
-    enum-known-ran
-    enum-told
-    same-length
-    same-length-2
-    same-length-3
-    same-length-4
-    same-length-5
-    same-length-6
-    same-length-7
-    same-length-8
-    same-length-9
+    (λ c. search needs) (λ c. search needs) (λ c. search needs) (λ c. search needs) (λ c. search needs) (λ c. search needs) (λ c. search needs)
+    (λ c. search needs) (λ c. search needs) (λ c. search needs) (λ c. search needs)
     returns
     loop-less
     loop-again
-    same-length-10
-    same-length-11
-    same-length-12
-    same-length-13
-    same-length-14
-    same-length-15
-    same-length-16
-    same-length-17
-    same-length-18
+    (λ c. search needs) (λ c. search needs) (λ c. search needs) (λ c. search needs) (λ c. search needs) (λ c. search needs) (λ c. search needs)
+    (λ c. search needs) (λ c. search needs)
     returns-2)

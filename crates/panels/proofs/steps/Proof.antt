@@ -1,5 +1,5 @@
 -- `panels::steps` meets its contract: the multipliers stand in the first nb·nb numbers of the working buffer. Assumes nothing.
-use mathlib.Core.Path.{_≡_, refl, _∙_}
+use mathlib.Core.Path.{_≡_, _∙_}
 use mathlib.Core.List.{List}
 use Prim.Native.Nat.{ℕ, _*_, _-_, _≤_}
 use lib.ListN.{length, take}
@@ -32,18 +32,6 @@ lent s = entry s .args .work .now
 abbrev back : tie.After-ll-bk-panel-step → List Float
 back s = putMid 0 (square s - 0) (lent s) (s .ll-bk-panel-step .last .1 .0)
 
-mul-square : tie.Need-mul-square
-mul-square c = search needs
-
-sub-ll-bk-panel-step : tie.Need-sub-ll-bk-panel-step
-sub-ll-bk-panel-step c = search needs
-
-part-ll-bk-panel-step-start : tie.Need-part-ll-bk-panel-step-start
-part-ll-bk-panel-step-start c = search needs
-
-part-ll-bk-panel-step-end : tie.Need-part-ll-bk-panel-step-end
-part-ll-bk-panel-step-end c = search needs
-
 ll-bk-panel-step-requires : tie.Need-ll-bk-panel-step-requires
 ll-bk-panel-step-requires c κs =
     let start =
@@ -52,33 +40,6 @@ ll-bk-panel-step-requires c κs =
       panel-pre _ _ (start .args .work .now) (pre .0),
       (holds-ke _ _ _ _ _ _ _ _ _ _ (pre .0) (pre .1 .0), (pre .1 .1 .0, pre .1 .1 .1)),
     )
-
-same-length : tie.Need-same-length
-same-length c = search needs
-
-same-length-2 : tie.Need-same-length-2
-same-length-2 c = search needs
-
-same-length-3 : tie.Need-same-length-3
-same-length-3 c = search needs
-
-same-length-4 : tie.Need-same-length-4
-same-length-4 c = search needs
-
-same-length-5 : tie.Need-same-length-5
-same-length-5 c = search needs
-
-same-length-6 : tie.Need-same-length-6
-same-length-6 c = search needs
-
-same-length-7 : tie.Need-same-length-7
-same-length-7 c = search needs
-
-same-length-8 : tie.Need-same-length-8
-same-length-8 c = search needs
-
-same-length-9 : tie.Need-same-length-9
-same-length-9 c = search needs
 
 -- the multipliers are given back as the steps left them
 returned : (s : tie.After-ll-bk-panel-step) → take (square s) (back s) ≡ s .ll-bk-panel-step .last .1 .0
@@ -103,18 +64,8 @@ pub steps-spec : {M : Type 1} → statement M
 steps-spec =
     tie.close
     (tie.spec
-    mul-square
-    sub-ll-bk-panel-step
-    part-ll-bk-panel-step-start
-    part-ll-bk-panel-step-end
+    (λ c. search needs) (λ c. search needs) (λ c. search needs) (λ c. search needs)
     ll-bk-panel-step-requires
-    same-length
-    same-length-2
-    same-length-3
-    same-length-4
-    same-length-5
-    same-length-6
-    same-length-7
-    same-length-8
-    same-length-9
+    (λ c. search needs) (λ c. search needs) (λ c. search needs) (λ c. search needs) (λ c. search needs) (λ c. search needs) (λ c. search needs)
+    (λ c. search needs) (λ c. search needs)
     returns)

@@ -120,42 +120,6 @@ forgotten c = let at = c .args .at in turn-any (c .args .how) (at .nrow) (at .nc
 
 -- ---- the needs
 
-steps-requires : tie.Need-steps-requires
-steps-requires c κs = search needs
-
-enum-known-ran : tie.Need-enum-known-ran
-enum-known-ran c = search needs
-
-enum-told : tie.Need-enum-told
-enum-told c = search needs
-
-same-length : tie.Need-same-length
-same-length c = search needs
-
-same-length-2 : tie.Need-same-length-2
-same-length-2 c = search needs
-
-same-length-3 : tie.Need-same-length-3
-same-length-3 c = search needs
-
-same-length-4 : tie.Need-same-length-4
-same-length-4 c = search needs
-
-same-length-5 : tie.Need-same-length-5
-same-length-5 c = search needs
-
-same-length-6 : tie.Need-same-length-6
-same-length-6 c = search needs
-
-same-length-7 : tie.Need-same-length-7
-same-length-7 c = search needs
-
-same-length-8 : tie.Need-same-length-8
-same-length-8 c = search needs
-
-same-length-9 : tie.Need-same-length-9
-same-length-9 c = search needs
-
 returns : tie.Need-returns
 returns c =
     let s = refused c in
@@ -185,27 +149,6 @@ same-length-10 c =
 same-length-11 : tie.Need-same-length-11
 same-length-11 c = updated c .later-columns .kept .1 .0 ∙ first c .steps .kept .1 .0
 
-same-length-12 : tie.Need-same-length-12
-same-length-12 c = first c .steps .kept .1 .1 .0
-
-same-length-13 : tie.Need-same-length-13
-same-length-13 c = first c .steps .kept .1 .1 .1 .0
-
-same-length-14 : tie.Need-same-length-14
-same-length-14 c = search needs
-
-same-length-15 : tie.Need-same-length-15
-same-length-15 c = search needs
-
-same-length-16 : tie.Need-same-length-16
-same-length-16 c = search needs
-
-same-length-17 : tie.Need-same-length-17
-same-length-17 c = search needs
-
-same-length-18 : tie.Need-same-length-18
-same-length-18 c = search needs
-
 returns-2 : tie.Need-returns-2
 returns-2 c =
     let l = updated c in
@@ -223,28 +166,14 @@ pub turn-spec : {M : Type 1} → statement M
 turn-spec =
     tie.close
     (tie.spec
-    steps-requires
-    enum-known-ran
-    enum-told
-    same-length
-    same-length-2
-    same-length-3
-    same-length-4
-    same-length-5
-    same-length-6
-    same-length-7
-    same-length-8
-    same-length-9
+    (λ c κs. search needs) (λ c. search needs) (λ c. search needs) (λ c. search needs) (λ c. search needs) (λ c. search needs) (λ c. search needs)
+    (λ c. search needs) (λ c. search needs) (λ c. search needs) (λ c. search needs) (λ c. search needs)
     returns
     rows-below-requires
     later-columns-requires
     same-length-10
     same-length-11
-    same-length-12
-    same-length-13
-    same-length-14
-    same-length-15
-    same-length-16
-    same-length-17
-    same-length-18
+    (λ c. first c .steps .kept .1 .1 .0)
+    (λ c. first c .steps .kept .1 .1 .1 .0)
+    (λ c. search needs) (λ c. search needs) (λ c. search needs) (λ c. search needs) (λ c. search needs)
     returns-2)

@@ -5,29 +5,11 @@ use Rattle.record.proofs.Laws.{numbers-few, first-refuses, first-whole,
 use Rattle.record.proofs.asked_by.Statement.{statement}
 use Rattle.record.proofs.asked_by.Tie as tie
 
-first-sound-requires : tie.Need-first-sound-requires
-first-sound-requires c κs = search needs
-
-returns : tie.Need-returns
-returns c = search first-refuses
-
-settings-requires : tie.Need-settings-requires
-settings-requires c κs = search first-whole
-
-sizes-sound-requires : tie.Need-sizes-sound-requires
-sizes-sound-requires c κs = search needs
-
-returns-2 : tie.Need-returns-2
-returns-2 c = search sizes-refuse
-
 mul-second-sound : tie.Need-mul-second-sound
 mul-second-sound c = record { fits = omega (arith, numbers-few _ _ (c .before .before .sizes-sound .ensures) (c .before .if2 .left)) }
 
 second-sound-requires : tie.Need-second-sound-requires
 second-sound-requires c κs = numbers-few _ _ (c .before .before .sizes-sound .ensures) (c .before .if2 .left)
-
-returns-3 : tie.Need-returns-3
-returns-3 c = search second-refuses
 
 returns-4 : tie.Need-returns-4
 returns-4 c =
@@ -42,12 +24,12 @@ pub asked-by-spec : {M : Type 1} → statement M
 asked-by-spec =
     tie.close
     (tie.spec
-    first-sound-requires
-    returns
-    settings-requires
-    sizes-sound-requires
-    returns-2
+    (λ c κs. search needs)
+    (λ c. search first-refuses)
+    (λ c κs. search first-whole)
+    (λ c κs. search needs)
+    (λ c. search sizes-refuse)
     mul-second-sound
     second-sound-requires
-    returns-3
+    (λ c. search second-refuses)
     returns-4)

@@ -7,9 +7,6 @@ use Rattle.record.proofs.Laws.{record-whole}
 use Rattle.record.proofs.first_sound.Statement.{statement}
 use Rattle.record.proofs.first_sound.Tie as tie
 
-record-at-requires : tie.Need-record-at-requires
-record-at-requires c κs = search needs
-
 returns : tie.Need-returns
 unfolding firstSound
 returns c = rw (← c .before .record-at .ensures, not-true (c .before .record-at .result) (c .if1 .taken))
@@ -23,4 +20,4 @@ returns-2 c =
     rw (← c .before .before .record-at .ensures, not-false (c .before .before .record-at .result) (c .before .if1 .left), c .u16-at .ensures .0)
 
 pub first-sound-spec : {M : Type 1} → statement M
-first-sound-spec = tie.close (tie.spec record-at-requires returns u16-at-requires returns-2)
+first-sound-spec = tie.close (tie.spec (λ c κs. search needs) returns u16-at-requires returns-2)

@@ -5,24 +5,9 @@ use Rattle.record.specs.Record.{secondSound}
 use Rattle.record.proofs.second_sound.Statement.{statement}
 use Rattle.record.proofs.second_sound.Tie as tie
 
-mul-record-at : tie.Need-mul-record-at
-mul-record-at c = search needs
-
-add-record-at : tie.Need-add-record-at
-add-record-at c = search needs
-
-record-at-requires : tie.Need-record-at-requires
-record-at-requires c κs = search needs
-
 returns : tie.Need-returns
 unfolding secondSound
 returns c = rw (← c .before .record-at .ensures, not-true (c .before .record-at .result) (c .if1 .taken))
-
-mul-result : tie.Need-mul-result
-mul-result c = search needs
-
-add-result : tie.Need-add-result
-add-result c = search needs
 
 returns-2 : tie.Need-returns-2
 unfolding secondSound
@@ -32,10 +17,7 @@ pub second-sound-spec : {M : Type 1} → statement M
 second-sound-spec =
     tie.close
     (tie.spec
-    mul-record-at
-    add-record-at
-    record-at-requires
+    (λ c. search needs) (λ c. search needs) (λ c κs. search needs)
     returns
-    mul-result
-    add-result
+    (λ c. search needs) (λ c. search needs)
     returns-2)

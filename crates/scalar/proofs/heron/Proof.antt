@@ -5,14 +5,5 @@ use borrow.Author.Needs.{needs}
 use Rattle.scalar.proofs.heron.Statement.{statement}
 use Rattle.scalar.proofs.heron.Tie as tie
 
-div-result : tie.Need-div-result
-div-result c = search needs
-
-add-result : tie.Need-add-result
-add-result c = omega (arith, div-le-self (c .args .d) (c .args .q))
-
-returns : tie.Need-returns
-returns c = search needs
-
 pub heron-spec : {M : Type 1} → statement M
-heron-spec = tie.close (tie.spec div-result add-result returns)
+heron-spec = tie.close (tie.spec (λ c. search needs) (λ c. omega (arith, div-le-self (c .args .d) (c .args .q))) (λ c. search needs))

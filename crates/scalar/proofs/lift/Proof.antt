@@ -5,9 +5,6 @@ use Rattle.model.specs.Scalar.{liftOf}
 use Rattle.scalar.proofs.lift.Statement.{statement}
 use Rattle.scalar.proofs.lift.Tie as tie
 
-magnitude-requires : tie.Need-magnitude-requires
-magnitude-requires c κs = search needs
-
 returns : tie.Need-returns
 unfolding liftOf
 returns c = simp (sym (c .before .magnitude .ensures), c .if1 .taken)
@@ -21,4 +18,4 @@ unfolding liftOf
 returns-3 c = simp (sym (c .before .before .magnitude .ensures), c .before .if1 .left, c .if2 .left)
 
 pub lift-spec : {M : Type 1} → statement M
-lift-spec = tie.close (tie.spec magnitude-requires returns returns-2 returns-3)
+lift-spec = tie.close (tie.spec (λ c κs. search needs) returns returns-2 returns-3)

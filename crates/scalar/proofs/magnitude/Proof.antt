@@ -5,12 +5,6 @@ use Rattle.scalar.proofs.Leaves.{no-nan, magnitude-of-nan, magnitude-bi
 use Rattle.scalar.proofs.magnitude.Statement.{statement}
 use Rattle.scalar.proofs.magnitude.Tie as tie
 
-returns : tie.Need-returns
-returns c = magnitude-of-nan _ (c .if1 .taken)
-
-float-to-bits-result : tie.Need-float-to-bits-result
-float-to-bits-result c = no-nan _ (c .if1 .left)
-
 float-from-bits-result : tie.Need-float-from-bits-result
 float-from-bits-result c = magnitude-no-nan _ (passes _ (c .before .good .0 .1)) (no-nan _ (c .if1 .left))
 
@@ -18,4 +12,4 @@ returns-2 : tie.Need-returns-2
 returns-2 c = magnitude-bits _ (passes _ (c .before .good .0 .1)) (no-nan _ (c .if1 .left))
 
 pub magnitude-spec : {M : Type 1} → statement M
-magnitude-spec = tie.close (tie.spec returns float-to-bits-result float-from-bits-result returns-2)
+magnitude-spec = tie.close (tie.spec (λ c. magnitude-of-nan _ (c .if1 .taken)) (λ c. no-nan _ (c .if1 .left)) float-from-bits-result returns-2)

@@ -4,15 +4,6 @@ use Rattle.scalar.proofs.Steps.{near-up, near-stays}
 use Rattle.scalar.proofs.near_root.Statement.{statement}
 use Rattle.scalar.proofs.near_root.Tie as tie
 
-whole-root-requires : tie.Need-whole-root-requires
-whole-root-requires c κs = search needs
-
-extend-requires : tie.Need-extend-requires
-extend-requires c κs = search needs
-
-add-result : tie.Need-add-result
-add-result c = search needs
-
 returns : tie.Need-returns
 returns c = near-up (c .before .before .before .extend .ensures) (search needs) (search needs)
 
@@ -20,4 +11,4 @@ returns-2 : tie.Need-returns-2
 returns-2 c = near-stays (c .before .before .extend .ensures) (search needs) (search needs)
 
 pub near-root-spec : {M : Type 1} → statement M
-near-root-spec = tie.close (tie.spec whole-root-requires extend-requires add-result returns returns-2)
+near-root-spec = tie.close (tie.spec (λ c κs. search needs) (λ c κs. search needs) (λ c. search needs) returns returns-2)

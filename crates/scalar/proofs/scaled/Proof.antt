@@ -11,17 +11,8 @@ use Rattle.scalar.proofs.Steps.{halved-even, halved-odd}
 use Rattle.scalar.proofs.scaled.Statement.{statement}
 use Rattle.scalar.proofs.scaled.Tie as tie
 
-mul-d : tie.Need-mul-d
-mul-d c = search needs
-
-mul-result : tie.Need-mul-result
-mul-result c = search needs
-
 near-root-requires : tie.Need-near-root-requires
 near-root-requires c κs = ⊎-elim (λ w. omega arith) (λ w. omega arith) (c .if1 .came)
-
-add-result : tie.Need-add-result
-add-result c = search needs
 
 float-from-bits-result : tie.Need-float-from-bits-result
 float-from-bits-result c =
@@ -38,4 +29,4 @@ returns c =
 pub scaled-spec : {M : Type 1} → statement M
 scaled-spec =
     tie.close
-    (tie.spec mul-d mul-result near-root-requires add-result float-from-bits-result returns)
+    (tie.spec (λ c. search needs) (λ c. search needs) near-root-requires (λ c. search needs) float-from-bits-result returns)

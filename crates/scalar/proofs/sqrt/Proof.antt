@@ -29,12 +29,6 @@ low c = toBits binary64 (c .before .before .before .before .before .before .args
 up : (c : tie.Then6) → Moved (low c) (leadingZeros 64 (low c) - 11)
 up c = moved _ (omega arith) (omega arith)
 
-returns : tie.Need-returns
-returns c = sqrt-at-nan (is-nan _ (c .if1 .taken))
-
-float-to-bits-b : tie.Need-float-to-bits-b
-float-to-bits-b c = no-nan _ (c .if1 .left)
-
 returns-2 : tie.Need-returns-2
 returns-2 c = sqrt-at-zero (back (c .before .before) ∙ ap (ofBits binary64) (c .if2 .taken))
 
@@ -49,29 +43,8 @@ returns-4 c =
 returns-5 : tie.Need-returns-5
 returns-5 c = sqrt-at-top _ _ (back (c .before .before .before .before .before)) (c .if5 .taken) (omega arith)
 
-cast-s : tie.Need-cast-s
-cast-s c = omega (arith, leading-le 64 (low c))
-
-sub-s : tie.Need-sub-s
-sub-s c = up c .some
-
-shl-scaled : tie.Need-shl-scaled
-shl-scaled c = omega (arith, up c .few)
-
-sub-scaled : tie.Need-sub-scaled
-sub-scaled c = omega (arith, up c .few)
-
 scaled-requires : tie.Need-scaled-requires
 scaled-requires c κs = record { from = up c .from; to = up c .to; exponent = omega arith }
-
-add-scaled : tie.Need-add-scaled
-add-scaled c = search needs
-
-add-scaled-2 : tie.Need-add-scaled-2
-add-scaled-2 c = search needs
-
-scaled-requires-2 : tie.Need-scaled-requires-2
-scaled-requires-2 c κs = search needs
 
 returns-6 : tie.Need-returns-6
 returns-6 c =
@@ -90,19 +63,17 @@ pub sqrt-spec : {M : Type 1} → statement M
 sqrt-spec =
     tie.close
     (tie.spec
-    returns
-    float-to-bits-b
+    (λ c. sqrt-at-nan (is-nan _ (c .if1 .taken)))
+    (λ c. no-nan _ (c .if1 .left))
     returns-2
     returns-3
     returns-4
     returns-5
-    cast-s
-    sub-s
-    shl-scaled
-    sub-scaled
+    (λ c. omega (arith, leading-le 64 (low c)))
+    (λ c. up c .some)
+    (λ c. omega (arith, up c .few))
+    (λ c. omega (arith, up c .few))
     scaled-requires
-    add-scaled
-    add-scaled-2
-    scaled-requires-2
+    (λ c. search needs) (λ c. search needs) (λ c κs. search needs)
     returns-6
     returns-7)

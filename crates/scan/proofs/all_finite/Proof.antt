@@ -14,41 +14,13 @@ Inv-loop xs n found₀ i₀ found i = (i ≤ n) × (found ≡ markOf i (vec xs))
 abbrev μ-loop : tie.MeasureT-loop
 μ-loop xs n found₀ i₀ found i = n - i
 
-loop-holds : tie.Need-loop-holds Inv-loop μ-loop
-loop-holds c = search (needs, all-none)
-
-mul-mark : tie.Need-mul-mark Inv-loop μ-loop
-mul-mark c = search needs
-
-shared-slice-read-mark : tie.Need-shared-slice-read-mark Inv-loop μ-loop
-shared-slice-read-mark c = search needs
-
-mark-requires : tie.Need-mark-requires Inv-loop μ-loop
-mark-requires c κs = search needs
-
-add-i : tie.Need-add-i Inv-loop μ-loop
-add-i c = search needs
-
-loop-less : tie.Need-loop-less Inv-loop μ-loop
-loop-less c = search needs
-
-loop-again : tie.Need-loop-again Inv-loop μ-loop
-loop-again c = search (needs, all-step)
-
-returns : tie.Need-returns Inv-loop μ-loop
-returns c = search (needs, all-end)
-
 pub all-finite-spec : {M : Type 1} → statement M
 all-finite-spec =
     tie.close
     (tie.spec
     Inv-loop
     μ-loop
-    loop-holds
-    mul-mark
-    shared-slice-read-mark
-    mark-requires
-    add-i
-    loop-less
-    loop-again
-    returns)
+    (λ c. search (needs, all-none))
+    (λ c. search needs) (λ c. search needs) (λ c κs. search needs) (λ c. search needs) (λ c. search needs)
+    (λ c. search (needs, all-step))
+    (λ c. search (needs, all-end)))

@@ -4,9 +4,6 @@ use Rattle.scan.specs.Greatest.{better}
 use Rattle.scan.proofs.better.Statement.{statement}
 use Rattle.scan.proofs.better.Tie as tie
 
-square-requires : tie.Need-square-requires
-square-requires c κs = search needs
-
 returns : tie.Need-returns
 unfolding better
 returns c = rw (← c .before .before .square .ensures, c .if1 .taken)
@@ -16,4 +13,4 @@ unfolding better
 returns-2 c = rw (← c .before .before .square .ensures, c .if1 .left)
 
 pub better-spec : {M : Type 1} → statement M
-better-spec = tie.close (tie.spec square-requires returns returns-2)
+better-spec = tie.close (tie.spec (λ c κs. search needs) returns returns-2)

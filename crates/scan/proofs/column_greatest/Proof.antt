@@ -4,14 +4,8 @@ use Rattle.scan.proofs.Squares.{column-down, column-is, column-found}
 use Rattle.scan.proofs.column_greatest.Statement.{statement}
 use Rattle.scan.proofs.column_greatest.Tie as tie
 
-add-greatest-down : tie.Need-add-greatest-down
-add-greatest-down c = search needs
-
-greatest-down-requires : tie.Need-greatest-down-requires
-greatest-down-requires c κs = search column-down
-
 returns : tie.Need-returns
 returns c = (search column-is, column-found _ _ _ _ (search needs) (c .greatest-down .ensures))
 
 pub column-greatest-spec : {M : Type 1} → statement M
-column-greatest-spec = tie.close (tie.spec add-greatest-down greatest-down-requires returns)
+column-greatest-spec = tie.close (tie.spec (λ c. search needs) (λ c κs. search column-down) returns)

@@ -28,38 +28,8 @@ Inv-columns input ncol nrow column₀ row₀ column row =
 abbrev μ-columns : tie.MeasureT-columns
 μ-columns input ncol nrow column₀ row₀ column row = ncol - column
 
-columns-holds : tie.Need-columns-holds Inv-loop μ-loop Inv-columns μ-columns
-columns-holds c = (search needs, search column-none)
-
-first-row-requires : tie.Need-first-row-requires Inv-loop μ-loop Inv-columns μ-columns
-first-row-requires c κs = search scan-pre
-
 loop-holds : tie.Need-loop-holds Inv-loop μ-loop Inv-columns μ-columns
 loop-holds c = (search first-low, search first-high, search row-none)
-
-get-requires : tie.Need-get-requires Inv-loop μ-loop Inv-columns μ-columns
-get-requires c κs = search in-panel
-
-is-finite-requires : tie.Need-is-finite-requires Inv-loop μ-loop Inv-columns μ-columns
-is-finite-requires c κs = search needs
-
-add-row : tie.Need-add-row Inv-loop μ-loop Inv-columns μ-columns
-add-row c = search needs
-
-loop-less : tie.Need-loop-less Inv-loop μ-loop Inv-columns μ-columns
-loop-less c = search needs
-
-loop-again : tie.Need-loop-again Inv-loop μ-loop Inv-columns μ-columns
-loop-again c = (search needs, search needs, search row-step)
-
-add-column : tie.Need-add-column Inv-loop μ-loop Inv-columns μ-columns
-add-column c = search needs
-
-columns-less : tie.Need-columns-less Inv-loop μ-loop Inv-columns μ-columns
-columns-less c = search needs
-
-columns-again : tie.Need-columns-again Inv-loop μ-loop Inv-columns μ-columns
-columns-again c = (search needs, search row-end)
 
 returns : tie.Need-returns Inv-loop μ-loop Inv-columns μ-columns
 returns c =
@@ -67,9 +37,6 @@ returns c =
     (λ w. ap (λ (i : ℕ). Refused (Input (record { 0 = c .before .before .columns .column }) (record { 0 = i }))) (w .7)
     ∙ row-stop _ _ _ _ _ _ _ _ (w .3 .taken) (w .4 .ensures) (w .5 .ensures) (w .2 .inv .2) (w .6 .taken))
     (c .before .columns-test .came)
-
-returns-2 : tie.Need-returns-2 Inv-loop μ-loop Inv-columns μ-columns
-returns-2 c = search column-end
 
 pub first-by-columns-spec : {M : Type 1} → statement M
 first-by-columns-spec =
@@ -79,16 +46,13 @@ first-by-columns-spec =
     μ-loop
     Inv-columns
     μ-columns
-    columns-holds
-    first-row-requires
+    (λ c. (search needs, search column-none))
+    (λ c κs. search scan-pre)
     loop-holds
-    get-requires
-    is-finite-requires
-    add-row
-    loop-less
-    loop-again
-    add-column
-    columns-less
-    columns-again
+    (λ c κs. search in-panel)
+    (λ c κs. search needs) (λ c. search needs) (λ c. search needs)
+    (λ c. (search needs, search needs, search row-step))
+    (λ c. search needs) (λ c. search needs)
+    (λ c. (search needs, search row-end))
     returns
-    returns-2)
+    (λ c. search column-end))

@@ -4,9 +4,6 @@ use Rattle.scan.specs.Finite.{firstRow}
 use Rattle.scan.proofs.first_row.Statement.{statement}
 use Rattle.scan.proofs.first_row.Tie as tie
 
-column-finite-requires : tie.Need-column-finite-requires
-column-finite-requires c κs = search needs
-
 returns : tie.Need-returns
 unfolding firstRow
 returns c = rw (← c .before .column-finite .ensures, c .if1 .taken)
@@ -16,4 +13,4 @@ unfolding firstRow
 returns-2 c = rw (← c .before .column-finite .ensures, c .if1 .left)
 
 pub first-row-spec : {M : Type 1} → statement M
-first-row-spec = tie.close (tie.spec column-finite-requires returns returns-2)
+first-row-spec = tie.close (tie.spec (λ c κs. search needs) returns returns-2)

@@ -17,37 +17,14 @@ Inv-loop panel nrow row lo hi g₀ j₀ g j =
 abbrev μ-loop : tie.MeasureT-loop
 μ-loop panel nrow row lo hi g₀ j₀ g j = hi - j
 
-loop-holds : tie.Need-loop-holds Inv-loop μ-loop
-loop-holds c = search needs
-
-get-requires : tie.Need-get-requires Inv-loop μ-loop
-get-requires c κs = search (needs, row-in)
-
-better-requires : tie.Need-better-requires Inv-loop μ-loop
-better-requires c κs = search needs
-
-add-j : tie.Need-add-j Inv-loop μ-loop
-add-j c = search needs
-
-loop-less : tie.Need-loop-less Inv-loop μ-loop
-loop-less c = search needs
-
-loop-again : tie.Need-loop-again Inv-loop μ-loop
-loop-again c = search (needs, along-step)
-
-returns : tie.Need-returns Inv-loop μ-loop
-returns c = search (needs, along-end)
-
 pub greatest-along-spec : {M : Type 1} → statement M
 greatest-along-spec =
     tie.close
     (tie.spec
     Inv-loop
     μ-loop
-    loop-holds
-    get-requires
-    better-requires
-    add-j
-    loop-less
-    loop-again
-    returns)
+    (λ c. search needs)
+    (λ c κs. search (needs, row-in))
+    (λ c κs. search needs) (λ c. search needs) (λ c. search needs)
+    (λ c. search (needs, along-step))
+    (λ c. search (needs, along-end)))

@@ -4,15 +4,9 @@ use borrow.Author.Needs.{needs}
 use Rattle.scan.proofs.known_finite.Statement.{statement}
 use Rattle.scan.proofs.known_finite.Tie as tie
 
-lower-sum-requires : tie.Need-lower-sum-requires
-lower-sum-requires c κs = search needs
-
-is-finite-requires : tie.Need-is-finite-requires
-is-finite-requires c κs = search needs
-
 returns : tie.Need-returns
 unfolding sumFinite
 returns c = cc
 
 pub known-finite-spec : {M : Type 1} → statement M
-known-finite-spec = tie.close (tie.spec lower-sum-requires is-finite-requires returns)
+known-finite-spec = tie.close (tie.spec (λ c κs. search needs) (λ c κs. search needs) returns)

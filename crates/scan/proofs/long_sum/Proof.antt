@@ -20,50 +20,8 @@ Inv-loop xs rest from s₀ t₀ i₀ s t i =
 abbrev μ-loop : tie.MeasureT-loop
 μ-loop xs rest from s₀ t₀ i₀ s t i = rest - i
 
-sub-rest : tie.Need-sub-rest Inv-loop μ-loop
-sub-rest c = omega arith
-
-mul-rest : tie.Need-mul-rest Inv-loop μ-loop
-mul-rest c = omega arith
-
-sub-from : tie.Need-sub-from Inv-loop μ-loop
-sub-from c = omega arith
-
-every-second-requires : tie.Need-every-second-requires Inv-loop μ-loop
-every-second-requires c κs = omega arith
-
-every-second-requires-2 : tie.Need-every-second-requires-2 Inv-loop μ-loop
-every-second-requires-2 c κs = omega arith
-
-loop-holds : tie.Need-loop-holds Inv-loop μ-loop
-loop-holds c = search (needs, sum-none)
-
-add-every-second : tie.Need-add-every-second Inv-loop μ-loop
-add-every-second c = omega arith
-
-every-second-requires-3 : tie.Need-every-second-requires-3 Inv-loop μ-loop
-every-second-requires-3 c κs = omega arith
-
-add-every-second-2 : tie.Need-add-every-second-2 Inv-loop μ-loop
-add-every-second-2 c = omega arith
-
-add-every-second-3 : tie.Need-add-every-second-3 Inv-loop μ-loop
-add-every-second-3 c = omega arith
-
-every-second-requires-4 : tie.Need-every-second-requires-4 Inv-loop μ-loop
-every-second-requires-4 c κs = omega arith
-
-add-i : tie.Need-add-i Inv-loop μ-loop
-add-i c = omega arith
-
-loop-less : tie.Need-loop-less Inv-loop μ-loop
-loop-less c = omega arith
-
 loop-again : tie.Need-loop-again Inv-loop μ-loop
 loop-again c = (omega arith, omega arith, search (needs, even-turn), search (needs, odd-turn))
-
-returns : tie.Need-returns Inv-loop μ-loop
-returns c = search (needs, long-end)
 
 pub long-sum-spec : {M : Type 1} → statement M
 long-sum-spec =
@@ -71,18 +29,18 @@ long-sum-spec =
     (tie.spec
     Inv-loop
     μ-loop
-    sub-rest
-    mul-rest
-    sub-from
-    every-second-requires
-    every-second-requires-2
-    loop-holds
-    add-every-second
-    every-second-requires-3
-    add-every-second-2
-    add-every-second-3
-    every-second-requires-4
-    add-i
-    loop-less
+    (λ c. omega arith)
+    (λ c. omega arith)
+    (λ c. omega arith)
+    (λ c κs. omega arith)
+    (λ c κs. omega arith)
+    (λ c. search (needs, sum-none))
+    (λ c. omega arith)
+    (λ c κs. omega arith)
+    (λ c. omega arith)
+    (λ c. omega arith)
+    (λ c κs. omega arith)
+    (λ c. omega arith)
+    (λ c. omega arith)
     loop-again
-    returns)
+    (λ c. search (needs, long-end)))

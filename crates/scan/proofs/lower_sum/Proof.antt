@@ -18,25 +18,8 @@ Inv-loop panel ncol nrow s₀ j₀ s j =
 abbrev μ-loop : tie.MeasureT-loop
 μ-loop panel ncol nrow s₀ j₀ s j = ncol - j
 
-loop-holds : tie.Need-loop-holds Inv-loop μ-loop
-loop-holds c = search (needs, sum-none)
-
-column-sum-requires : tie.Need-column-sum-requires Inv-loop μ-loop
-column-sum-requires c κs = search scan-pre
-
-add-j : tie.Need-add-j Inv-loop μ-loop
-add-j c = search needs
-
-loop-less : tie.Need-loop-less Inv-loop μ-loop
-loop-less c = search needs
-
-loop-again : tie.Need-loop-again Inv-loop μ-loop
-loop-again c = search (needs, sum-turn)
-
-returns : tie.Need-returns Inv-loop μ-loop
-returns c = search (needs, sum-end)
-
 pub lower-sum-spec : {M : Type 1} → statement M
 lower-sum-spec =
     tie.close
-    (tie.spec Inv-loop μ-loop loop-holds column-sum-requires add-j loop-less loop-again returns)
+    (tie.spec Inv-loop μ-loop (λ c. search (needs, sum-none)) (λ c κs. search scan-pre) (λ c. search needs) (λ c. search needs) (λ c. search (needs, sum-turn))
+    (λ c. search (needs, sum-end)))

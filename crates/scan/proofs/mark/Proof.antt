@@ -4,9 +4,6 @@ use Rattle.scan.specs.Finite.{markedBy}
 use Rattle.scan.proofs.mark.Statement.{statement}
 use Rattle.scan.proofs.mark.Tie as tie
 
-is-finite-requires : tie.Need-is-finite-requires
-is-finite-requires c κs = search needs
-
 returns : tie.Need-returns
 unfolding markedBy
 returns c = rw (← c .before .is-finite .ensures, c .if1 .taken)
@@ -16,4 +13,4 @@ unfolding markedBy
 returns-2 c = rw (← c .before .is-finite .ensures, c .if1 .left)
 
 pub mark-spec : {M : Type 1} → statement M
-mark-spec = tie.close (tie.spec is-finite-requires returns returns-2)
+mark-spec = tie.close (tie.spec (λ c κs. search needs) returns returns-2)

@@ -14,53 +14,14 @@ Inv-loop marks₀ column n i₀ marks i = (i ≤ n) × (length marks ≡ length 
 abbrev μ-loop : tie.MeasureT-loop
 μ-loop marks₀ column n i₀ marks i = n - i
 
-loop-holds : tie.Need-loop-holds Inv-loop μ-loop
-loop-holds c = search (needs, part-none)
-
-slice-read-mark : tie.Need-slice-read-mark Inv-loop μ-loop
-slice-read-mark c = search needs
-
-mul-mark : tie.Need-mul-mark Inv-loop μ-loop
-mul-mark c = search needs
-
-shared-slice-read-mark : tie.Need-shared-slice-read-mark Inv-loop μ-loop
-shared-slice-read-mark c = search needs
-
-mark-requires : tie.Need-mark-requires Inv-loop μ-loop
-mark-requires c κs = search needs
-
-slice-write-marks : tie.Need-slice-write-marks Inv-loop μ-loop
-slice-write-marks c = search needs
-
-add-i : tie.Need-add-i Inv-loop μ-loop
-add-i c = search needs
-
-loop-less : tie.Need-loop-less Inv-loop μ-loop
-loop-less c = search needs
-
-loop-again : tie.Need-loop-again Inv-loop μ-loop
-loop-again c = search (needs, part-step)
-
-same-length : tie.Need-same-length Inv-loop μ-loop
-same-length c = search needs
-
-returns : tie.Need-returns Inv-loop μ-loop
-returns c = search (needs, part-end)
-
 pub mark-column-spec : {M : Type 1} → statement M
 mark-column-spec =
     tie.close
     (tie.spec
     Inv-loop
     μ-loop
-    loop-holds
-    slice-read-mark
-    mul-mark
-    shared-slice-read-mark
-    mark-requires
-    slice-write-marks
-    add-i
-    loop-less
-    loop-again
-    same-length
-    returns)
+    (λ c. search (needs, part-none))
+    (λ c. search needs) (λ c. search needs) (λ c. search needs) (λ c κs. search needs) (λ c. search needs) (λ c. search needs) (λ c. search needs)
+    (λ c. search (needs, part-step))
+    (λ c. search needs)
+    (λ c. search (needs, part-end)))

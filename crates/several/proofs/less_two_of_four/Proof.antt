@@ -7,14 +7,5 @@ use Rattle.several.proofs.less_two_of_four.Tie as tie
 column-start-requires : tie.Need-column-start-requires
 column-start-requires c κs = let room = column-fits _ _ _ _ _ _ (c .before .pre) in search needs
 
-four-less-two-requires : tie.Need-four-less-two-requires
-four-less-two-requires c κs = search (needs, four-runs)
-
-same-length : tie.Need-same-length
-same-length c = search needs
-
-returns : tie.Need-returns
-returns c = search (needs, four-columns)
-
 pub less-two-of-four-spec : {M : Type 1} → statement M
-less-two-of-four-spec = tie.close (tie.spec column-start-requires four-less-two-requires same-length returns)
+less-two-of-four-spec = tie.close (tie.spec column-start-requires (λ c κs. search (needs, four-runs)) (λ c. search needs) (λ c. search (needs, four-columns)))

@@ -46,12 +46,6 @@ loop-again c =
     let inv = turn .before .loop .inv in
     (turn-from _ _ _ (inv .0) (called .turn .ensures .1 .0), called .turn .ensures .1 .1, search needs, called .turn .ensures .0 ∙ inv .3)
 
-same-length : tie.Need-same-length Inv-loop μ-loop
-same-length c = search needs
-
-returns : tie.Need-returns Inv-loop μ-loop
-returns c = search tail-end
-
 pub apply-bk-panel-trailing-spec : {M : Type 1} → statement M
 apply-bk-panel-trailing-spec =
     tie.close
@@ -62,5 +56,5 @@ apply-bk-panel-trailing-spec =
     turn-requires
     loop-less
     loop-again
-    same-length
-    returns)
+    (λ c. search needs)
+    (λ c. search tail-end))

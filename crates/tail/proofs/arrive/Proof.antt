@@ -12,12 +12,6 @@ entry c = c .before .before .before .before
 abbrev told : tie.After-partner → tie.After-block-begins
 told c = c .before .before .before
 
-block-begins-requires : tie.Need-block-begins-requires
-block-begins-requires c κs = search needs
-
-add-exchange : tie.Need-add-exchange
-add-exchange c = search needs
-
 partner-requires : tie.Need-partner-requires
 partner-requires c κs =
     let b = c .before .before in
@@ -30,18 +24,12 @@ column-from-requires c κs =
     let b = told p in
     first-ahead _ _ _ _ _ (entry b .pre .1 .1) (b .block-begins .ensures) (p .before .before .if1 .taken) _ (p .partner .ensures)
 
-sub-exchange : tie.Need-sub-exchange
-sub-exchange c = search needs
-
 exchange-requires : tie.Need-exchange-requires
 exchange-requires c κs =
     let p = c .before .before in
     let b = told p in
     arrive-pre _ _ _ _ _ (entry b .pre .1 .1) (b .block-begins .ensures) (p .before .before .if1 .taken) _ _ _ _ (entry b .pre .0) (p .partner .ensures)
     (c .column-from .ensures)
-
-same-length : tie.Need-same-length
-same-length c = search needs
 
 returns : tie.Need-returns
 returns c =
@@ -59,12 +47,11 @@ pub arrive-spec : {M : Type 1} → statement M
 arrive-spec =
     tie.close
     (tie.spec
-    block-begins-requires
-    add-exchange
+    (λ c κs. search needs) (λ c. search needs)
     partner-requires
     column-from-requires
-    sub-exchange
+    (λ c. search needs)
     exchange-requires
-    same-length
+    (λ c. search needs)
     returns
     returns-2)

@@ -4,12 +4,6 @@ use Rattle.tail.proofs.Asked.{block-in, stays-block, stays-single}
 use Rattle.tail.proofs.stays.Statement.{statement}
 use Rattle.tail.proofs.stays.Tie as tie
 
-block-begins-requires : tie.Need-block-begins-requires
-block-begins-requires c κs = search needs
-
-add-t7 : tie.Need-add-t7
-add-t7 c = search needs
-
 partner-requires : tie.Need-partner-requires
 partner-requires c κs =
     let b = c .before .before in
@@ -29,8 +23,7 @@ pub stays-spec : {M : Type 1} → statement M
 stays-spec =
     tie.close
     (tie.spec
-    block-begins-requires
-    add-t7
+    (λ c κs. search needs) (λ c. search needs)
     partner-requires
     returns
     returns-2)

@@ -35,9 +35,6 @@ start c = entry (begun (first c))
 
 -- ---- the needs
 
-arrive-requires : tie.Need-arrive-requires
-arrive-requires c κs = search needs
-
 diagonal-at-requires : tie.Need-diagonal-at-requires
 diagonal-at-requires c κs =
     let s = entry (c .before .before) in
@@ -49,12 +46,6 @@ diagonal-at-requires-2 c κs =
     let after = s .pre .1 .1 .1 in
     pivot-pre _ _ _ _ _ _ _ _ _ _ _ _ (s .pre .1 .0) refl (after .1 .0 .1) (after .0)
 
-partner-requires : tie.Need-partner-requires
-partner-requires c κs = search needs
-
-partner-requires-2 : tie.Need-partner-requires-2
-partner-requires-2 c κs = search needs
-
 past-requires : tie.Need-past-requires
 past-requires c κs =
     let s = entry (begun (c .before)) in
@@ -62,12 +53,6 @@ past-requires c κs =
 
 sub-last : tie.Need-sub-last
 sub-last c = let more = past-later _ _ _ (c .past .ensures) in search needs
-
-sub-place : tie.Need-sub-place
-sub-place c = search needs
-
-sub-place-2 : tie.Need-sub-place-2
-sub-place-2 c = search needs
 
 sub-place-3 : tie.Need-sub-place-3
 sub-place-3 c =
@@ -102,9 +87,6 @@ part-below-pair-start c =
     let s = start (read c) in
     let room = start-fits _ _ _ _ _ _ _ _ _ (s .pre .1 .0) (s .pre .0 .here) in
     search needs
-
-part-below-pair-end : tie.Need-part-below-pair-end
-part-below-pair-end c = search needs
 
 sub-below-pair-2 : tie.Need-sub-below-pair-2
 sub-below-pair-2 c =
@@ -142,9 +124,6 @@ below-pair-requires c κs =
     (first p .before .before .diagonal-at .ensures) (first p .before .diagonal-at2 .ensures) (p .past .ensures) refl refl
     (column-is _ _ _ _ (c .before .column-from .ensures) (first p .partner .ensures)) (column-is _ _ _ _ (c .column-from2 .ensures) (p .before .partner2 .ensures))
 
-same-length : tie.Need-same-length
-same-length c = search needs
-
 returns : tie.Need-returns
 returns c =
     let f = c .before .before .before in
@@ -163,26 +142,24 @@ pub tail-pair-spec : {M : Type 1} → statement M
 tail-pair-spec =
     tie.close
     (tie.spec
-    arrive-requires
+    (λ c κs. search needs)
     diagonal-at-requires
     diagonal-at-requires-2
-    partner-requires
-    partner-requires-2
+    (λ c κs. search needs) (λ c κs. search needs)
     past-requires
     sub-last
-    sub-place
-    sub-place-2
+    (λ c. search needs) (λ c. search needs)
     sub-place-3
     sub-place-4
     place-requires
     mul-below-pair
     sub-below-pair
     part-below-pair-start
-    part-below-pair-end
+    (λ c. search needs)
     sub-below-pair-2
     sub-below-pair-3
     column-from-requires
     column-from-requires-2
     below-pair-requires
-    same-length
+    (λ c. search needs)
     returns)

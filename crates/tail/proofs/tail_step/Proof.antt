@@ -20,28 +20,10 @@ read c = c .before .before .before .before .before
 
 -- ---- the needs
 
-arrive-requires : tie.Need-arrive-requires
-arrive-requires c κs = search needs
-
 diagonal-at-requires : tie.Need-diagonal-at-requires
 diagonal-at-requires c κs =
     let s = entry (c .before .before) in
     pivot-pre _ _ _ _ _ _ _ _ _ _ _ _ (s .pre .1 .0) refl (s .pre .0 .here) (s .pre .1 .1)
-
-partner-requires : tie.Need-partner-requires
-partner-requires c κs = search needs
-
-sub-place : tie.Need-sub-place
-sub-place c = search needs
-
-sub-place-2 : tie.Need-sub-place-2
-sub-place-2 c = search needs
-
-sub-place-3 : tie.Need-sub-place-3
-sub-place-3 c = search needs
-
-sub-place-4 : tie.Need-sub-place-4
-sub-place-4 c = search needs
 
 place-requires : tie.Need-place-requires
 place-requires c κs =
@@ -67,9 +49,6 @@ part-below-step-start c =
     let room = start-fits _ _ _ _ _ _ _ _ _ (s .pre .1 .0) (s .pre .0 .here) in
     search needs
 
-part-below-step-end : tie.Need-part-below-step-end
-part-below-step-end c = search needs
-
 column-from-requires : tie.Need-column-from-requires
 column-from-requires c κs =
     let p = read (c .before) in
@@ -83,9 +62,6 @@ below-step-requires c κs =
     step-pre _ _ _ _ _ _ _ _ _ _ _ _ _ _ (lent-kept _ _ _ _ _ (s .pre .0) (b .arrive .kept .0)) (s .pre .1 .0) (s .pre .1 .1)
     (part-count _ _ (s .args .mult .now) refl _ (c .before .before .before .place .ensures)) _ _ _ _ (p .before .diagonal-at .ensures)
     (column-is _ _ _ _ (c .column-from .ensures) (p .partner .ensures))
-
-same-length : tie.Need-same-length
-same-length c = search needs
 
 returns : tie.Need-returns
 returns c =
@@ -101,19 +77,15 @@ pub tail-step-spec : {M : Type 1} → statement M
 tail-step-spec =
     tie.close
     (tie.spec
-    arrive-requires
+    (λ c κs. search needs)
     diagonal-at-requires
-    partner-requires
-    sub-place
-    sub-place-2
-    sub-place-3
-    sub-place-4
+    (λ c κs. search needs) (λ c. search needs) (λ c. search needs) (λ c. search needs) (λ c. search needs)
     place-requires
     mul-below-step
     sub-below-step
     part-below-step-start
-    part-below-step-end
+    (λ c. search needs)
     column-from-requires
     below-step-requires
-    same-length
+    (λ c. search needs)
     returns)

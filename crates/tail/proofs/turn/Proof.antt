@@ -41,9 +41,6 @@ place-requires c κs =
     let room = lent-start _ _ _ _ _ _ _ _ _ _ _ _ (s .pre .0) (s .pre .1 .1 .1 .0) in
     search needs
 
-past-requires : tie.Need-past-requires
-past-requires c κs = search needs
-
 stays-requires : tie.Need-stays-requires
 stays-requires c κs =
     let s = entry (c .before) in
@@ -67,9 +64,6 @@ part-tail-pair-start c =
     let room = lent-start _ _ _ _ _ _ _ _ _ _ _ _ (s .pre .0) (s .pre .1 .1 .1 .0) in
     search needs
 
-part-tail-pair-end : tie.Need-part-tail-pair-end
-part-tail-pair-end c = search needs
-
 tail-pair-requires : tie.Need-tail-pair-requires
 tail-pair-requires c κs =
     let t = paired (c .before) in
@@ -90,12 +84,6 @@ tail-pair-requires c κs =
         ),
       ),
     )
-
-past-requires-2 : tie.Need-past-requires-2
-past-requires-2 c κs = search needs
-
-same-length : tie.Need-same-length
-same-length c = search needs
 
 returns : tie.Need-returns
 returns c =
@@ -131,9 +119,6 @@ part-tail-step-start c =
     let room = lent-start _ _ _ _ _ _ _ _ _ _ _ _ (s .pre .0) (s .pre .1 .1 .1 .0) in
     search needs
 
-part-tail-step-end : tie.Need-part-tail-step-end
-part-tail-step-end c = search needs
-
 tail-step-requires : tie.Need-tail-step-requires
 tail-step-requires c κs =
     let s = entry (c .before .before) in
@@ -141,9 +126,6 @@ tail-step-requires c κs =
       lent-pre _ _ _ _ _ _ _ _ _ _ _ _ (s .pre .0) k-in _ (part-count _ _ (s .args .panel .now) refl _ (c .before .before .before .place .ensures)),
       (read-pre _ _ _ _ _ _ _ _ _ _ _ _ (s .pre .0) k-in (s .pre .1 .1 .0), here s),
     )
-
-same-length-2 : tie.Need-same-length-2
-same-length-2 c = search needs
 
 returns-2 : tie.Need-returns-2
 returns-2 c =
@@ -164,20 +146,19 @@ turn-spec =
     tie.close
     (tie.spec
     place-requires
-    past-requires
+    (λ c κs. search needs)
     stays-requires
     mul-tail-pair
     sub-tail-pair
     part-tail-pair-start
-    part-tail-pair-end
+    (λ c. search needs)
     tail-pair-requires
-    past-requires-2
-    same-length
+    (λ c κs. search needs) (λ c. search needs)
     returns
     mul-tail-step
     sub-tail-step
     part-tail-step-start
-    part-tail-step-end
+    (λ c. search needs)
     tail-step-requires
-    same-length-2
+    (λ c. search needs)
     returns-2)

@@ -4,9 +4,6 @@ use Rattle.text.proofs.Laws.{writes-byte}
 use Rattle.text.proofs.put_byte.Statement.{statement}
 use Rattle.text.proofs.put_byte.Tie as tie
 
-returns : tie.Need-returns
-returns c = search (needs, writes-byte)
-
 pub put-byte-spec : {M : Type 1} → statement M
 put-byte-spec =
     tie.close
@@ -14,4 +11,4 @@ put-byte-spec =
     (λ c. search needs)
     (λ c. search needs)
     (λ c. search needs)
-    returns)
+    (λ c. search (needs, writes-byte)))

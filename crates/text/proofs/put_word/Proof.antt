@@ -15,26 +15,17 @@ Inv-loop word out₀ at end₀ i₀ i-end out end i =
 abbrev μ-loop : tie.MeasureT-loop
 μ-loop word out₀ at end₀ i₀ i-end out end i = i-end - i
 
-loop-holds : tie.Need-loop-holds Inv-loop μ-loop
-loop-holds c = search (needs, word-none)
-
-loop-again : tie.Need-loop-again Inv-loop μ-loop
-loop-again c = search (needs, word-step)
-
-returns : tie.Need-returns Inv-loop μ-loop
-returns c = search (needs, word-end)
-
 pub put-word-spec : {M : Type 1} → statement M
 put-word-spec =
     tie.close
     (tie.spec
     Inv-loop
     μ-loop
-    loop-holds
+    (λ c. search (needs, word-none))
     (λ c. search needs)
     (λ c κs. search needs)
     (λ c. search needs)
     (λ c. search needs)
-    loop-again
+    (λ c. search (needs, word-step))
     (λ c. search needs)
-    returns)
+    (λ c. search (needs, word-end)))

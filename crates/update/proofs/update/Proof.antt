@@ -4,27 +4,9 @@ use Rattle.update.proofs.Called.{lists-pre, update-refuses, update-none
 use Rattle.update.proofs.update.Statement.{statement}
 use Rattle.update.proofs.update.Tie as tie
 
-lists-check-requires : tie.Need-lists-check-requires
-lists-check-requires c κs = search needs
-
-enum-told : tie.Need-enum-told
-enum-told c = search needs
-
-enum-told-2 : tie.Need-enum-told-2
-enum-told-2 c = search needs
-
-answer-requires : tie.Need-answer-requires
-answer-requires c κs = search needs
-
-same-length : tie.Need-same-length
-same-length c = search needs
-
 returns : tie.Need-returns
 returns c =
     update-refuses _ _ _ _ (c .before .before .before .lists-check .ensures) _ (c .answer .result) (c .before .enum-told2 .given .1) (c .answer .ensures)
-
-same-length-2 : tie.Need-same-length-2
-same-length-2 c = search needs
 
 returns-2 : tie.Need-returns-2
 returns-2 c = update-none _ _ _ _ (c .before .before .before .lists-check .ensures) (c .before .enum-told .given .1) (c .if1 .taken)
@@ -33,9 +15,6 @@ update-columns-requires : tie.Need-update-columns-requires
 update-columns-requires c κs =
     let told = c .before .before in
     lists-pre _ _ _ _ (told .before .before .lists-check .ensures) (told .enum-told .given .1) (c .before .if1 .left)
-
-same-length-3 : tie.Need-same-length-3
-same-length-3 c = search needs
 
 returns-3 : tie.Need-returns-3
 returns-3 c =
@@ -46,14 +25,10 @@ pub update-spec : {M : Type 1} → statement M
 update-spec =
     tie.close
     (tie.spec
-    lists-check-requires
-    enum-told
-    enum-told-2
-    answer-requires
-    same-length
+    (λ c κs. search needs) (λ c. search needs) (λ c. search needs) (λ c κs. search needs) (λ c. search needs)
     returns
-    same-length-2
+    (λ c. search needs)
     returns-2
     update-columns-requires
-    same-length-3
+    (λ c. search needs)
     returns-3)

@@ -10,23 +10,8 @@ use Rattle.update.proofs.update_columns.Tie as tie
 abbrev entered : tie.After-first-landing → tie.Start
 entered c = c .before .before .before .before .before .before .before .before
 
-first-landing-requires : tie.Need-first-landing-requires
-first-landing-requires c κs = search needs
-
-slice-aggregate-locate : tie.Need-slice-aggregate-locate
-slice-aggregate-locate c = search needs
-
 locate-requires : tie.Need-locate-requires
 locate-requires c κs = locate-pre _ _ _ (entered (c .before) .pre) _ _ (c .before .first-landing .ensures) refl
-
-enum-told : tie.Need-enum-told
-enum-told c = search needs
-
-enum-told-2 : tie.Need-enum-told-2
-enum-told-2 c = search needs
-
-answer-requires : tie.Need-answer-requires
-answer-requires c κs = search needs
 
 returns : tie.Need-returns
 returns c =
@@ -34,18 +19,6 @@ returns c =
     let landing = located .before .before in
     columns-absent _ _ _ (entered landing .pre) _ (landing .first-landing .ensures) _ (located .locate .ensures .0) _ (c .answer .result)
     (c .before .enum-told2 .given .1) (c .answer .ensures)
-
-first-bad-column-requires : tie.Need-first-bad-column-requires
-first-bad-column-requires c κs = search needs
-
-enum-told-3 : tie.Need-enum-told-3
-enum-told-3 c = search needs
-
-enum-told-4 : tie.Need-enum-told-4
-enum-told-4 c = search needs
-
-answer-requires-2 : tie.Need-answer-requires-2
-answer-requires-2 c κs = search needs
 
 returns-2 : tie.Need-returns-2
 unfolding descendantSound
@@ -56,9 +29,6 @@ returns-2 c =
     columns-number _ _ _ (entered landing .pre) _ (landing .first-landing .ensures) _ (located .locate .ensures .0) _ (numbers .before .enum-told .given .1)
     (numbers .first-bad-column .ensures) _ (c .answer2 .result) (c .before .enum-told4 .given .1) (c .answer2 .ensures)
 
-slice-aggregate-update-rows : tie.Need-slice-aggregate-update-rows
-slice-aggregate-update-rows c = search needs
-
 update-rows-requires : tie.Need-update-rows-requires
 update-rows-requires c κs =
     let told = c .before .before .before .before .before in
@@ -66,9 +36,6 @@ update-rows-requires c κs =
     let landing = located .before .before in
     apply-pre _ _ _ (entered landing .pre) _ (landing .first-landing .ensures) _ (located .locate .ensures .1 (told .enum-told .given .1))
     (search needs)
-
-same-length : tie.Need-same-length
-same-length c = search needs
 
 returns-3 : tie.Need-returns-3
 unfolding descendantSound
@@ -86,19 +53,13 @@ pub update-columns-spec : {M : Type 1} → statement M
 update-columns-spec =
     tie.close
     (tie.spec
-    first-landing-requires
-    slice-aggregate-locate
+    (λ c κs. search needs) (λ c. search needs)
     locate-requires
-    enum-told
-    enum-told-2
-    answer-requires
+    (λ c. search needs) (λ c. search needs) (λ c κs. search needs)
     returns
-    first-bad-column-requires
-    enum-told-3
-    enum-told-4
-    answer-requires-2
+    (λ c κs. search needs) (λ c. search needs) (λ c. search needs) (λ c κs. search needs)
     returns-2
-    slice-aggregate-update-rows
+    (λ c. search needs)
     update-rows-requires
-    same-length
+    (λ c. search needs)
     returns-3)

@@ -5,9 +5,6 @@ use Rattle.answer.proofs.Laws.{accepted-is}
 use Rattle.answer.proofs.lines.put_accepted.Statement.{statement}
 use Rattle.answer.proofs.lines.put_accepted.Tie as tie
 
-returns : tie.Need-returns
-returns c = (search (needs, accepted-is), omega arith)
-
 pub put-accepted-spec : {M : Type 1} → statement M
 put-accepted-spec =
     tie.close
@@ -17,4 +14,4 @@ put-accepted-spec =
     (λ c κs. search needs)
     (λ c κs. search needs)
     (λ c. search needs)
-    returns)
+    (λ c. (search (needs, accepted-is), omega arith)))

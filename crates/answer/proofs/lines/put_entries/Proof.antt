@@ -18,41 +18,20 @@ Inv-loop panel nrow ncol i out₀ at end₀ j₀ out end j =
 abbrev μ-loop : tie.MeasureT-loop
 μ-loop panel nrow ncol i out₀ at end₀ j₀ out end j = ncol - j
 
-loop-holds : tie.Need-loop-holds Inv-loop μ-loop
-loop-holds c = search (needs, each-none)
-
-mul-put-number : tie.Need-mul-put-number Inv-loop μ-loop
-mul-put-number c = search (needs, offsets)
-
-add-put-number : tie.Need-add-put-number Inv-loop μ-loop
-add-put-number c = search (needs, offsets)
-
-mul-put-number-2 : tie.Need-mul-put-number-2 Inv-loop μ-loop
-mul-put-number-2 c = search (needs, offsets)
-
-shared-slice-read-put-number : tie.Need-shared-slice-read-put-number Inv-loop μ-loop
-shared-slice-read-put-number c = search (needs, offsets)
-
-loop-again : tie.Need-loop-again Inv-loop μ-loop
-loop-again c = search (needs, entries-step)
-
-returns : tie.Need-returns Inv-loop μ-loop
-returns c = (search (needs, each-end), search needs)
-
 pub put-entries-spec : {M : Type 1} → statement M
 put-entries-spec =
     tie.close
     (tie.spec
     Inv-loop
     μ-loop
-    loop-holds
-    mul-put-number
-    add-put-number
-    mul-put-number-2
-    shared-slice-read-put-number
+    (λ c. search (needs, each-none))
+    (λ c. search (needs, offsets))
+    (λ c. search (needs, offsets))
+    (λ c. search (needs, offsets))
+    (λ c. search (needs, offsets))
     (λ c κs. search needs)
     (λ c. search needs)
     (λ c. search needs)
-    loop-again
+    (λ c. search (needs, entries-step))
     (λ c. search needs)
-    returns)
+    (λ c. (search (needs, each-end), search needs)))

@@ -5,9 +5,6 @@ use Rattle.answer.proofs.Laws.{field-is}
 use Rattle.answer.proofs.lines.put_field.Statement.{statement}
 use Rattle.answer.proofs.lines.put_field.Tie as tie
 
-returns : tie.Need-returns
-returns c = (search (needs, field-is), omega arith)
-
 pub put-field-spec : {M : Type 1} → statement M
 put-field-spec =
     tie.close
@@ -15,4 +12,4 @@ put-field-spec =
     (λ c κs. search needs)
     (λ c κs. search needs)
     (λ c. search needs)
-    returns)
+    (λ c. (search (needs, field-is), omega arith)))

@@ -5,9 +5,6 @@ use Rattle.answer.proofs.Laws.{inertia-is}
 use Rattle.answer.proofs.lines.put_inertia.Statement.{statement}
 use Rattle.answer.proofs.lines.put_inertia.Tie as tie
 
-returns : tie.Need-returns
-returns c = (search (needs, inertia-is), omega arith)
-
 pub put-inertia-spec : {M : Type 1} → statement M
 put-inertia-spec =
     tie.close
@@ -17,4 +14,4 @@ put-inertia-spec =
     (λ c κs. search needs)
     (λ c κs. search needs)
     (λ c. search needs)
-    returns)
+    (λ c. (search (needs, inertia-is), omega arith)))

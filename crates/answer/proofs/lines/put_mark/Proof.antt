@@ -5,18 +5,12 @@ use Rattle.answer.proofs.Laws.{mark-none, mark-some}
 use Rattle.answer.proofs.lines.put_mark.Statement.{statement}
 use Rattle.answer.proofs.lines.put_mark.Tie as tie
 
-returns : tie.Need-returns
-returns c = (search (needs, mark-none), omega arith)
-
-returns-2 : tie.Need-returns-2
-returns-2 c = (search (needs, mark-some), omega arith)
-
 pub put-mark-spec : {M : Type 1} → statement M
 put-mark-spec =
     tie.close
     (tie.spec
-    returns
+    (λ c. (search (needs, mark-none), omega arith))
     (λ c. search needs)
     (λ c κs. search needs)
     (λ c. search needs)
-    returns-2)
+    (λ c. (search (needs, mark-some), omega arith)))

@@ -5,9 +5,6 @@ use Rattle.answer.proofs.Laws.{number-is}
 use Rattle.answer.proofs.lines.put_number.Statement.{statement}
 use Rattle.answer.proofs.lines.put_number.Tie as tie
 
-returns : tie.Need-returns
-returns c = (search (needs, number-is), omega arith)
-
 pub put-number-spec : {M : Type 1} → statement M
 put-number-spec =
     tie.close
@@ -16,4 +13,4 @@ put-number-spec =
     (λ c κs. search needs)
     (λ c κs. search needs)
     (λ c. search needs)
-    returns)
+    (λ c. (search (needs, number-is), omega arith)))

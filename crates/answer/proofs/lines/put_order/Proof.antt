@@ -5,9 +5,6 @@ use Rattle.answer.proofs.Laws.{order-is}
 use Rattle.answer.proofs.lines.put_order.Statement.{statement}
 use Rattle.answer.proofs.lines.put_order.Tie as tie
 
-returns : tie.Need-returns
-returns c = (search (needs, order-is), omega arith)
-
 pub put-order-spec : {M : Type 1} → statement M
 put-order-spec =
     tie.close
@@ -17,4 +14,4 @@ put-order-spec =
     (λ c κs. search needs)
     (λ c κs. search needs)
     (λ c. search needs)
-    returns)
+    (λ c. (search (needs, order-is), omega arith)))

@@ -17,22 +17,13 @@ Inv-loop d sub blocks lifts amounts out₀ at end₀ k₀ k-end out end k =
 abbrev μ-loop : tie.MeasureT-loop
 μ-loop d sub blocks lifts amounts out₀ at end₀ k₀ k-end out end k = k-end - k
 
-loop-holds : tie.Need-loop-holds Inv-loop μ-loop
-loop-holds c = search (needs, each-none)
-
-loop-again : tie.Need-loop-again Inv-loop μ-loop
-loop-again c = search (needs, pivots-step)
-
-returns : tie.Need-returns Inv-loop μ-loop
-returns c = (search (needs, each-end), search needs)
-
 pub put-pivots-spec : {M : Type 1} → statement M
 put-pivots-spec =
     tie.close
     (tie.spec
     Inv-loop
     μ-loop
-    loop-holds
+    (λ c. search (needs, each-none))
     (λ c. search needs)
     (λ c. search needs)
     (λ c. search needs)
@@ -44,6 +35,6 @@ put-pivots-spec =
     (λ c κs. search needs)
     (λ c. search needs)
     (λ c. search needs)
-    loop-again
+    (λ c. search (needs, pivots-step))
     (λ c. search needs)
-    returns)
+    (λ c. (search (needs, each-end), search needs)))

@@ -17,27 +17,18 @@ Inv-loop order out₀ at end₀ i₀ i-end out end i =
 abbrev μ-loop : tie.MeasureT-loop
 μ-loop order out₀ at end₀ i₀ i-end out end i = i-end - i
 
-loop-holds : tie.Need-loop-holds Inv-loop μ-loop
-loop-holds c = search (needs, each-none)
-
-loop-again : tie.Need-loop-again Inv-loop μ-loop
-loop-again c = search (needs, places-step)
-
-returns : tie.Need-returns Inv-loop μ-loop
-returns c = (search (needs, each-end), search needs)
-
 pub put-places-spec : {M : Type 1} → statement M
 put-places-spec =
     tie.close
     (tie.spec
     Inv-loop
     μ-loop
-    loop-holds
+    (λ c. search (needs, each-none))
     (λ c. search needs)
     (λ c. search needs)
     (λ c κs. search needs)
     (λ c. search needs)
     (λ c. search needs)
-    loop-again
+    (λ c. search (needs, places-step))
     (λ c. search needs)
-    returns)
+    (λ c. (search (needs, each-end), search needs)))

@@ -4,9 +4,6 @@ use Rattle.answer.proofs.Laws.{refused-is}
 use Rattle.answer.proofs.lines.put_refused.Statement.{statement}
 use Rattle.answer.proofs.lines.put_refused.Tie as tie
 
-returns : tie.Need-returns
-returns c = search (needs, refused-is)
-
 pub put-refused-spec : {M : Type 1} → statement M
 put-refused-spec =
     tie.close
@@ -16,4 +13,4 @@ put-refused-spec =
     (λ c κs. search needs)
     (λ c κs. search needs)
     (λ c. search needs)
-    returns)
+    (λ c. search (needs, refused-is)))

@@ -17,25 +17,16 @@ Inv-loop panel marks nrow ncol out₀ at end₀ i₀ out end i =
 abbrev μ-loop : tie.MeasureT-loop
 μ-loop panel marks nrow ncol out₀ at end₀ i₀ out end i = nrow - i
 
-loop-holds : tie.Need-loop-holds Inv-loop μ-loop
-loop-holds c = search (needs, each-none)
-
-loop-again : tie.Need-loop-again Inv-loop μ-loop
-loop-again c = search (needs, each-step)
-
-returns : tie.Need-returns Inv-loop μ-loop
-returns c = (search (needs, each-end), search needs)
-
 pub put-rows-spec : {M : Type 1} → statement M
 put-rows-spec =
     tie.close
     (tie.spec
     Inv-loop
     μ-loop
-    loop-holds
+    (λ c. search (needs, each-none))
     (λ c κs. search needs)
     (λ c. search needs)
     (λ c. search needs)
-    loop-again
+    (λ c. search (needs, each-step))
     (λ c. search needs)
-    returns)
+    (λ c. (search (needs, each-end), search needs)))

@@ -5,9 +5,6 @@ use Rattle.answer.proofs.Laws.{three-is}
 use Rattle.answer.proofs.lines.put_three.Statement.{statement}
 use Rattle.answer.proofs.lines.put_three.Tie as tie
 
-returns : tie.Need-returns
-returns c = (search (needs, three-is), omega arith)
-
 pub put-three-spec : {M : Type 1} → statement M
 put-three-spec =
     tie.close
@@ -16,4 +13,4 @@ put-three-spec =
     (λ c κs. search needs)
     (λ c κs. search needs)
     (λ c. search needs)
-    returns)
+    (λ c. (search (needs, three-is), omega arith)))

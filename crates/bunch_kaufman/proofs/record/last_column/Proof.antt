@@ -4,17 +4,5 @@ use Rattle.bunch_kaufman.proofs.Noted.{last-block, last-single}
 use Rattle.bunch_kaufman.proofs.record.last_column.Statement.{statement}
 use Rattle.bunch_kaufman.proofs.record.last_column.Tie as tie
 
-is-block-requires : tie.Need-is-block-requires
-is-block-requires c κs = search needs
-
-add-t4 : tie.Need-add-t4
-add-t4 c = search needs
-
-returns : tie.Need-returns
-returns c = search last-block
-
-returns-2 : tie.Need-returns-2
-returns-2 c = search last-single
-
 pub last-column-spec : {M : Type 1} → statement M
-last-column-spec = tie.close (tie.spec is-block-requires add-t4 returns returns-2)
+last-column-spec = tie.close (tie.spec (λ c κs. search needs) (λ c. search needs) (λ c. search last-block) (λ c. search last-single))

@@ -4,24 +4,6 @@ use Rattle.bunch_kaufman.proofs.Noted.{vec-both}
 use Rattle.bunch_kaufman.proofs.record.put_both.Statement.{statement}
 use Rattle.bunch_kaufman.proofs.record.put_both.Tie as tie
 
-mul-v : tie.Need-mul-v
-mul-v c = search needs
-
-slice-write-v : tie.Need-slice-write-v
-slice-write-v c = search needs
-
-mul-v-2 : tie.Need-mul-v-2
-mul-v-2 c = search needs
-
-slice-write-v-2 : tie.Need-slice-write-v-2
-slice-write-v-2 c = search needs
-
-same-length : tie.Need-same-length
-same-length c = search needs
-
-returns : tie.Need-returns
-returns c = search vec-both
-
 pub put-both-spec : {M : Type 1} → statement M
 put-both-spec =
-    tie.close (tie.spec mul-v slice-write-v mul-v-2 slice-write-v-2 same-length returns)
+    tie.close (tie.spec (λ c. search needs) (λ c. search needs) (λ c. search needs) (λ c. search needs) (λ c. search needs) (λ c. search vec-both))

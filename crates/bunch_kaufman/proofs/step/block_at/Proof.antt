@@ -8,36 +8,20 @@ use Rattle.bunch_kaufman.proofs.step.block_at.Tie as tie
 get-requires : tie.Need-get-requires
 get-requires c κs = corner-in _ _ _ _ _ _ (c .before .pre) (omega arith) (omega arith)
 
-add-get : tie.Need-add-get
-add-get c = search needs
-
 get-requires-2 : tie.Need-get-requires-2
 get-requires-2 c κs = corner-in _ _ _ _ _ _ (c .before .before .before .pre) (omega arith) (omega arith)
 
-add-get-2 : tie.Need-add-get-2
-add-get-2 c = search needs
-
-add-get-3 : tie.Need-add-get-3
-add-get-3 c = search needs
-
 get-requires-3 : tie.Need-get-requires-3
 get-requires-3 c κs = corner-in _ _ _ _ _ _ (c .before .before .before .before .before .before .pre) (omega arith) (omega arith)
-
-block-of-requires : tie.Need-block-of-requires
-block-of-requires c κs = search needs
-
-returns : tie.Need-returns
-returns c = search block-is
 
 pub block-at-spec : {M : Type 1} → statement M
 block-at-spec =
     tie.close
     (tie.spec
     get-requires
-    add-get
+    (λ c. search needs)
     get-requires-2
-    add-get-2
-    add-get-3
+    (λ c. search needs) (λ c. search needs)
     get-requires-3
-    block-of-requires
-    returns)
+    (λ c κs. search needs)
+    (λ c. search block-is))

@@ -4,36 +4,6 @@ use Rattle.bunch_kaufman.proofs.Taking.{row-in, single-stop, single-too
 use Rattle.bunch_kaufman.proofs.step.single.Statement.{statement}
 use Rattle.bunch_kaufman.proofs.step.single.Tie as tie
 
-get-requires : tie.Need-get-requires
-get-requires c κs = search row-in
-
-settle-one-requires : tie.Need-settle-one-requires
-settle-one-requires c κs = search needs
-
-enum-known-settled : tie.Need-enum-known-settled
-enum-known-settled c = search needs
-
-enum-told : tie.Need-enum-told
-enum-told c = search needs
-
-same-length : tie.Need-same-length
-same-length c = search needs
-
-returns : tie.Need-returns
-returns c = search single-stop
-
-exchange-if-requires : tie.Need-exchange-if-requires
-exchange-if-requires c κs = search needs
-
-head-one-requires : tie.Need-head-one-requires
-head-one-requires c κs = search needs
-
-same-length-2 : tie.Need-same-length-2
-same-length-2 c = search needs
-
-same-length-3 : tie.Need-same-length-3
-same-length-3 c = search needs
-
 returns-2 : tie.Need-returns-2
 returns-2 c =
     let done = c .before .before .before .before in
@@ -47,14 +17,8 @@ pub single-spec : {M : Type 1} → statement M
 single-spec =
     tie.close
     (tie.spec
-    get-requires
-    settle-one-requires
-    enum-known-settled
-    enum-told
-    same-length
-    returns
-    exchange-if-requires
-    head-one-requires
-    same-length-2
-    same-length-3
+    (λ c κs. search row-in)
+    (λ c κs. search needs) (λ c. search needs) (λ c. search needs) (λ c. search needs)
+    (λ c. search single-stop)
+    (λ c κs. search needs) (λ c κs. search needs) (λ c. search needs) (λ c. search needs)
     returns-2)

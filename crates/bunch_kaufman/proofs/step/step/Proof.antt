@@ -4,18 +4,6 @@ use Rattle.bunch_kaufman.proofs.Taking.{single-pre, pair-pre, within-mo
 use Rattle.bunch_kaufman.proofs.step.step.Statement.{statement}
 use Rattle.bunch_kaufman.proofs.step.step.Tie as tie
 
-choose-requires : tie.Need-choose-requires
-choose-requires c κs = search needs
-
-by-mode-requires : tie.Need-by-mode-requires
-by-mode-requires c κs = search needs
-
-enum-told : tie.Need-enum-told
-enum-told c = search needs
-
-enum-known-choice : tie.Need-enum-known-choice
-enum-known-choice c = search needs
-
 single-requires : tie.Need-single-requires
 single-requires c κs =
     let start : tie.Start = search in
@@ -23,9 +11,6 @@ single-requires c κs =
     let made : tie.After-by-mode = search in
     single-pre _ _ _ _ _ _ (start .pre .0) (c .before .before .before .choice .given .1)
     (within-mode _ (start .args .how .mode) (start .args .k) (chosen .choose .result) _ (start .pre .0 .last) (chosen .choose .ensures .1) (made .by-mode .ensures))
-
-enum-known-choice-2 : tie.Need-enum-known-choice-2
-enum-known-choice-2 c = search needs
 
 moved-pair-requires : tie.Need-moved-pair-requires
 moved-pair-requires c κs =
@@ -35,9 +20,6 @@ moved-pair-requires c κs =
     pair-pre _ _ _ _ _ _ _ (start .pre .0) (c .before .before .before .choice2 .given .1)
     (within-mode _ (start .args .how .mode) (start .args .k) (chosen .choose .result) _ (start .pre .0 .last) (chosen .choose .ensures .1) (made .by-mode .ensures))
 
-same-length : tie.Need-same-length
-same-length c = search needs
-
 returns : tie.Need-returns
 returns c =
     let start : tie.Start = search in
@@ -45,12 +27,6 @@ returns c =
     let made : tie.After-by-mode = search in
     let told : tie.After-enum-told = search in
     step-zero _ _ _ _ _ _ _ _ _ (start .pre .0 .last) (start .pre .1) (chosen .choose .ensures .0) (made .by-mode .ensures) (told .enum-told .given .1)
-
-same-length-2 : tie.Need-same-length-2
-same-length-2 c = search needs
-
-same-length-3 : tie.Need-same-length-3
-same-length-3 c = search needs
 
 returns-2 : tie.Need-returns-2
 returns-2 c =
@@ -61,12 +37,6 @@ returns-2 c =
     let done : tie.After-single = search in
     step-single _ _ _ _ _ _ _ _ _ (start .pre .0 .last) (start .pre .1) (chosen .choose .ensures .0) (made .by-mode .ensures) _ _ (told .choice .given .1)
     (done .single .ensures)
-
-same-length-4 : tie.Need-same-length-4
-same-length-4 c = search needs
-
-same-length-5 : tie.Need-same-length-5
-same-length-5 c = search needs
 
 returns-3 : tie.Need-returns-3
 returns-3 c =
@@ -82,18 +52,13 @@ pub step-spec : {M : Type 1} → statement M
 step-spec =
     tie.close
     (tie.spec
-    choose-requires
-    by-mode-requires
-    enum-told
-    enum-known-choice
+    (λ c κs. search needs) (λ c κs. search needs) (λ c. search needs) (λ c. search needs)
     single-requires
-    enum-known-choice-2
+    (λ c. search needs)
     moved-pair-requires
-    same-length
+    (λ c. search needs)
     returns
-    same-length-2
-    same-length-3
+    (λ c. search needs) (λ c. search needs)
     returns-2
-    same-length-4
-    same-length-5
+    (λ c. search needs) (λ c. search needs)
     returns-3)

@@ -19,41 +19,16 @@ Inv-loop g₀ panel d sub blocks nrow kb ke k₀ g k =
 abbrev μ-loop : tie.MeasureT-loop
 μ-loop g₀ panel d sub blocks nrow kb ke k₀ g k = ke - k
 
-loop-holds : tie.Need-loop-holds Inv-loop μ-loop
-loop-holds c = search (needs, products-none)
-
-sub-product-column : tie.Need-sub-product-column Inv-loop μ-loop
-sub-product-column c = search needs
-
-product-column-requires : tie.Need-product-column-requires Inv-loop μ-loop
-product-column-requires c κs = search products-pre
-
-add-k : tie.Need-add-k Inv-loop μ-loop
-add-k c = search needs
-
-loop-less : tie.Need-loop-less Inv-loop μ-loop
-loop-less c = search needs
-
-loop-again : tie.Need-loop-again Inv-loop μ-loop
-loop-again c = search (needs, products-step)
-
-same-length : tie.Need-same-length Inv-loop μ-loop
-same-length c = search needs
-
-returns : tie.Need-returns Inv-loop μ-loop
-returns c = search (needs, products-end)
-
 pub products-spec : {M : Type 1} → statement M
 products-spec =
     tie.close
     (tie.spec
     Inv-loop
     μ-loop
-    loop-holds
-    sub-product-column
-    product-column-requires
-    add-k
-    loop-less
-    loop-again
-    same-length
-    returns)
+    (λ c. search (needs, products-none))
+    (λ c. search needs)
+    (λ c κs. search products-pre)
+    (λ c. search needs) (λ c. search needs)
+    (λ c. search (needs, products-step))
+    (λ c. search needs)
+    (λ c. search (needs, products-end)))

@@ -19,32 +19,8 @@ Inv-loop x₀ y₀ g panel at w t₀ x y t =
 abbrev μ-loop : tie.MeasureT-loop
 μ-loop x₀ y₀ g panel at w t₀ x y t = w - t
 
-loop-holds : tie.Need-loop-holds Inv-loop μ-loop
-loop-holds c = search (needs, fours-none)
-
-sub-loop : tie.Need-sub-loop Inv-loop μ-loop
-sub-loop c = search needs
-
-add-four-requires : tie.Need-add-four-requires Inv-loop μ-loop
-add-four-requires c κs = (search fours-pre, search fours-pre)
-
-add-t : tie.Need-add-t Inv-loop μ-loop
-add-t c = search needs
-
-loop-less : tie.Need-loop-less Inv-loop μ-loop
-loop-less c = search needs
-
 loop-again : tie.Need-loop-again Inv-loop μ-loop
 loop-again c = (search needs, search needs, search needs, search fours-step, search fours-step)
-
-same-length : tie.Need-same-length Inv-loop μ-loop
-same-length c = search needs
-
-same-length-2 : tie.Need-same-length-2 Inv-loop μ-loop
-same-length-2 c = search needs
-
-returns : tie.Need-returns Inv-loop μ-loop
-returns c = (search needs, (search needs, search needs))
 
 pub gather-fours-spec : {M : Type 1} → statement M
 gather-fours-spec =
@@ -52,12 +28,10 @@ gather-fours-spec =
     (tie.spec
     Inv-loop
     μ-loop
-    loop-holds
-    sub-loop
-    add-four-requires
-    add-t
-    loop-less
+    (λ c. search (needs, fours-none))
+    (λ c. search needs)
+    (λ c κs. (search fours-pre, search fours-pre))
+    (λ c. search needs) (λ c. search needs)
     loop-again
-    same-length
-    same-length-2
-    returns)
+    (λ c. search needs) (λ c. search needs)
+    (λ c. (search needs, (search needs, search needs))))

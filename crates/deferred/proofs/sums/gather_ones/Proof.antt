@@ -18,26 +18,8 @@ Inv-loop x₀ g panel at j s w t₀ x t =
 abbrev μ-loop : tie.MeasureT-loop
 μ-loop x₀ g panel at j s w t₀ x t = w - t
 
-loop-holds : tie.Need-loop-holds Inv-loop μ-loop
-loop-holds c = search (needs, ones-none)
-
-add-one-requires : tie.Need-add-one-requires Inv-loop μ-loop
-add-one-requires c κs = search ones-pre
-
-add-t : tie.Need-add-t Inv-loop μ-loop
-add-t c = search needs
-
-loop-less : tie.Need-loop-less Inv-loop μ-loop
-loop-less c = search needs
-
 loop-again : tie.Need-loop-again Inv-loop μ-loop
 loop-again c = (search needs, search needs, search needs, search ones-step)
-
-same-length : tie.Need-same-length Inv-loop μ-loop
-same-length c = search needs
-
-returns : tie.Need-returns Inv-loop μ-loop
-returns c = search (needs, ones-end)
 
 pub gather-ones-spec : {M : Type 1} → statement M
 gather-ones-spec =
@@ -45,10 +27,9 @@ gather-ones-spec =
     (tie.spec
     Inv-loop
     μ-loop
-    loop-holds
-    add-one-requires
-    add-t
-    loop-less
+    (λ c. search (needs, ones-none))
+    (λ c κs. search ones-pre)
+    (λ c. search needs) (λ c. search needs)
     loop-again
-    same-length
-    returns)
+    (λ c. search needs)
+    (λ c. search (needs, ones-end)))

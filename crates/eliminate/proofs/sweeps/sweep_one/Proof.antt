@@ -18,57 +18,18 @@ Inv-loop panel₀ mult at k lo hi kb ke j₀ panel j =
 abbrev μ-loop : tie.MeasureT-loop
 μ-loop panel₀ mult at k lo hi kb ke j₀ panel j = ke - j
 
-add-j : tie.Need-add-j Inv-loop μ-loop
-add-j c = search needs
-
-loop-holds : tie.Need-loop-holds Inv-loop μ-loop
-loop-holds c = search (needs, sweep-one-none)
-
-later-requires : tie.Need-later-requires Inv-loop μ-loop
-later-requires c κs = search needs
-
-sub-get : tie.Need-sub-get Inv-loop μ-loop
-sub-get c = search needs
-
-sub-get-2 : tie.Need-sub-get-2 Inv-loop μ-loop
-sub-get-2 c = search needs
-
-get-requires : tie.Need-get-requires Inv-loop μ-loop
-get-requires c κs = search (needs, multiplier-in)
-
-less-if-requires : tie.Need-less-if-requires Inv-loop μ-loop
-less-if-requires c κs = search (needs, later-pre)
-
-add-j-2 : tie.Need-add-j-2 Inv-loop μ-loop
-add-j-2 c = search needs
-
-loop-less : tie.Need-loop-less Inv-loop μ-loop
-loop-less c = search needs
-
-loop-again : tie.Need-loop-again Inv-loop μ-loop
-loop-again c = search (needs, sweep-one-step)
-
-same-length : tie.Need-same-length Inv-loop μ-loop
-same-length c = search needs
-
-returns : tie.Need-returns Inv-loop μ-loop
-returns c = search (needs, sweep-one-end)
-
 pub sweep-one-spec : {M : Type 1} → statement M
 sweep-one-spec =
     tie.close
     (tie.spec
     Inv-loop
     μ-loop
-    add-j
-    loop-holds
-    later-requires
-    sub-get
-    sub-get-2
-    get-requires
-    less-if-requires
-    add-j-2
-    loop-less
-    loop-again
-    same-length
-    returns)
+    (λ c. search needs)
+    (λ c. search (needs, sweep-one-none))
+    (λ c κs. search needs) (λ c. search needs) (λ c. search needs)
+    (λ c κs. search (needs, multiplier-in))
+    (λ c κs. search (needs, later-pre))
+    (λ c. search needs) (λ c. search needs)
+    (λ c. search (needs, sweep-one-step))
+    (λ c. search needs)
+    (λ c. search (needs, sweep-one-end)))

@@ -7,17 +7,8 @@ use Rattle.grid.proofs.columns.less.Tie as tie
 column-start-requires : tie.Need-column-start-requires
 column-start-requires c κs = let room = later-room _ _ _ _ _ _ (c .before .pre) in search needs
 
-column-start-requires-2 : tie.Need-column-start-requires-2
-column-start-requires-2 c κs = search needs
-
 add-a : tie.Need-add-a
 add-a c = let room = later-room _ _ _ _ _ _ (c .before .before .before .pre) in search needs
-
-add-x : tie.Need-add-x
-add-x c = search needs
-
-add-e : tie.Need-add-e
-add-e c = search needs
 
 mul-less-ahead : tie.Need-mul-less-ahead
 mul-less-ahead c = let room = later-room _ _ _ _ _ _ (c .before .before .before .pre) in search needs
@@ -28,39 +19,23 @@ sub-less-ahead c = let room = later-room _ _ _ _ _ _ (c .before .before .before 
 part-less-ahead-start : tie.Need-part-less-ahead-start
 part-less-ahead-start c = let room = later-room _ _ _ _ _ _ (c .before .before .before .pre) in search needs
 
-part-less-ahead-end : tie.Need-part-less-ahead-end
-part-less-ahead-end c = search needs
-
 sub-less-ahead-2 : tie.Need-sub-less-ahead-2
 sub-less-ahead-2 c = let room = later-room _ _ _ _ _ _ (c .before .before .before .before .pre) in search needs
-
-sub-less-ahead-3 : tie.Need-sub-less-ahead-3
-sub-less-ahead-3 c = search needs
-
-less-ahead-requires : tie.Need-less-ahead-requires
-less-ahead-requires c κs = search (needs, later-ahead)
-
-same-length : tie.Need-same-length
-same-length c = search needs
-
-returns : tie.Need-returns
-returns c = search (needs, less-lent)
 
 pub less-spec : {M : Type 1} → statement M
 less-spec =
     tie.close
     (tie.spec
     column-start-requires
-    column-start-requires-2
+    (λ c κs. search needs)
     add-a
-    add-x
-    add-e
+    (λ c. search needs) (λ c. search needs)
     mul-less-ahead
     sub-less-ahead
     part-less-ahead-start
-    part-less-ahead-end
+    (λ c. search needs)
     sub-less-ahead-2
-    sub-less-ahead-3
-    less-ahead-requires
-    same-length
-    returns)
+    (λ c. search needs)
+    (λ c κs. search (needs, later-ahead))
+    (λ c. search needs)
+    (λ c. search (needs, less-lent)))

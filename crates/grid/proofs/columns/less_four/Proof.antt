@@ -7,17 +7,8 @@ use Rattle.grid.proofs.columns.less_four.Tie as tie
 column-start-requires : tie.Need-column-start-requires
 column-start-requires c κs = let room = later-room-more _ _ 3 _ _ _ _ (c .before .pre) in search needs
 
-column-start-requires-2 : tie.Need-column-start-requires-2
-column-start-requires-2 c κs = search needs
-
 add-a : tie.Need-add-a
 add-a c = let room = later-room-more _ _ 3 _ _ _ _ (c .before .before .before .pre) in search needs
-
-add-x : tie.Need-add-x
-add-x c = search needs
-
-add-e : tie.Need-add-e
-add-e c = search needs
 
 mul-less-four-ahead : tie.Need-mul-less-four-ahead
 mul-less-four-ahead c = let room = later-room-more _ _ 3 _ _ _ _ (c .before .before .before .pre) in search needs
@@ -28,39 +19,23 @@ sub-less-four-ahead c = let room = later-room-more _ _ 3 _ _ _ _ (c .before .bef
 part-less-four-ahead-start : tie.Need-part-less-four-ahead-start
 part-less-four-ahead-start c = let room = later-room-more _ _ 3 _ _ _ _ (c .before .before .before .pre) in search needs
 
-part-less-four-ahead-end : tie.Need-part-less-four-ahead-end
-part-less-four-ahead-end c = search needs
-
 sub-less-four-ahead-2 : tie.Need-sub-less-four-ahead-2
 sub-less-four-ahead-2 c = let room = later-room-more _ _ 3 _ _ _ _ (c .before .before .before .before .pre) in search needs
-
-sub-less-four-ahead-3 : tie.Need-sub-less-four-ahead-3
-sub-less-four-ahead-3 c = search needs
-
-less-four-ahead-requires : tie.Need-less-four-ahead-requires
-less-four-ahead-requires c κs = search (needs, later-four-ahead)
-
-same-length : tie.Need-same-length
-same-length c = search needs
-
-returns : tie.Need-returns
-returns c = search (needs, less-four-lent)
 
 pub less-four-spec : {M : Type 1} → statement M
 less-four-spec =
     tie.close
     (tie.spec
     column-start-requires
-    column-start-requires-2
+    (λ c κs. search needs)
     add-a
-    add-x
-    add-e
+    (λ c. search needs) (λ c. search needs)
     mul-less-four-ahead
     sub-less-four-ahead
     part-less-four-ahead-start
-    part-less-four-ahead-end
+    (λ c. search needs)
     sub-less-four-ahead-2
-    sub-less-four-ahead-3
-    less-four-ahead-requires
-    same-length
-    returns)
+    (λ c. search needs)
+    (λ c κs. search (needs, later-four-ahead))
+    (λ c. search needs)
+    (λ c. search (needs, less-four-lent)))

@@ -16,57 +16,15 @@ Inv-loop x₀ s t n p q r i₀ x i = (i ≤ n) × (length x ≡ length x₀) × 
 abbrev μ-loop : tie.MeasureT-loop
 μ-loop x₀ s t n p q r i₀ x i = n - i
 
-loop-holds : tie.Need-loop-holds Inv-loop μ-loop
-loop-holds c = search (needs, rule-none)
-
-mul-x : tie.Need-mul-x Inv-loop μ-loop
-mul-x c = search needs
-
-shared-slice-read-x : tie.Need-shared-slice-read-x Inv-loop μ-loop
-shared-slice-read-x c = search needs
-
-mul-x-2 : tie.Need-mul-x-2 Inv-loop μ-loop
-mul-x-2 c = search needs
-
-shared-slice-read-x-2 : tie.Need-shared-slice-read-x-2 Inv-loop μ-loop
-shared-slice-read-x-2 c = search needs
-
-mul-x-3 : tie.Need-mul-x-3 Inv-loop μ-loop
-mul-x-3 c = search needs
-
-slice-write-x : tie.Need-slice-write-x Inv-loop μ-loop
-slice-write-x c = search needs
-
-add-i : tie.Need-add-i Inv-loop μ-loop
-add-i c = search needs
-
-loop-less : tie.Need-loop-less Inv-loop μ-loop
-loop-less c = search needs
-
-loop-again : tie.Need-loop-again Inv-loop μ-loop
-loop-again c = search (needs, combine-step)
-
-same-length : tie.Need-same-length Inv-loop μ-loop
-same-length c = search needs
-
-returns : tie.Need-returns Inv-loop μ-loop
-returns c = search (needs, withPart-end)
-
 pub combine-spec : {M : Type 1} → statement M
 combine-spec =
     tie.close
     (tie.spec
     Inv-loop
     μ-loop
-    loop-holds
-    mul-x
-    shared-slice-read-x
-    mul-x-2
-    shared-slice-read-x-2
-    mul-x-3
-    slice-write-x
-    add-i
-    loop-less
-    loop-again
-    same-length
-    returns)
+    (λ c. search (needs, rule-none))
+    (λ c. search needs) (λ c. search needs) (λ c. search needs) (λ c. search needs) (λ c. search needs) (λ c. search needs) (λ c. search needs)
+    (λ c. search needs)
+    (λ c. search (needs, combine-step))
+    (λ c. search needs)
+    (λ c. search (needs, withPart-end)))

@@ -17,77 +17,15 @@ Inv-loop x₀ p q n m1 m2 i₀ x i =
 abbrev μ-loop : tie.MeasureT-loop
 μ-loop x₀ p q n m1 m2 i₀ x i = n - i
 
-loop-holds : tie.Need-loop-holds Inv-loop μ-loop
-loop-holds c = search (needs, from-none)
-
-add-x : tie.Need-add-x Inv-loop μ-loop
-add-x c = search needs
-
-mul-x : tie.Need-mul-x Inv-loop μ-loop
-mul-x c = search needs
-
-slice-read-x : tie.Need-slice-read-x Inv-loop μ-loop
-slice-read-x c = search needs
-
-mul-x-2 : tie.Need-mul-x-2 Inv-loop μ-loop
-mul-x-2 c = search needs
-
-slice-read-x-2 : tie.Need-slice-read-x-2 Inv-loop μ-loop
-slice-read-x-2 c = search needs
-
-add-x-2 : tie.Need-add-x-2 Inv-loop μ-loop
-add-x-2 c = search needs
-
-mul-x-3 : tie.Need-mul-x-3 Inv-loop μ-loop
-mul-x-3 c = search needs
-
-slice-read-x-3 : tie.Need-slice-read-x-3 Inv-loop μ-loop
-slice-read-x-3 c = search needs
-
-add-x-3 : tie.Need-add-x-3 Inv-loop μ-loop
-add-x-3 c = search needs
-
-mul-x-4 : tie.Need-mul-x-4 Inv-loop μ-loop
-mul-x-4 c = search needs
-
-slice-write-x : tie.Need-slice-write-x Inv-loop μ-loop
-slice-write-x c = search needs
-
-add-i : tie.Need-add-i Inv-loop μ-loop
-add-i c = search needs
-
-loop-less : tie.Need-loop-less Inv-loop μ-loop
-loop-less c = search needs
-
-loop-again : tie.Need-loop-again Inv-loop μ-loop
-loop-again c = search (needs, less-two-ahead-step)
-
-same-length : tie.Need-same-length Inv-loop μ-loop
-same-length c = search needs
-
-returns : tie.Need-returns Inv-loop μ-loop
-returns c = search (needs, from-end)
-
 pub less-two-ahead-spec : {M : Type 1} → statement M
 less-two-ahead-spec =
     tie.close
     (tie.spec
     Inv-loop
     μ-loop
-    loop-holds
-    add-x
-    mul-x
-    slice-read-x
-    mul-x-2
-    slice-read-x-2
-    add-x-2
-    mul-x-3
-    slice-read-x-3
-    add-x-3
-    mul-x-4
-    slice-write-x
-    add-i
-    loop-less
-    loop-again
-    same-length
-    returns)
+    (λ c. search (needs, from-none))
+    (λ c. search needs) (λ c. search needs) (λ c. search needs) (λ c. search needs) (λ c. search needs) (λ c. search needs) (λ c. search needs)
+    (λ c. search needs) (λ c. search needs) (λ c. search needs) (λ c. search needs) (λ c. search needs) (λ c. search needs)
+    (λ c. search (needs, less-two-ahead-step))
+    (λ c. search needs)
+    (λ c. search (needs, from-end)))

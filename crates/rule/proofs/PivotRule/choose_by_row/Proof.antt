@@ -4,30 +4,6 @@ use Rattle.rule.proofs.Ways.{diagonal-in, across-in, square-read, way-r
 use Rattle.rule.proofs.PivotRule.choose_by_row.Statement.{statement}
 use Rattle.rule.proofs.PivotRule.choose_by_row.Tie as tie
 
-row-greatest-requires : tie.Need-row-greatest-requires
-row-greatest-requires c κs = search needs
-
-across-requires : tie.Need-across-requires
-across-requires c κs = search (needs, across-in)
-
-root-of-requires : tie.Need-root-of-requires
-root-of-requires c κs = search (needs, square-read)
-
-threshold-requires : tie.Need-threshold-requires
-threshold-requires c κs = search needs
-
-returns : tie.Need-returns
-returns c = search (needs, way-row)
-
-get-requires : tie.Need-get-requires
-get-requires c κs = search (needs, diagonal-in)
-
-magnitude-requires : tie.Need-magnitude-requires
-magnitude-requires c κs = search needs
-
-threshold-requires-2 : tie.Need-threshold-requires-2
-threshold-requires-2 c κs = search needs
-
 returns-2 : tie.Need-returns-2
 returns-2 c =
     let read = c .before .before .before in
@@ -48,13 +24,12 @@ pub choose-by-row-spec : {M : Type 1} → statement M
 choose-by-row-spec =
     tie.close
     (tie.spec
-    row-greatest-requires
-    across-requires
-    root-of-requires
-    threshold-requires
-    returns
-    get-requires
-    magnitude-requires
-    threshold-requires-2
+    (λ c κs. search needs)
+    (λ c κs. search (needs, across-in))
+    (λ c κs. search (needs, square-read))
+    (λ c κs. search needs)
+    (λ c. search (needs, way-row))
+    (λ c κs. search (needs, diagonal-in))
+    (λ c κs. search needs) (λ c κs. search needs)
     returns-2
     returns-3)

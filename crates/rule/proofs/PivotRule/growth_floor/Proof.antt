@@ -4,11 +4,5 @@ use Rattle.rule.proofs.Laws.{growth-is}
 use Rattle.rule.proofs.PivotRule.growth_floor.Statement.{statement}
 use Rattle.rule.proofs.PivotRule.growth_floor.Tie as tie
 
-scale-requires : tie.Need-scale-requires
-scale-requires c κs = search needs
-
-returns : tie.Need-returns
-returns c = rw (c .scale .ensures, growth-is)
-
 pub growth-floor-spec : {M : Type 1} → statement M
-growth-floor-spec = tie.close (tie.spec scale-requires returns)
+growth-floor-spec = tie.close (tie.spec (λ c κs. search needs) (λ c. rw (c .scale .ensures, growth-is)))

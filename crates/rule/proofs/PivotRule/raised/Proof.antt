@@ -12,21 +12,6 @@ Inv-loop b bar step limit sum₀ done₀ sum done = (done ≤ limit) × Left b b
 abbrev μ-loop : tie.MeasureT-loop
 μ-loop b bar step limit sum₀ done₀ sum done = limit - done
 
-loop-holds : tie.Need-loop-holds Inv-loop μ-loop
-loop-holds c = (search needs, raised-none _ _ _ _)
-
-block-of-requires : tie.Need-block-of-requires Inv-loop μ-loop
-block-of-requires c κs = search needs
-
-magnitude-requires : tie.Need-magnitude-requires Inv-loop μ-loop
-magnitude-requires c κs = search needs
-
-add-done : tie.Need-add-done Inv-loop μ-loop
-add-done c = search needs
-
-loop-less : tie.Need-loop-less Inv-loop μ-loop
-loop-less c = search needs
-
 loop-again : tie.Need-loop-again Inv-loop μ-loop
 loop-again c =
     let block = c .before .before in
@@ -36,27 +21,15 @@ loop-again c =
           (block .block-of .ensures) (c .before .magnitude .ensures) (c .if1 .taken),
     )
 
-add-t11 : tie.Need-add-t11 Inv-loop μ-loop
-add-t11 c = search needs
-
-returns : tie.Need-returns Inv-loop μ-loop
-returns c = search (needs, raised-enough)
-
-returns-2 : tie.Need-returns-2 Inv-loop μ-loop
-returns-2 c = search (needs, raised-out)
-
 pub raised-spec : {M : Type 1} → statement M
 raised-spec =
     tie.close
     (tie.spec
     Inv-loop
     μ-loop
-    loop-holds
-    block-of-requires
-    magnitude-requires
-    add-done
-    loop-less
+    (λ c. (search needs, raised-none _ _ _ _))
+    (λ c κs. search needs) (λ c κs. search needs) (λ c. search needs) (λ c. search needs)
     loop-again
-    add-t11
-    returns
-    returns-2)
+    (λ c. search needs)
+    (λ c. search (needs, raised-enough))
+    (λ c. search (needs, raised-out)))

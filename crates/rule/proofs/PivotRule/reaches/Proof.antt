@@ -15,11 +15,8 @@ factor : HasValue (ofBits binary64 0x3FF8_FC1E_CD5F_DA0D) false 0x18_FC1E_CD5F_D
 unfolding ofBits
 factor = (refl, refl)
 
-threshold-requires : tie.Need-threshold-requires
-threshold-requires c κs = search needs
-
 returns : tie.Need-returns
 returns c = reached _ _ _ (pow-pos 52) factor _ _ _ (c .threshold .ensures) (c .before .pre) (passes _ (c .before .good .1 .0 .1))
 
 pub reaches-spec : {M : Type 1} → statement M
-reaches-spec = tie.close (tie.spec threshold-requires returns)
+reaches-spec = tie.close (tie.spec (λ c κs. search needs) returns)

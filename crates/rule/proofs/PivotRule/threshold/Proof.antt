@@ -3,8 +3,5 @@ use Rattle.rule.proofs.Laws.{alpha-is}
 use Rattle.rule.proofs.PivotRule.threshold.Statement.{statement}
 use Rattle.rule.proofs.PivotRule.threshold.Tie as tie
 
-returns : tie.Need-returns
-returns c = rw alpha-is
-
 pub threshold-spec : {M : Type 1} → statement M
-threshold-spec = tie.close (tie.spec returns)
+threshold-spec = tie.close (tie.spec (λ c. rw alpha-is))

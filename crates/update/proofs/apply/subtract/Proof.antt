@@ -19,15 +19,6 @@ Inv-loop panel₀ nrow column places acc nk lo hi r₀ panel r =
 abbrev μ-loop : tie.MeasureT-loop
 μ-loop panel₀ nrow column places acc nk lo hi r₀ panel r = hi - r
 
-loop-holds : tie.Need-loop-holds Inv-loop μ-loop
-loop-holds c = (search needs, search needs, search needs, refl)
-
-mul-t14 : tie.Need-mul-t14 Inv-loop μ-loop
-mul-t14 c = search needs
-
-shared-slice-read-t16 : tie.Need-shared-slice-read-t16 Inv-loop μ-loop
-shared-slice-read-t16 c = search needs
-
 cast-t17 : tie.Need-cast-t17 Inv-loop μ-loop
 unfolding bytes
 cast-t17 c =
@@ -36,27 +27,12 @@ cast-t17 c =
     let row = start .pre .inside (at .before .loop .r) (at .before .loop .inv .0) (at .loop-test .taken) .row in
     search (needs, row)
 
-add-less-at : tie.Need-add-less-at Inv-loop μ-loop
-add-less-at c = search needs
-
-mul-less-at : tie.Need-mul-less-at Inv-loop μ-loop
-mul-less-at c = search needs
-
-shared-slice-read-less-at : tie.Need-shared-slice-read-less-at Inv-loop μ-loop
-shared-slice-read-less-at c = search needs
-
 less-at-requires : tie.Need-less-at-requires Inv-loop μ-loop
 unfolding bytes
 less-at-requires c κs =
     let at = c .before .before .before in
     let start = at .before .before .before .before .before in
     subtract-place _ _ _ _ _ _ _ _ _ _ (start .pre) (at .before .loop .inv .0) (at .loop-test .taken) (at .before .loop .inv .2)
-
-add-r : tie.Need-add-r Inv-loop μ-loop
-add-r c = search needs
-
-loop-less : tie.Need-loop-less Inv-loop μ-loop
-loop-less c = search needs
 
 loop-again : tie.Need-loop-again Inv-loop μ-loop
 unfolding bytes vec fromRow
@@ -68,28 +44,18 @@ loop-again c =
       less-step _ _ _ _ _ _ _ _ _ _ (at .loop-test .taken) refl refl (c .before .before .less-at .ensures) (at .before .loop .inv .3),
     )
 
-same-length : tie.Need-same-length Inv-loop μ-loop
-same-length c = search needs
-
-returns : tie.Need-returns Inv-loop μ-loop
-returns c = search less-end
-
 pub subtract-spec : {M : Type 1} → statement M
 subtract-spec =
     tie.close
     (tie.spec
     Inv-loop
     μ-loop
-    loop-holds
-    mul-t14
-    shared-slice-read-t16
+    (λ c. (search needs, search needs, search needs, refl))
+    (λ c. search needs) (λ c. search needs)
     cast-t17
-    add-less-at
-    mul-less-at
-    shared-slice-read-less-at
+    (λ c. search needs) (λ c. search needs) (λ c. search needs)
     less-at-requires
-    add-r
-    loop-less
+    (λ c. search needs) (λ c. search needs)
     loop-again
-    same-length
-    returns)
+    (λ c. search needs)
+    (λ c. search less-end))

@@ -17,38 +17,17 @@ Inv-loop acc₀ kpanel all row v nk s₀ acc s =
 abbrev μ-loop : tie.MeasureT-loop
 μ-loop acc₀ kpanel all row v nk s₀ acc s = nk - s
 
-zero-requires : tie.Need-zero-requires Inv-loop μ-loop
-zero-requires c κs = search needs
-
-loop-holds : tie.Need-loop-holds Inv-loop μ-loop
-loop-holds c = (search needs, search needs, search sums-none)
-
-mul-plus : tie.Need-mul-plus Inv-loop μ-loop
-mul-plus c = search needs
-
-shared-slice-read-plus : tie.Need-shared-slice-read-plus Inv-loop μ-loop
-shared-slice-read-plus c = search needs
-
 plus-requires : tie.Need-plus-requires Inv-loop μ-loop
 plus-requires c κs =
     let at = c .before .before in
     let start = at .before .before .before .before .before .before .before .before .before in
     sum-column _ _ _ _ _ _ _ _ (start .pre) (at .loop-test .taken) (search needs)
 
-add-s : tie.Need-add-s Inv-loop μ-loop
-add-s c = search needs
-
-loop-less : tie.Need-loop-less Inv-loop μ-loop
-loop-less c = search needs
-
 loop-again : tie.Need-loop-again Inv-loop μ-loop
 unfolding vec
 loop-again c =
     let at = c .before .before .before .before .before in
     (search needs, search needs, sums-step _ _ _ _ _ _ _ _ _ refl (at .before .loop .inv .2) (c .before .before .plus .ensures))
-
-same-length : tie.Need-same-length Inv-loop μ-loop
-same-length c = search needs
 
 returns : tie.Need-returns Inv-loop μ-loop
 returns c =
@@ -60,13 +39,11 @@ sum-spec =
     (tie.spec
     Inv-loop
     μ-loop
-    zero-requires
-    loop-holds
-    mul-plus
-    shared-slice-read-plus
+    (λ c κs. search needs)
+    (λ c. (search needs, search needs, search sums-none))
+    (λ c. search needs) (λ c. search needs)
     plus-requires
-    add-s
-    loop-less
+    (λ c. search needs) (λ c. search needs)
     loop-again
-    same-length
+    (λ c. search needs)
     returns)

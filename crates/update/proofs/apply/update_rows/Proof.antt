@@ -25,12 +25,6 @@ abbrev μ-loop : tie.MeasureT-loop
 loop-holds : tie.Need-loop-holds Inv-loop μ-loop
 loop-holds c = (search needs, search needs, search needs, search needs, refl)
 
-slice-aggregate-update-row : tie.Need-slice-aggregate-update-row Inv-loop μ-loop
-slice-aggregate-update-row c = search needs
-
-slice-aggregate-update-row-2 : tie.Need-slice-aggregate-update-row-2 Inv-loop μ-loop
-slice-aggregate-update-row-2 c = search needs
-
 update-row-requires : tie.Need-update-row-requires Inv-loop μ-loop
 update-row-requires c κs =
     let at = c .before .before .before .before .before in
@@ -38,12 +32,6 @@ update-row-requires c κs =
       rows-later _ _ _ _ _ _ _ _ _ _ _ _ _ _ (start .pre) (at .loop .inv .0) (at .loop .inv .1),
       rows-room _ _ _ _ _ _ _ _ _ _ _ _ _ _ _ (start .pre) (c .before .before .before .if1 .taken) (at .loop .inv .2) (at .loop .inv .3),
     )
-
-add-c : tie.Need-add-c Inv-loop μ-loop
-add-c c = search needs
-
-loop-less : tie.Need-loop-less Inv-loop μ-loop
-loop-less c = search needs
 
 loop-again : tie.Need-loop-again Inv-loop μ-loop
 loop-again c =
@@ -55,12 +43,6 @@ loop-again c =
       rows-step _ _ _ _ _ _ _ _ _ (in-loop .if1 .taken) (c .before .before .before .before .update-row .ensures) (in-loop .before .before .loop .inv .4),
     )
 
-same-length : tie.Need-same-length Inv-loop μ-loop
-same-length c = search needs
-
-returns : tie.Need-returns Inv-loop μ-loop
-returns c = search rows-end
-
 pub update-rows-spec : {M : Type 1} → statement M
 update-rows-spec =
     tie.close
@@ -68,11 +50,9 @@ update-rows-spec =
     Inv-loop
     μ-loop
     loop-holds
-    slice-aggregate-update-row
-    slice-aggregate-update-row-2
+    (λ c. search needs) (λ c. search needs)
     update-row-requires
-    add-c
-    loop-less
+    (λ c. search needs) (λ c. search needs)
     loop-again
-    same-length
-    returns)
+    (λ c. search needs)
+    (λ c. search rows-end))

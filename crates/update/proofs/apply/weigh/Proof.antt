@@ -21,21 +21,6 @@ abbrev μ-loop : tie.MeasureT-loop
 loop-holds : tie.Need-loop-holds Inv-loop μ-loop
 loop-holds c = (search needs, search needs, sym (withPart-none _ 0 _))
 
-weight-requires : tie.Need-weight-requires Inv-loop μ-loop
-weight-requires c κs = search weigh-column
-
-mul-v : tie.Need-mul-v Inv-loop μ-loop
-mul-v c = search needs
-
-slice-write-v : tie.Need-slice-write-v Inv-loop μ-loop
-slice-write-v c = search needs
-
-add-s : tie.Need-add-s Inv-loop μ-loop
-add-s c = search needs
-
-loop-less : tie.Need-loop-less Inv-loop μ-loop
-loop-less c = search needs
-
 loop-again : tie.Need-loop-again Inv-loop μ-loop
 loop-again c =
     let at = c .before .before in
@@ -45,12 +30,6 @@ loop-again c =
       weigh-step _ _ _ _ _ _ (c .before .loop-test .taken) (omega (arith, start .pre .fits)) (at .loop .inv .2) (c .weight .ensures),
     )
 
-same-length : tie.Need-same-length Inv-loop μ-loop
-same-length c = search needs
-
-returns : tie.Need-returns Inv-loop μ-loop
-returns c = search withPart-end
-
 pub weigh-spec : {M : Type 1} → statement M
 weigh-spec =
     tie.close
@@ -58,11 +37,8 @@ weigh-spec =
     Inv-loop
     μ-loop
     loop-holds
-    weight-requires
-    mul-v
-    slice-write-v
-    add-s
-    loop-less
+    (λ c κs. search weigh-column)
+    (λ c. search needs) (λ c. search needs) (λ c. search needs) (λ c. search needs)
     loop-again
-    same-length
-    returns)
+    (λ c. search needs)
+    (λ c. search withPart-end))

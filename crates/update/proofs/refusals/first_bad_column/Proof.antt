@@ -19,37 +19,15 @@ Inv-loop nk mk kpanel kd ksub kblocks c₀ c =
 abbrev μ-loop : tie.MeasureT-loop
 μ-loop nk mk kpanel kd ksub kblocks c₀ c = nk - c
 
-loop-holds : tie.Need-loop-holds Inv-loop μ-loop
-loop-holds c = search (needs, first-none)
-
-column-sound-requires : tie.Need-column-sound-requires Inv-loop μ-loop
-column-sound-requires c κs = search needs
-
-returns : tie.Need-returns Inv-loop μ-loop
-returns c = search first-bad
-
-add-c : tie.Need-add-c Inv-loop μ-loop
-add-c c = search needs
-
-loop-less : tie.Need-loop-less Inv-loop μ-loop
-loop-less c = search needs
-
-loop-again : tie.Need-loop-again Inv-loop μ-loop
-loop-again c = (search needs, search first-step)
-
-returns-2 : tie.Need-returns-2 Inv-loop μ-loop
-returns-2 c = search first-end
-
 pub first-bad-column-spec : {M : Type 1} → statement M
 first-bad-column-spec =
     tie.close
     (tie.spec
     Inv-loop
     μ-loop
-    loop-holds
-    column-sound-requires
-    returns
-    add-c
-    loop-less
-    loop-again
-    returns-2)
+    (λ c. search (needs, first-none))
+    (λ c κs. search needs)
+    (λ c. search first-bad)
+    (λ c. search needs) (λ c. search needs)
+    (λ c. (search needs, search first-step))
+    (λ c. search first-end))

@@ -5,9 +5,6 @@ use Rattle.update.proofs.Listed.{lists-lengths, lists-columns, lists-ta
 use Rattle.update.proofs.refusals.lists_check.Statement.{statement}
 use Rattle.update.proofs.refusals.lists_check.Tie as tie
 
-lengths-sound-requires : tie.Need-lengths-sound-requires
-lengths-sound-requires c κs = search needs
-
 returns : tie.Need-returns
 unfolding updateSound
 returns c = lists-lengths _ _ _ _ (c .before .lengths-sound .ensures) (c .if1 .taken)
@@ -21,9 +18,6 @@ returns-2 c =
     let sized = c .before .before in
     lists-target _ _ _ _ (sized .before .lengths-sound .ensures) (sized .if1 .left) _ (c .before .target-sound .ensures) (c .if2 .taken)
 
-rising-requires : tie.Need-rising-requires
-rising-requires c κs = search needs
-
 returns-3 : tie.Need-returns-3
 unfolding updateSound
 returns-3 c =
@@ -31,9 +25,6 @@ returns-3 c =
     let sized = begun .before .before in
     lists-descendant _ _ _ _ (sized .before .lengths-sound .ensures) (sized .if1 .left) _ (begun .before .target-sound .ensures) (begun .if2 .left) _
     (c .before .rising .ensures) (c .if3 .taken)
-
-first-bad-byte-requires : tie.Need-first-bad-byte-requires
-first-bad-byte-requires c κs = search needs
 
 returns-4 : tie.Need-returns-4
 unfolding updateSound
@@ -48,11 +39,11 @@ pub lists-check-spec : {M : Type 1} → statement M
 lists-check-spec =
     tie.close
     (tie.spec
-    lengths-sound-requires
+    (λ c κs. search needs)
     returns
     target-sound-requires
     returns-2
-    rising-requires
+    (λ c κs. search needs)
     returns-3
-    first-bad-byte-requires
+    (λ c κs. search needs)
     returns-4)

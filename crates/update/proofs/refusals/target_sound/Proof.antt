@@ -4,17 +4,11 @@ use borrow.Author.Tests.{not-true, not-false}
 use Rattle.update.proofs.refusals.target_sound.Statement.{statement}
 use Rattle.update.proofs.refusals.target_sound.Tie as tie
 
-rising-requires : tie.Need-rising-requires
-rising-requires c κs = search needs
-
 returns : tie.Need-returns
 returns c = rw (← c .before .rising .ensures, not-true (c .before .rising .result) (c .if1 .taken))
-
-begins-at-requires : tie.Need-begins-at-requires
-begins-at-requires c κs = search needs
 
 returns-2 : tie.Need-returns-2
 returns-2 c = rw (← c .before .before .rising .ensures, not-false (c .before .before .rising .result) (c .before .if1 .left)) (c .begins-at .ensures)
 
 pub target-sound-spec : {M : Type 1} → statement M
-target-sound-spec = tie.close (tie.spec rising-requires returns begins-at-requires returns-2)
+target-sound-spec = tie.close (tie.spec (λ c κs. search needs) returns (λ c κs. search needs) returns-2)

@@ -18,34 +18,13 @@ Inv-loop first ncol krows i₀ i =
 abbrev μ-loop : tie.MeasureT-loop
 μ-loop first ncol krows i₀ i = length krows - i
 
-loop-holds : tie.Need-loop-holds Inv-loop μ-loop
-loop-holds c = search (needs, from-none)
-
-mul-t5 : tie.Need-mul-t5 Inv-loop μ-loop
-mul-t5 c = search needs
-
-shared-slice-read-t9 : tie.Need-shared-slice-read-t9 Inv-loop μ-loop
-shared-slice-read-t9 c = search needs
-
-lands-requires : tie.Need-lands-requires Inv-loop μ-loop
-lands-requires c κs = search needs
-
 returns : tie.Need-returns Inv-loop μ-loop
 unfolding landsAt bytes
 returns c = search from-hit
 
-add-i : tie.Need-add-i Inv-loop μ-loop
-add-i c = search needs
-
-loop-less : tie.Need-loop-less Inv-loop μ-loop
-loop-less c = search needs
-
 loop-again : tie.Need-loop-again Inv-loop μ-loop
 unfolding landsAt bytes
 loop-again c = (search needs, search from-step)
-
-returns-2 : tie.Need-returns-2 Inv-loop μ-loop
-returns-2 c = search from-end
 
 pub first-landing-spec : {M : Type 1} → statement M
 first-landing-spec =
@@ -53,12 +32,9 @@ first-landing-spec =
     (tie.spec
     Inv-loop
     μ-loop
-    loop-holds
-    mul-t5
-    shared-slice-read-t9
-    lands-requires
+    (λ c. search (needs, from-none))
+    (λ c. search needs) (λ c. search needs) (λ c κs. search needs)
     returns
-    add-i
-    loop-less
+    (λ c. search needs) (λ c. search needs)
     loop-again
-    returns-2)
+    (λ c. search from-end))

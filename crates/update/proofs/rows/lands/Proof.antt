@@ -5,18 +5,9 @@ use Rattle.update.specs.Rows.{landsOn}
 use Rattle.update.proofs.rows.lands.Statement.{statement}
 use Rattle.update.proofs.rows.lands.Tie as tie
 
-cast-result : tie.Need-cast-result
-cast-result c = search needs
-
-cast-result-2 : tie.Need-cast-result-2
-cast-result-2 c = search needs
-
-add-result : tie.Need-add-result
-add-result c = search needs
-
 returns : tie.Need-returns
 unfolding landsOn
 returns c = refl
 
 pub lands-spec : {M : Type 1} → statement M
-lands-spec = tie.close (tie.spec cast-result cast-result-2 add-result returns)
+lands-spec = tie.close (tie.spec (λ c. search needs) (λ c. search needs) (λ c. search needs) returns)

@@ -17,31 +17,13 @@ Inv-loop rows g i₀ i =
 abbrev μ-loop : tie.MeasureT-loop
 μ-loop rows g i₀ i = length rows - i
 
-loop-holds : tie.Need-loop-holds Inv-loop μ-loop
-loop-holds c = search needs
-
-mul-t6 : tie.Need-mul-t6 Inv-loop μ-loop
-mul-t6 c = search needs
-
-shared-slice-read-t9 : tie.Need-shared-slice-read-t9 Inv-loop μ-loop
-shared-slice-read-t9 c = search needs
-
 returns : tie.Need-returns Inv-loop μ-loop
 unfolding bytes
 returns c = search place-hit
 
-add-i : tie.Need-add-i Inv-loop μ-loop
-add-i c = search needs
-
-loop-less : tie.Need-loop-less Inv-loop μ-loop
-loop-less c = search needs
-
 loop-again : tie.Need-loop-again Inv-loop μ-loop
 unfolding bytes
 loop-again c = (search needs, search needs, search place-step)
-
-returns-2 : tie.Need-returns-2 Inv-loop μ-loop
-returns-2 c = search place-end
 
 pub local-row-spec : {M : Type 1} → statement M
 local-row-spec =
@@ -49,11 +31,8 @@ local-row-spec =
     (tie.spec
     Inv-loop
     μ-loop
-    loop-holds
-    mul-t6
-    shared-slice-read-t9
+    (λ c. search needs) (λ c. search needs) (λ c. search needs)
     returns
-    add-i
-    loop-less
+    (λ c. search needs) (λ c. search needs)
     loop-again
-    returns-2)
+    (λ c. search place-end))

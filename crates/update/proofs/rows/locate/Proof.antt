@@ -31,21 +31,6 @@ step c =
     locating-step _ _ _ _ _ (entered c .pre) _ _ _ (head c .loop .inv) (c .before .before .before .loop-test .taken) (c .before .local-row .ensures)
     (c .if1 .left)
 
-loop-holds : tie.Need-loop-holds Inv-loop μ-loop
-loop-holds c = search (needs, locating-none)
-
-mul-t9 : tie.Need-mul-t9 Inv-loop μ-loop
-mul-t9 c = search needs
-
-shared-slice-read-t13 : tie.Need-shared-slice-read-t13 Inv-loop μ-loop
-shared-slice-read-t13 c = search needs
-
-local-row-requires : tie.Need-local-row-requires Inv-loop μ-loop
-local-row-requires c κs = search needs
-
-same-length : tie.Need-same-length Inv-loop μ-loop
-same-length c = search needs
-
 returns : tie.Need-returns Inv-loop μ-loop
 unfolding bytes
 returns c =
@@ -54,30 +39,6 @@ returns c =
       locating-bad _ _ _ _ _ (start .pre) _ _ _ (at .before .loop .inv) (at .loop-test .taken) (c .before .local-row .ensures) (c .if1 .taken),
       λ e. absurd (let z : _≡_ {A = ℕ} 0 1 = cc in omega arith),
     )
-
-cast-places : tie.Need-cast-places Inv-loop μ-loop
-cast-places c = omega (arith, step c .next, entered c .pre .few)
-
-mul-places : tie.Need-mul-places Inv-loop μ-loop
-mul-places c = search needs
-
-slice-write-places : tie.Need-slice-write-places Inv-loop μ-loop
-slice-write-places c = search needs
-
-add-from : tie.Need-add-from Inv-loop μ-loop
-add-from c = omega (arith, step c .next)
-
-add-i : tie.Need-add-i Inv-loop μ-loop
-add-i c = search needs
-
-loop-less : tie.Need-loop-less Inv-loop μ-loop
-loop-less c = search needs
-
-loop-again : tie.Need-loop-again Inv-loop μ-loop
-loop-again c = step c
-
-same-length-2 : tie.Need-same-length-2 Inv-loop μ-loop
-same-length-2 c = search needs
 
 returns-2 : tie.Need-returns-2 Inv-loop μ-loop
 returns-2 c =
@@ -92,18 +53,13 @@ locate-spec =
     (tie.spec
     Inv-loop
     μ-loop
-    loop-holds
-    mul-t9
-    shared-slice-read-t13
-    local-row-requires
-    same-length
+    (λ c. search (needs, locating-none))
+    (λ c. search needs) (λ c. search needs) (λ c κs. search needs) (λ c. search needs)
     returns
-    cast-places
-    mul-places
-    slice-write-places
-    add-from
-    add-i
-    loop-less
-    loop-again
-    same-length-2
+    (λ c. omega (arith, step c .next, entered c .pre .few))
+    (λ c. search needs) (λ c. search needs)
+    (λ c. omega (arith, step c .next))
+    (λ c. search needs) (λ c. search needs)
+    (λ c. step c)
+    (λ c. search needs)
     returns-2)

@@ -18,37 +18,15 @@ Inv-loop rows i₀ i =
 abbrev μ-loop : tie.MeasureT-loop
 μ-loop rows i₀ i = length rows - i
 
-loop-holds : tie.Need-loop-holds Inv-loop μ-loop
-loop-holds c = search (needs, every-none)
-
-rises-at-requires : tie.Need-rises-at-requires Inv-loop μ-loop
-rises-at-requires c κs = search needs
-
-returns : tie.Need-returns Inv-loop μ-loop
-returns c = search every-bad
-
-add-i : tie.Need-add-i Inv-loop μ-loop
-add-i c = search needs
-
-loop-less : tie.Need-loop-less Inv-loop μ-loop
-loop-less c = search needs
-
-loop-again : tie.Need-loop-again Inv-loop μ-loop
-loop-again c = (search needs, search every-step)
-
-returns-2 : tie.Need-returns-2 Inv-loop μ-loop
-returns-2 c = search every-end
-
 pub rising-spec : {M : Type 1} → statement M
 rising-spec =
     tie.close
     (tie.spec
     Inv-loop
     μ-loop
-    loop-holds
-    rises-at-requires
-    returns
-    add-i
-    loop-less
-    loop-again
-    returns-2)
+    (λ c. search (needs, every-none))
+    (λ c κs. search needs)
+    (λ c. search every-bad)
+    (λ c. search needs) (λ c. search needs)
+    (λ c. (search needs, search every-step))
+    (λ c. search every-end))
