@@ -10,6 +10,5 @@ read-and-factor-spec =
     (tie.spec
     (λ c κs. search (needs, panel-there))
     (λ c κs. search (needs, sizes-pre))
-    (λ c. search needs)
-    (λ c. search needs)
+    (λ c. search needs) (λ c. search needs)
     (λ c. search (needs, factor-printed)))

@@ -25,10 +25,8 @@ pub respond-spec : {M : Type 1} → statement M
 respond-spec =
     tie.close
     (tie.spec
-    (λ c κs. search needs)
-    (λ c. search needs)
+    (λ c κs. search needs) (λ c. search needs)
     factored-requires
-    (λ c. search needs)
-    (λ c κs. search needs)
+    (λ c. search needs) (λ c κs. search needs)
     returns
     returns-2)

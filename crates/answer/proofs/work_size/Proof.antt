@@ -19,8 +19,7 @@ pub work-size-spec : {M : Type 1} → statement M
 work-size-spec =
     tie.close
     (tie.spec
-    (λ c. search needs)
-    (λ c. search needs)
+    (λ c. search needs) (λ c. search needs)
     mul-result-2
     (λ c. omega (arith, square-few (c .args .nb) (c .pre .1)))
     add-result-2

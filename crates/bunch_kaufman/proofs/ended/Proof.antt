@@ -9,7 +9,6 @@ pub ended-spec : {M : Type 1} → statement M
 ended-spec =
     tie.close
     (tie.spec
-    (λ c. search needs)
-    (λ c. search needs)
+    (λ c. search needs) (λ c. search needs)
     (λ c. sym (ap endedBy (c .before .t .given .1)))
     (λ c. sym (ap endedBy (c .before .t2 .given .1))))

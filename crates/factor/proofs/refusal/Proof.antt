@@ -9,7 +9,6 @@ pub refusal-spec : {M : Type 1} → statement M
 refusal-spec =
     tie.close
     (tie.spec
-    (λ c. search needs)
-    (λ c. search needs)
+    (λ c. search needs) (λ c. search needs)
     (λ c. sym (ap refusalOf (c .before .ran .given .1)))
     (λ c. sym (ap refusalOf (c .before .ran2 .given .1))))

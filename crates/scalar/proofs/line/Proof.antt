@@ -9,9 +9,6 @@ pub line-spec : {M : Type 1} → statement M
 line-spec =
     tie.close
     (tie.spec
-    (λ c. search needs)
-    (λ c. search needs)
-    (λ c. search needs)
-    (λ c. search needs)
+    (λ c. search needs) (λ c. search needs) (λ c. search needs) (λ c. search needs)
     (λ c. search (needs, first-octave))
     (λ c. search (needs, second-octave)))

@@ -29,12 +29,9 @@ pub +put-decimal-spec : {M : Type 1} → statement M
     (digit-reads.Asked, digit-reads.Learnt, put-byte-reads.Asked, put-byte-reads.Learnt, put-decimal-below t, put-decimal.Post)
     (put-decimal-at t)
     put-decimal.Post
-    (λ c κs. search needs)
-    (λ c κs. search needs)
-    (λ c. search needs)
+    (λ c κs. search needs) (λ c κs. search needs) (λ c. search needs)
     (λ c. (search (needs, decimal-one), search (needs, decimal-one, decimal-end)))
-    (λ c κs. search needs)
-    (λ c κs. search needs)
+    (λ c κs. search needs) (λ c κs. search needs)
     (λ c κs.
     let start = c .before .before .before .before .before .before .before .before in
     omega (arith, decimal-front (start .args .n) (start .fits .n .fits) (c .before .before .before .before .put-decimal .ensures .0)))

@@ -30,9 +30,7 @@ pub +put-digits-spec : {M : Type 1} → statement M
     (put-digits-at t)
     put-digits.Post
     (λ c. search (needs, hex-none))
-    (λ c. search needs)
-    (λ c κs. search needs)
-    (λ c κs. search needs)
+    (λ c. search needs) (λ c κs. search needs) (λ c κs. search needs)
     (λ c κs.
     let called = c .before .before .before .before in
     let given = called .before .before .before .before .args in

@@ -8,9 +8,7 @@ pub digit-spec : {M : Type 1} → statement M
 digit-spec =
     tie.close
     (tie.spec
-    (λ c. search needs)
-    (λ c. search needs)
+    (λ c. search needs) (λ c. search needs)
     (λ c. rw (lt-ltb _ 10 (c .if1 .taken)))
-    (λ c. search needs)
-    (λ c. search needs)
+    (λ c. search needs) (λ c. search needs)
     (λ c. rw (le-ltb _ 10 (c .if1 .left))))

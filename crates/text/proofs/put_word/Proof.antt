@@ -22,10 +22,7 @@ put-word-spec =
     Inv-loop
     μ-loop
     (λ c. search (needs, word-none))
-    (λ c. search needs)
-    (λ c κs. search needs)
-    (λ c. search needs)
-    (λ c. search needs)
+    (λ c. search needs) (λ c κs. search needs) (λ c. search needs) (λ c. search needs)
     (λ c. search (needs, word-step))
     (λ c. search needs)
     (λ c. search (needs, word-end)))

@@ -9,9 +9,5 @@ pub put-accepted-spec : {M : Type 1} → statement M
 put-accepted-spec =
     tie.close
     (tie.spec
-    (λ c. search needs)
-    (λ c κs. search needs)
-    (λ c κs. search needs)
-    (λ c κs. search needs)
-    (λ c. search needs)
+    (λ c. search needs) (λ c κs. search needs) (λ c κs. search needs) (λ c κs. search needs) (λ c. search needs)
     (λ c. (search (needs, accepted-is), omega arith)))

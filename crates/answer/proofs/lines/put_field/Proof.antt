@@ -9,7 +9,5 @@ pub put-field-spec : {M : Type 1} → statement M
 put-field-spec =
     tie.close
     (tie.spec
-    (λ c κs. search needs)
-    (λ c κs. search needs)
-    (λ c. search needs)
+    (λ c κs. search needs) (λ c κs. search needs) (λ c. search needs)
     (λ c. (search (needs, field-is), omega arith)))

@@ -9,9 +9,5 @@ pub put-inertia-spec : {M : Type 1} → statement M
 put-inertia-spec =
     tie.close
     (tie.spec
-    (λ c. search needs)
-    (λ c κs. search needs)
-    (λ c κs. search needs)
-    (λ c κs. search needs)
-    (λ c. search needs)
+    (λ c. search needs) (λ c κs. search needs) (λ c κs. search needs) (λ c κs. search needs) (λ c. search needs)
     (λ c. (search (needs, inertia-is), omega arith)))

@@ -10,7 +10,5 @@ put-mark-spec =
     tie.close
     (tie.spec
     (λ c. (search (needs, mark-none), omega arith))
-    (λ c. search needs)
-    (λ c κs. search needs)
-    (λ c. search needs)
+    (λ c. search needs) (λ c κs. search needs) (λ c. search needs)
     (λ c. (search (needs, mark-some), omega arith)))

@@ -24,11 +24,7 @@ put-places-spec =
     Inv-loop
     μ-loop
     (λ c. search (needs, each-none))
-    (λ c. search needs)
-    (λ c. search needs)
-    (λ c κs. search needs)
-    (λ c. search needs)
-    (λ c. search needs)
+    (λ c. search needs) (λ c. search needs) (λ c κs. search needs) (λ c. search needs) (λ c. search needs)
     (λ c. search (needs, places-step))
     (λ c. search needs)
     (λ c. (search (needs, each-end), search needs)))

@@ -24,9 +24,7 @@ put-rows-spec =
     Inv-loop
     μ-loop
     (λ c. search (needs, each-none))
-    (λ c κs. search needs)
-    (λ c. search needs)
-    (λ c. search needs)
+    (λ c κs. search needs) (λ c. search needs) (λ c. search needs)
     (λ c. search (needs, each-step))
     (λ c. search needs)
     (λ c. (search (needs, each-end), search needs)))

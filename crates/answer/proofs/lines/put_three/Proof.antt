@@ -9,8 +9,5 @@ pub put-three-spec : {M : Type 1} → statement M
 put-three-spec =
     tie.close
     (tie.spec
-    (λ c κs. search needs)
-    (λ c κs. search needs)
-    (λ c κs. search needs)
-    (λ c. search needs)
+    (λ c κs. search needs) (λ c κs. search needs) (λ c κs. search needs) (λ c. search needs)
     (λ c. (search (needs, three-is), omega arith)))
