@@ -96,10 +96,10 @@ took-in : (ke k : ℕ) (T : Taken) (v : Pivot) → TakenIn ke k T → T ≡ Took
 took-in ke k T v g e = subst (λ (u : Taken). TakenIn ke k u) e g
 
 pub note-pre : {ke k e ld ls lb lp ll la lo ld₀ ls₀ lb₀ lp₀ ll₀ la₀ lo₀ : ℕ} {T : Taken} {v : Pivot}
-    → TakenIn ke k T → T ≡ Took v → e ≡ lastOf k (isBlock (v .diagonal)) → NotesPre ke ld₀ ls₀ lb₀ lp₀ ll₀ la₀ lo₀
+    → TakenIn ke k T → T ≡ Took v → e ≡ lastOf k (isBlock (v .diagonal)) → ke ≤ mostColumns → NotesPre ke ld₀ ls₀ lb₀ lp₀ ll₀ la₀ lo₀
     → ld ≡ ld₀ → ls ≡ ls₀ → lb ≡ lb₀ → lp ≡ lp₀ → ll ≡ ll₀ → la ≡ la₀ → lo ≡ lo₀
     → NotePre k e (v .p .0) (v .kp .0) ld ls lb lp ll la lo
-note-pre {ke} {k} {T = T} {v = v} g z l h e1 e2 e3 e4 e5 e6 e7 =
+note-pre {ke} {k} {T = T} {v = v} g z l few h e1 e2 e3 e4 e5 e6 e7 =
     let w = took-in ke k T v g z in
     let m = last-ge k (isBlock (v .diagonal)) in
     let a = w .last in
@@ -115,6 +115,8 @@ note-pre {ke} {k} {T = T} {v = v} g z l h e1 e2 e3 e4 e5 e6 e7 =
       order = omega (arith, h .order);
       row = omega (arith, h .order);
       first = omega (arith, h .order, w .first);
+      firstHead = omega (arith, w .first);
+      rowHead = omega arith;
     }
 
 pub rounds-fit : (ke k r : ℕ) (T : Taken) (v : Pivot) → TakenIn ke k T → T ≡ Took v → r ≤ mostRounds * k → k < ke → ke ≤ mostColumns → Fits w64 (r + v .rounds)

@@ -108,13 +108,15 @@ pub record LiftPre (k e ll la : ℕ) : Type 0 where
   pub lifts : e < ll
   pub amounts : e < la
 
--- columns k to e and rows p and kp are there in the order, the columns in the partners
+-- columns k to e and rows p and kp, which stand in the head, are there in the order, the columns in the partners
 pub record ExchangesPre (k e p kp lo lp : ℕ) : Type 0 where
   pub from : k ≤ e
   pub order : e < lo
   pub first : p < lo
   pub row : kp < lo
   pub partners : e < lp
+  pub firstHead : p < mostColumns
+  pub rowHead : kp < mostColumns
 
 -- and so are a pivot's columns k to e, and its rows p and kp
 pub record NotePre (k e p kp ld ls lb lp ll la lo : ℕ) : Type 0 where
@@ -128,3 +130,5 @@ pub record NotePre (k e p kp ld ls lb lp ll la lo : ℕ) : Type 0 where
   pub order : e < lo
   pub row : kp < lo
   pub first : p < lo
+  pub firstHead : p < mostColumns
+  pub rowHead : kp < mostColumns

@@ -51,7 +51,7 @@ pub fn ll_bk_panel_step(
     d: &mut [f64],
     sub: &mut [f64],
     blocks: &mut [u8],
-    partners: &mut [usize],
+    partners: &mut [u16],
     lifts: &mut [u8],
     amounts: &mut [f64],
     order: &mut [usize],

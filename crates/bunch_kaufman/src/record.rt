@@ -39,15 +39,16 @@ fn put_both_bytes(v: &mut [u8], k: Elim, e: Elim, x: u8, y: u8)
     v[first] = x;
 }
 
-// The same of rows.
-fn put_both_rows(v: &mut [usize], k: Elim, e: Elim, x: LocalRow, y: LocalRow)
+// The same of the panel's rows, of which there are no more than columns.
+fn put_both_rows(v: &mut [u16], k: Elim, e: Elim, x: LocalRow, y: LocalRow)
     requires { ⌜ ColumnsPre (k .0) (e .0) (length (now v)) ⌝ }
+    requires { ⌜ (x .0 < mostColumns) × (y .0 < mostColumns) ⌝ }
     ensures { λ _. ⌜ bytes (now (v .exit)) ≡ put (put (bytes (now (v .entry))) (e .0) (y .0)) (k .0) (x .0) ⌝ }
 {
     let last = e.0;
     let first = k.0;
-    v[last] = y.0;
-    v[first] = x.0;
+    v[last] = y.0 as u16;
+    v[first] = x.0 as u16;
 }
 
 // ---- the order
@@ -89,7 +90,7 @@ fn put_swap(order: &mut [usize], e: Elim, kp: LocalRow)
 // The exchanges of the step in columns k to e: k with p, then e with kp, in the order; and the rows as its partners.
 fn put_exchange(
     order: &mut [usize],
-    partners: &mut [usize],
+    partners: &mut [u16],
     k: Elim,
     e: Elim,
     p: LocalRow,
@@ -158,7 +159,7 @@ pub fn note(
     d: &mut [f64],
     sub: &mut [f64],
     blocks: &mut [u8],
-    partners: &mut [usize],
+    partners: &mut [u16],
     lifts: &mut [u8],
     amounts: &mut [f64],
     order: &mut [usize],

@@ -56,7 +56,7 @@ fn eliminate(
         (now (blocks .exit)) (now (lifts .exit)) (now (amounts .exit)) (now (order .exit)) ⌝ }
 {
     finish::begin(input, panel, d, sub, blocks, lifts, amounts, order);
-    let mut partners = [0; COLUMNS_MAX];
+    let mut partners = [0u16; COLUMNS_MAX];
     let nb = width(c.nb, c.ncol);
     let mode = c.mode;
     let used = Settings {

@@ -42,7 +42,7 @@ fn steps(
     d: &mut [f64],
     sub: &mut [f64],
     blocks: &mut [u8],
-    partners: &mut [usize],
+    partners: &mut [u16],
     lifts: &mut [u8],
     amounts: &mut [f64],
     order: &mut [usize],
@@ -89,7 +89,7 @@ fn rows_below(
     d: &[f64],
     sub: &[f64],
     blocks: &[u8],
-    partners: &[usize],
+    partners: &[u16],
     at: Frame,
 )
     requires { ⌜ TurnPre at (length (now panel)) (length (now work)) ⌝ }
@@ -113,7 +113,7 @@ fn later_columns(
     d: &[f64],
     sub: &[f64],
     blocks: &[u8],
-    partners: &[usize],
+    partners: &[u16],
     at: Frame,
 )
     requires { ⌜ TurnPre at (length (now panel)) (length (now work)) ⌝ }
@@ -142,7 +142,7 @@ fn turn(
     d: &mut [f64],
     sub: &mut [f64],
     blocks: &mut [u8],
-    partners: &mut [usize],
+    partners: &mut [u16],
     lifts: &mut [u8],
     amounts: &mut [f64],
     order: &mut [usize],
@@ -195,7 +195,7 @@ pub fn panels(
     d: &mut [f64],
     sub: &mut [f64],
     blocks: &mut [u8],
-    partners: &mut [usize],
+    partners: &mut [u16],
     lifts: &mut [u8],
     amounts: &mut [f64],
     order: &mut [usize],

@@ -27,14 +27,21 @@ ghost use Rattle.eliminate.specs.Eliminate.{inPanel};
 ghost use Rattle.tail.specs.Tail.{fromColumn, rowSteppedTwice};
 ghost use Rattle.tail.specs.Tail.{TailPre, StepsPre, HerePre, LentPre, ReadPre};
 
+// A partner, as it is listed.
+fn listed_row(partner: u16) -> LocalRow
+    ensures { λ r. ⌜ r .0 ≡ partner ⌝ }
+{
+    LocalRow(partner as usize)
+}
+
 // What stands at k in the list of partners: at a pivot's first column the row exchanged with its last column, at a
 // block's second column the one exchanged with its first column before.
-fn partner(partners: &[usize], k: Elim) -> LocalRow
+fn partner(partners: &[u16], k: Elim) -> LocalRow
     requires { ⌜ k .0 < length (now partners) ⌝ }
     ensures { λ r. ⌜ r .0 ≡ bytes (now (partners .entry)) (k .0) ⌝ }
 {
     let at = k.0;
-    LocalRow(partners[at])
+    listed_row(partners[at])
 }
 
 // The column in which the exchange with a row stands, in a part that begins at k.
@@ -54,7 +61,7 @@ fn place(nrow: usize, i: usize, j: usize) -> usize
 }
 
 // The exchange before the step at k: of a block's first column, where its row is another.
-fn arrive(part: &mut [f64], blocks: &[u8], partners: &[usize], nrow: usize, ke: usize, k: Elim)
+fn arrive(part: &mut [f64], blocks: &[u8], partners: &[u16], nrow: usize, ke: usize, k: Elim)
     requires { ⌜ LentPre nrow ke (k .0) (length (now part)) ⌝ }
     requires { ⌜ (ke ≤ length (now blocks)) × (ke ≤ length (now partners)) ⌝ }
     requires { ⌜ HerePre ke (bytes (now blocks)) (bytes (now partners)) (k .0) ⌝ }
@@ -70,7 +77,7 @@ fn arrive(part: &mut [f64], blocks: &[u8], partners: &[usize], nrow: usize, ke: 
 }
 
 // Whether the step at l makes no exchange before its own.
-fn stays(blocks: &[u8], partners: &[usize], ke: usize, l: Elim) -> bool
+fn stays(blocks: &[u8], partners: &[u16], ke: usize, l: Elim) -> bool
     requires { ⌜ (l .0 < ke) × ((ke ≤ length (now blocks)) × (ke ≤ length (now partners))) ⌝ }
     requires { ⌜ HerePre ke (bytes (now blocks)) (bytes (now partners)) (l .0) ⌝ }
     ensures { λ r. ⌜ r
@@ -90,7 +97,7 @@ fn tail_step(
     d: &[f64],
     sub: &[f64],
     blocks: &[u8],
-    partners: &[usize],
+    partners: &[u16],
     at: Frame,
     k: Elim,
 )
@@ -129,7 +136,7 @@ fn tail_pair(
     d: &[f64],
     sub: &[f64],
     blocks: &[u8],
-    partners: &[usize],
+    partners: &[u16],
     at: Frame,
     k: Elim,
     l: Elim,
@@ -185,7 +192,7 @@ fn turn(
     d: &[f64],
     sub: &[f64],
     blocks: &[u8],
-    partners: &[usize],
+    partners: &[u16],
     at: Frame,
     k: Elim,
 ) -> usize
@@ -236,7 +243,7 @@ pub fn apply_bk_panel_trailing(
     d: &[f64],
     sub: &[f64],
     blocks: &[u8],
-    partners: &[usize],
+    partners: &[u16],
     at: Frame,
 )
     requires { ⌜ TailPre (at .nrow) (at .ncol) (at .nb) (at .kb) (at .ke) (length (now panel)) (length (now mult))

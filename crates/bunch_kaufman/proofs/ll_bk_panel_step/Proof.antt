@@ -2,6 +2,7 @@
 -- the first; the rounds keep to the columns done. The measure is the columns left. Assumes nothing.
 use Prim.Native.Nat.{_≤_, _*_, _-_}
 use mathlib.Core.Path.{_≡_, _∙_}
+use native.Mathlib.Omega.{arith}
 use lib.ListN.{length}
 use borrow.Author.Needs.{needs}
 use Rattle.model.specs.Sizes.{mostColumns, mostRounds}
@@ -29,30 +30,34 @@ abbrev μ-loop : tie.MeasureT-loop
     panel mult d sub blocks partners lifts amounts order k rounds =
     at .ke - k
 
+-- the function's entry, from the loop's head
+abbrev entered : tie.At-loop Inv-loop μ-loop → tie.Start Inv-loop μ-loop
+entered c = search
+
 note-requires : tie.Need-note-requires Inv-loop μ-loop
 note-requires c κs =
-    let last = c .before .before .before .before .before .before .before .before .before in
+    let last : tie.After-last-column Inv-loop μ-loop = search in
     let took = last .before .before in
-    let stepped = took .before .before .before .before .before .before in
+    let stepped : tie.After-step Inv-loop μ-loop = search in
     let head = stepped .before .before .before .before in
-    let start = head .before .before .before .before .before .before .before .before .before .before in
+    let start = entered head in
     let inv = head .loop .inv in
-    note-pre (stepped .step .ensures .1) (took .taken .given .1) (last .last-column .ensures) (start .pre .1 .0)
-    (inv .6) (inv .7) (inv .8) (inv .9) (inv .10) (inv .11) (inv .12)
+    note-pre (stepped .step .ensures .1) (took .taken .given .1) (last .last-column .ensures)
+    (omega (arith, start .pre .0 .cols, start .pre .0 .size)) (start .pre .1 .0) (inv .6) (inv .7) (inv .8) (inv .9) (inv .10) (inv .11) (inv .12)
 
 loop-less : tie.Need-loop-less Inv-loop μ-loop
 loop-less c =
-    let noted = c .before .before .before .before .before .before .before .before .before .before .before .before .before .before in
-    let last = noted .before .before .before .before .before .before .before .before .before .before in
-    let stepped = last .before .before .before .before .before .before .before .before in
+    let noted : tie.After-note Inv-loop μ-loop = search in
+    let last : tie.After-last-column Inv-loop μ-loop = search in
+    let stepped : tie.After-step Inv-loop μ-loop = search in
     next-less _ _ _ _ (last .last-column .ensures) (stepped .before .before .before .loop-test .taken)
 
 loop-again : tie.Need-loop-again Inv-loop μ-loop
 loop-again c =
-    let noted = c .before .before .before .before .before .before .before .before .before .before .before .before .before .before in
-    let last = noted .before .before .before .before .before .before .before .before .before .before in
+    let noted : tie.After-note Inv-loop μ-loop = search in
+    let last : tie.After-last-column Inv-loop μ-loop = search in
     let took = last .before .before in
-    let stepped = took .before .before .before .before .before .before in
+    let stepped : tie.After-step Inv-loop μ-loop = search in
     let inside = stepped .before .before .before in
     let inv = inside .before .loop .inv in
     let note = noted .note in
@@ -79,7 +84,7 @@ returns-2 : tie.Need-returns-2 Inv-loop μ-loop
 returns-2 c =
     let head = c .before in
     let inv = head .loop .inv in
-    let start = head .before .before .before .before .before .before .before .before .before .before in
+    let start = entered head in
     (search panel-end, notes-end _ _ _ _ _ _ _ (start .pre .1 .1 .1) (start .pre .0 .here) (inv .13) (c .loop-test .left) (inv .2) (inv .3))
 
 pub ll-bk-panel-step-spec : {M : Type 1} → statement M

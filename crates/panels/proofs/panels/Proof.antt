@@ -42,25 +42,21 @@ abbrev μ-loop : tie.MeasureT-loop
 
 -- from the loop's head to the function's entry
 abbrev entry : tie.At-loop Inv-loop μ-loop → tie.Start Inv-loop μ-loop
-entry c = c .before .before .before .before .before .before .before .before .before .before
+entry c = search
 
 -- from `panel_end` to the loop's head, and from `turn` to `panel_end`
 abbrev looped : tie.After-panel-end Inv-loop μ-loop → tie.At-loop Inv-loop μ-loop
 looped c = c .before .before
 
 abbrev bounded : tie.After-turn Inv-loop μ-loop → tie.After-panel-end Inv-loop μ-loop
-bounded c = c .before .before .before .before .before .before .before .before .before .before
+bounded c = search
 
 -- from the return of a refusal, and from the rounds of a panel that did not stop, to `turn`
 abbrev refused : tie.After-enum-told Inv-loop μ-loop → tie.After-turn Inv-loop μ-loop
-refused c =
-    c .before .before .before .before .before .before .before .before .before .before
-    .before .before .before .before .before .before .before .before .before .before
+refused c = search
 
 abbrev turned : tie.After-ran Inv-loop μ-loop → tie.After-turn Inv-loop μ-loop
-turned c =
-    c .before .before .before .before .before .before .before .before .before .before
-    .before .before .before .before .before .before .before .before .before .before
+turned c = search
 
 -- ---- what the buffers hold
 

@@ -13,14 +13,10 @@ use Rattle.panels.proofs.steps.Tie as tie
 
 -- from the end to the call of the steps, and from there to the function's entry
 abbrev called : tie.After-slice-known18 → tie.After-ll-bk-panel-step
-called c =
-    c .before .before .before .before .before .before .before .before .before .before
-    .before .before .before .before .before .before .before .before
+called c = search
 
 abbrev entry : tie.After-ll-bk-panel-step → tie.Start
-entry c =
-    c .before .before .before .before .before .before .before .before .before .before
-    .before .before .before .before .before .before .before .before .before
+entry c = search
 
 -- the number of the multipliers, the working buffer as it is lent, and as it is given back
 abbrev square : tie.After-ll-bk-panel-step → ℕ

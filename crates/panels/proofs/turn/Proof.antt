@@ -21,28 +21,22 @@ use Rattle.panels.proofs.turn.Tie as tie
 
 -- from `steps` to the function's entry
 abbrev entry : tie.After-steps → tie.Start
-entry c =
-    c .before .before .before .before .before .before .before .before .before .before
-    .before .before .before .before .before .before .before .before .before
+entry c = search
 
 -- from the return of a refusal to `steps`
 abbrev refused : tie.After-enum-told → tie.After-steps
-refused c =
-    c .before .before .before .before .before .before .before .before .before .before
-    .before .before .before .before .before .before .before .before .before .before
+refused c = search
 
 -- from the rounds of a panel that did not stop to `steps`
 abbrev stepped : tie.After-ran → tie.After-steps
-stepped c =
-    c .before .before .before .before .before .before .before .before .before .before
-    .before .before .before .before .before .before .before .before .before .before
+stepped c = search
 
 -- from `rows_below` to those rounds, from `later_columns` to `rows_below`, from the end to `later_columns`
 abbrev went : tie.After-rows-below → tie.After-ran
-went c = c .before .before .before .before .before .before .before .before
+went c = search
 
 abbrev lowered : tie.After-later-columns → tie.After-rows-below
-lowered c = c .before .before .before .before .before .before .before .before .before
+lowered c = search
 
 abbrev updated : tie.After-slice-known21 → tie.After-later-columns
 updated c = c .before .before .before .before

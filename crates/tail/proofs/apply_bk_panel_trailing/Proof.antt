@@ -29,7 +29,7 @@ loop-holds c = (search needs, c .before .before .before .before .before .before 
 turn-requires : tie.Need-turn-requires Inv-loop μ-loop
 turn-requires c κs =
     let turn = c .before in
-    let start = turn .before .before .before .before .before .before .before .before in
+    let start : tie.Start Inv-loop μ-loop = search in
     let inv = turn .before .loop .inv in
     (sizes-kept _ _ _ _ _ _ _ _ _ _ _ _ (start .pre .0) (inv .2), (start .pre .1, (inv .0, (turn .loop-test .taken, inv .1))))
 

@@ -1,5 +1,4 @@
 -- `tail::partner` meets its contract: the list is read as the definition reads it. Assumes nothing.
-use mathlib.Core.Path.{refl}
 use borrow.Author.Needs.{needs}
 use Rattle.model.specs.Matrix.{bytes}
 use Rattle.tail.proofs.partner.Statement.{statement}
@@ -7,7 +6,7 @@ use Rattle.tail.proofs.partner.Tie as tie
 
 returns : tie.Need-returns
 unfolding bytes
-returns c = refl
+returns c = search needs
 
 pub partner-spec : {M : Type 1} → statement M
-partner-spec = tie.close (tie.spec (λ c. search needs) (λ c. search needs) returns)
+partner-spec = tie.close (tie.spec (λ c. search needs) (λ c. search needs) (λ c. search needs) returns)

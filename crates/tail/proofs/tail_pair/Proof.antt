@@ -11,23 +11,23 @@ use Rattle.tail.proofs.tail_pair.Tie as tie
 -- ---- the calls that a need looks back to
 
 abbrev entry : tie.After-arrive → tie.Start
-entry c = c .before .before .before .before .before .before .before .before
+entry c = search
 
 abbrev begun : tie.After-partner → tie.After-arrive
-begun c = c .before .before .before .before .before
+begun c = search
 
 abbrev first : tie.After-past → tie.After-partner
 first c = c .before .before
 
 abbrev read : tie.After-below-pair-arg → tie.After-past
-read c = c .before .before .before .before .before
+read c = search
 
 -- where the multipliers begin
 abbrev placed : tie.After-column-from → tie.After-place
-placed c = c .before .before .before .before .before .before
+placed c = search
 
 abbrev counted : tie.After-column-from → tie.After-past
-counted c = c .before .before .before .before .before .before .before .before .before .before
+counted c = search
 
 -- from what was read last to the function's entry
 abbrev start : tie.After-past → tie.Start

@@ -10,13 +10,13 @@ use Rattle.tail.proofs.tail_step.Tie as tie
 -- ---- the calls that a need looks back to
 
 abbrev entry : tie.After-arrive → tie.Start
-entry c = c .before .before .before .before .before .before .before .before
+entry c = search
 
 abbrev begun : tie.After-partner → tie.After-arrive
 begun c = c .before .before .before .before
 
 abbrev read : tie.After-below-step-arg → tie.After-partner
-read c = c .before .before .before .before .before
+read c = search
 
 -- ---- the needs
 

@@ -14,7 +14,7 @@ use Rattle.tail.proofs.turn.Tie as tie
 -- ---- the calls that a need looks back to
 
 abbrev entry : tie.After-past → tie.Start
-entry c = c .before .before .before .before .before .before .before .before
+entry c = search
 
 abbrev paired : tie.Then2 → tie.Then1
 paired c = c .before .before
@@ -37,7 +37,7 @@ there c = here-pre _ _ _ _ _ (entry (c .before) .pre .1 .0) (c .if1 .taken) (sta
 
 place-requires : tie.Need-place-requires
 place-requires c κs =
-    let s = c .before .before .before .before .before .before in
+    let s : tie.Start = search in
     let room = lent-start _ _ _ _ _ _ _ _ _ _ _ _ (s .pre .0) (s .pre .1 .1 .1 .0) in
     search needs
 

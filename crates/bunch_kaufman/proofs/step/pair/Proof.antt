@@ -6,7 +6,7 @@ use Rattle.bunch_kaufman.proofs.step.pair.Tie as tie
 
 head-two-requires : tie.Need-head-two-requires
 head-two-requires c κs =
-    let start = c .before .before .before .before .before .before .before .before .before .before .before .before .before .before .before in
+    let start : tie.Start = search in
     two-pre _ _ _ _ _ _ (start .pre) (search needs)
 
 returns-3 : tie.Need-returns-3

@@ -7,7 +7,7 @@ use Rattle.bunch_kaufman.proofs.step.single.Tie as tie
 returns-2 : tie.Need-returns-2
 returns-2 c =
     let done = c .before .before .before .before in
-    let moved = done .before .before .before .before .before in
+    let moved : tie.After-exchange-if = search in
     let told = moved .before .before .before in
     let settled = told .before .before in
     single-took _ _ _ _ _ _ _ _ _ _ _ _ _ _ (settled .before .get .ensures) (settled .settle-one .ensures) (told .settled .given .1)

@@ -20,6 +20,13 @@ moved-pair-requires c κs =
     pair-pre _ _ _ _ _ _ _ (start .pre .0) (c .before .before .before .choice2 .given .1)
     (within-mode _ (start .args .how .mode) (start .args .k) (chosen .choose .result) _ (start .pre .0 .last) (chosen .choose .ensures .1) (made .by-mode .ensures))
 
+-- where the choice was told, of a 1x1 and of a block that were then made
+abbrev single-told : tie.After-single → tie.After-choice
+single-told c = search
+
+abbrev pair-told : tie.After-moved-pair → tie.After-choice2
+pair-told c = search
+
 returns : tie.Need-returns
 returns c =
     let start : tie.Start = search in
@@ -33,8 +40,8 @@ returns-2 c =
     let start : tie.Start = search in
     let chosen : tie.After-choose = search in
     let made : tie.After-by-mode = search in
-    let told = c .before .before .before .before .before .before .before .before in
     let done : tie.After-single = search in
+    let told = single-told done in
     step-single _ _ _ _ _ _ _ _ _ (start .pre .0 .last) (start .pre .1) (chosen .choose .ensures .0) (made .by-mode .ensures) _ _ (told .choice .given .1)
     (done .single .ensures)
 
@@ -43,8 +50,8 @@ returns-3 c =
     let start : tie.Start = search in
     let chosen : tie.After-choose = search in
     let made : tie.After-by-mode = search in
-    let told = c .before .before .before .before .before .before .before .before in
     let done : tie.After-moved-pair = search in
+    let told = pair-told done in
     step-pair _ _ _ _ _ _ _ _ _ (start .pre .0 .last) (start .pre .1) (chosen .choose .ensures .0) (made .by-mode .ensures) _ _ _ (told .choice2 .given .1)
     (done .moved-pair .ensures)
 
