@@ -21,10 +21,13 @@ use Rattle.model.proofs.Bounds.{GoodPivot}
 use Rattle.model.proofs.Recorded.{last-from as last-ge, Reached, panel-reached, noted-recorded, noted-starts, end-starts}
 use Rattle.grid.proofs.Laws.{test}
 use Rattle.whole.proofs.Steps.{Went, PivotsInside, panel-inside}
-use Rattle.bunch_kaufman.specs.Answers.{tried, progress, endedBy}
-use Rattle.bunch_kaufman.specs.Terms.{PivotIn, TakenIn, NotedTo, PanelNoted, RanTo, PanelPre, StepPre, NotesPre, NotePre}
-use Rattle.bunch_kaufman.specs.declared.Taken.{Taken}
-use Rattle.bunch_kaufman.specs.declared.Taken.the-variants.{Refused, Took}
+use Rattle.step.specs.Answers.{tried}
+use Rattle.step.specs.Terms.{PivotIn, TakenIn, PanelPre, StepPre}
+use Rattle.step.specs.declared.Taken.{Taken}
+use Rattle.step.specs.declared.Taken.the-variants.{Refused, Took}
+use Rattle.bunch_kaufman.specs.Answers.{progress, endedBy}
+use Rattle.bunch_kaufman.specs.Terms.{NotedTo, PanelNoted, RanTo, NotesPre}
+use Rattle.notes.specs.Notes.{NotePre}
 use Rattle.bunch_kaufman.specs.declared.Ran.{Ran}
 use Rattle.bunch_kaufman.specs.declared.Ran.the-variants.{Done}
 

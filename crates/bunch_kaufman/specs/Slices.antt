@@ -1,17 +1,12 @@
 -- A panel's buffers seen as the model's state. Definitions only. Assumes nothing.
 use mathlib.Core.List.{List}
-use Prim.Native.Nat.{ℕ, _+_}
+use Prim.Native.Nat.{ℕ}
 use lib.Ieee.{Float}
 use Rattle.model.specs.Matrix.{Mat, view}
-use Rattle.model.specs.Step.{Pivots, blockOf}
+use Rattle.model.specs.Step.{Pivots}
 use Rattle.model.specs.Head.{State}
-use Rattle.model.specs.declared.Block.{Block}
 use Rattle.model.specs.declared.Frame.{Frame}
 use Rattle.eliminate.specs.Eliminate.{inPanel}
-
--- the block at k and k + 1
-abbrev pub blockIn : Mat → ℕ → Block
-blockIn a k = blockOf (a k k) (a (k + 1) k) (a (k + 1) (k + 1))
 
 -- the state over the whole panel of nrow rows, with the multipliers of columns kb to ke in a buffer of nb·nb numbers
 abbrev pub state : Frame → List Float → List Float → Pivots → ℕ → State

@@ -9,21 +9,13 @@ ghost use Rattle.model.specs.Step.{pivotsOf};
 ghost use Rattle.model.specs.Head.{panelOf};
 ghost use Rattle.bunch_kaufman.specs.Slices.{state};
 ghost use Rattle.bunch_kaufman.specs.Answers.{progress, endedBy};
-ghost use Rattle.bunch_kaufman.specs.Terms.{PanelPre, NotesPre, LimitPre, NotedTo, RanTo};
+ghost use Rattle.bunch_kaufman.specs.Terms.{NotesPre, NotedTo, RanTo};
+ghost use Rattle.step.specs.Terms.{PanelPre, LimitPre};
 use model::Elim;
 use model::Frame;
-use model::Pivot;
 use model::Pivoting;
 use model::Refusal;
-
-mod record;
-mod step;
-
-// The answer of a step: a refusal of the run, or the pivot that it took.
-pub enum Taken {
-    Refused(Refusal),
-    Took(Pivot),
-}
+use step::Taken;
 
 // The answer of a panel's steps: a refusal of the run, or the rounds of all block lifts so far.
 pub enum Ran {
@@ -82,10 +74,10 @@ pub fn ll_bk_panel_step(
             return ended(taken);
         };
         let x = v.diagonal;
-        let e = record::last_column(here, x);
+        let e = notes::last_column(here, x);
         let next = e.0 + 1;
         rounds += v.rounds;
-        record::note(d, sub, blocks, partners, lifts, amounts, order, here, e, v);
+        notes::note(d, sub, blocks, partners, lifts, amounts, order, here, e, v);
         k = next;
     }
     Ran::Done(rounds)

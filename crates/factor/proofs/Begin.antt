@@ -28,7 +28,8 @@ use Rattle.model.proofs.Recorded.{none-recorded}
 use Rattle.whole.specs.Whole.{WholeRun, wholePanelsOf}
 use Rattle.finish.specs.Buffers.{Begun}
 use Rattle.finish.proofs.Buffers.{bytes-zeros, begun-start}
-use Rattle.bunch_kaufman.specs.Terms.{LimitPre, NotedTo}
+use Rattle.step.specs.Terms.{LimitPre}
+use Rattle.bunch_kaufman.specs.Terms.{NotedTo}
 use Rattle.panels.specs.Turn.{between}
 use Rattle.panels.specs.Run.{RunPre, TurnHolds}
 

@@ -25,7 +25,8 @@ use Rattle.tail.specs.Tail.{TailPre, StepsPre}
 use Rattle.deferred.specs.Deferred.{DeferredPre}
 use Rattle.bunch_kaufman.specs.Slices.{state}
 use Rattle.bunch_kaufman.specs.Answers.{progress}
-use Rattle.bunch_kaufman.specs.Terms.{PanelPre, NotesPre, PanelNoted, RanTo}
+use Rattle.step.specs.Terms.{PanelPre}
+use Rattle.bunch_kaufman.specs.Terms.{NotesPre, PanelNoted, RanTo}
 use Rattle.panels.specs.Turn.{between, onward, turnOf}
 use Rattle.panels.specs.Run.{TurnPre, DiagonalsHold, TurnHolds}
 use Rattle.bunch_kaufman.specs.declared.Ran.{Ran}

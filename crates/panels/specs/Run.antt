@@ -7,7 +7,7 @@ use Rattle.model.specs.Factor.{workLength}
 use Rattle.model.specs.declared.Frame.{Frame}
 use Rattle.model.specs.declared.Settings.{Settings}
 use Rattle.whole.specs.Whole.{WholeRun, stoppedBy, ended}
-use Rattle.bunch_kaufman.specs.Terms.{LimitPre}
+use Rattle.step.specs.Terms.{LimitPre}
 use Rattle.bunch_kaufman.specs.declared.Ran.{Ran}
 use Rattle.bunch_kaufman.specs.declared.Ran.the-variants.{Stopped, Done}
 

@@ -1,8 +1,0 @@
--- `bunch_kaufman::record::put_both_bytes` meets its contract. Assumes nothing.
-use borrow.Author.Needs.{needs}
-use Rattle.bunch_kaufman.proofs.Noted.{bytes-both}
-use Rattle.bunch_kaufman.proofs.record.put_both_bytes.Statement.{statement}
-use Rattle.bunch_kaufman.proofs.record.put_both_bytes.Tie as tie
-
-pub put-both-bytes-spec : {M : Type 1} → statement M
-put-both-bytes-spec = tie.close (tie.spec (λ c. search needs) (λ c. search needs) (λ c. search needs) (λ c. search bytes-both))

@@ -1,0 +1,2 @@
+-- Laws of what is noted of a pivot.
+pub mod Laws

@@ -1,0 +1,2 @@
+-- What the functions ask of their callers.
+pub mod Notes

@@ -1,0 +1,2 @@
+-- Laws of one step.
+pub mod Laws
