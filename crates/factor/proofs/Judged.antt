@@ -33,8 +33,6 @@ use Rattle.bunch_kaufman.specs.declared.Ran.{Ran}
 use Rattle.bunch_kaufman.specs.declared.Ran.the-variants.{Stopped, Done}
 use Rattle.factor.proofs.Outcome.{wholeOf, stopped-outcome, unsound-outcome, accepted-outcome}
 
--- ---- the result check
-
 -- ---- the buffers' lengths stay
 
 pub record SameLengths (a b : Buffers) : Type 0 where

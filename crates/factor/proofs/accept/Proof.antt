@@ -7,10 +7,10 @@ use Rattle.factor.proofs.accept.Tie as tie
 
 -- from `tally` to `marks_of`, and from there to the function's entry
 abbrev marked : tie.After-tally → tie.After-marks-of
-marked c = c .before .before .before .before .before .before .before
+marked c = search
 
 abbrev entry : tie.After-marks-of → tie.Start
-entry c = c .before .before .before .before .before .before .before .before .before .before .before
+entry c = search
 
 returns : tie.Need-returns
 returns c =

@@ -18,23 +18,17 @@ use Rattle.factor.proofs.eliminate.Tie as tie
 
 -- from the call of `begin` to the function's entry
 abbrev entry : tie.After-begin-arg7 → tie.Start
-entry c =
-    c .before .before .before .before .before .before .before .before .before .before
-    .before .before .before .before .before .before .before
+entry c = search
 
 -- from `width` to `begin`, from `panels` to `width`, and from the end to `panels`
 abbrev begun : tie.After-width → tie.After-begin
-begun c =
-    c .before .before .before .before .before .before .before .before .before .before
-    .before .before .before .before .before
+begun c = search
 
 abbrev sized : tie.After-panels → tie.After-width
-sized c = c .before .before .before .before .before .before .before .before .before .before
+sized c = search
 
 abbrev called : tie.After-slice-known23 → tie.After-panels
-called c =
-    c .before .before .before .before .before .before .before .before .before .before
-    .before .before .before .before .before .before .before
+called c = search
 
 -- ---- what the buffers hold
 

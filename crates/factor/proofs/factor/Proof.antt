@@ -9,16 +9,14 @@ use Rattle.factor.proofs.factor.Tie as tie
 
 -- from the entry checks to the function's entry
 abbrev entry : tie.After-check → tie.Start
-entry c = c .before .before .before .before .before .before .before .before .before .before .before
+entry c = search
 
 -- from the call of `run` to the answer that nothing was refused, and from the end to `run`
 abbrev passed : tie.After-run-arg9 → tie.After-enum-told
-passed c = c .before .before .before .before .before .before .before .before .before
+passed c = search
 
 abbrev ran : tie.After-slice-known18 → tie.After-run
-ran c =
-    c .before .before .before .before .before .before .before .before .before .before
-    .before .before .before .before .before .before .before .before
+ran c = search
 
 -- the buffers at the entry
 abbrev lent : tie.Start → Buffers

@@ -12,22 +12,18 @@ use Rattle.factor.proofs.judge.Tie as tie
 
 -- from the call of `first_unsound` to the function's entry
 abbrev entry : tie.After-first-unsound-arg4 → tie.Start
-entry c =
-    c .before .before .before .before .before .before .before .before .before .before
-    .before .before .before .before .before
+entry c = search
 
 -- from `zero_all` to the column that was found, and from the refusal's return to `zero_all`
 abbrev found : tie.After-zero-all → tie.After-found
-found c = c .before .before .before .before .before .before .before .before .before .before .before
+found c = search
 
 abbrev zeroed : tie.After-slice-known18 → tie.After-zero-all
-zeroed c =
-    c .before .before .before .before .before .before .before .before .before .before
-    .before .before .before .before .before .before .before .before
+zeroed c = search
 
 -- from `accept` to the answer that no column was found, and from the end to `accept`
 abbrev clean : tie.After-accept → tie.After-enum-told
-clean c = c .before .before .before .before .before .before .before .before .before .before
+clean c = search
 
 abbrev accepted : tie.After-slice-known20 → tie.After-accept
 accepted c = c .before .before .before .before

@@ -11,37 +11,27 @@ use Rattle.factor.proofs.run.Tie as tie
 
 -- from `eliminate` to the function's entry
 abbrev entry : tie.After-eliminate → tie.Start
-entry c =
-    c .before .before .before .before .before .before .before .before .before .before
-    .before .before .before .before .before .before .before .before .before .before
+entry c = search
 
 -- a run that stops: from its refusal to `eliminate`, and from `refusal` by `zero_all` to that
 abbrev stopped : tie.After-enum-told → tie.After-eliminate
-stopped c =
-    c .before .before .before .before .before .before .before .before .before .before
-    .before .before .before .before .before .before .before .before
+stopped c = search
 
 abbrev told : tie.After-zero-all → tie.After-enum-told
-told c = c .before .before .before .before .before .before .before .before .before .before
+told c = search
 
 abbrev zeroed : tie.After-refusal → tie.After-zero-all
-zeroed c =
-    c .before .before .before .before .before .before .before .before .before .before
-    .before .before .before .before .before .before .before .before .before
+zeroed c = search
 
 -- a run that ends: from its rounds to `eliminate`, from `judge` to the rounds, and from the end to `judge`
 abbrev ended : tie.After-ran → tie.After-eliminate
-ended c =
-    c .before .before .before .before .before .before .before .before .before .before
-    .before .before .before .before .before .before .before .before
+ended c = search
 
 abbrev ran : tie.After-judge-arg9 → tie.After-ran
-ran c = c .before .before .before .before .before .before .before .before .before .before
+ran c = search
 
 abbrev judged : tie.After-slice-known35 → tie.After-judge
-judged c =
-    c .before .before .before .before .before .before .before .before .before .before
-    .before .before .before .before .before .before .before .before
+judged c = search
 
 -- from the end to `eliminate`
 abbrev eliminated : tie.After-slice-known35 → tie.After-eliminate
@@ -86,6 +76,29 @@ same-lengths c =
       work = kept .1 .1 .1 .1 .1 .1 .1 .1 .1 .1 .0;
     }
 
+-- after `judge`
+abbrev settled : tie.After-judge → Buffers
+settled c =
+    let l = c .judge .last .1 .1 in
+    buffersOf (l .0) (l .1 .0) (l .1 .1 .0) (l .1 .1 .1 .0) (l .1 .1 .1 .1 .0) (l .1 .1 .1 .1 .1 .0) (l .1 .1 .1 .1 .1 .1 .0)
+    (l .1 .1 .1 .1 .1 .1 .1 .0) (l .1 .1 .1 .1 .1 .1 .1 .1 .0)
+
+-- and so does the judgement
+judge-lengths : (c : tie.After-judge) → SameLengths (settled c) (left (ended (ran (c .before))))
+judge-lengths c =
+    let kept = c .judge .kept .1 .1 in
+    record {
+      panel = kept .0;
+      d = kept .1 .0;
+      sub = kept .1 .1 .0;
+      blocks = kept .1 .1 .1 .0;
+      lifts = kept .1 .1 .1 .1 .0;
+      amounts = kept .1 .1 .1 .1 .1 .0;
+      order = kept .1 .1 .1 .1 .1 .1 .0;
+      marks = kept .1 .1 .1 .1 .1 .1 .1 .0;
+      work = kept .1 .1 .1 .1 .1 .1 .1 .1 .0;
+    }
+
 -- ---- the needs
 
 returns : tie.Need-returns
@@ -108,30 +121,6 @@ judge-requires c κs =
     let a = s .args in
     judge-pre (a .c) (a .input .now) (lent s) (s .pre) (left e) (e .eliminate .result) _ (e .eliminate .ensures) (g .ran .given .1) (same-lengths e)
 
-same-length-10 : tie.Need-same-length-10
-same-length-10 c = judged c .judge .kept .1 .1 .0 ∙ same-lengths (eliminated c) .panel
-
-same-length-11 : tie.Need-same-length-11
-same-length-11 c = judged c .judge .kept .1 .1 .1 .0 ∙ same-lengths (eliminated c) .d
-
-same-length-12 : tie.Need-same-length-12
-same-length-12 c = judged c .judge .kept .1 .1 .1 .1 .0 ∙ same-lengths (eliminated c) .sub
-
-same-length-13 : tie.Need-same-length-13
-same-length-13 c = judged c .judge .kept .1 .1 .1 .1 .1 .0 ∙ same-lengths (eliminated c) .blocks
-
-same-length-14 : tie.Need-same-length-14
-same-length-14 c = judged c .judge .kept .1 .1 .1 .1 .1 .1 .0 ∙ same-lengths (eliminated c) .lifts
-
-same-length-15 : tie.Need-same-length-15
-same-length-15 c = judged c .judge .kept .1 .1 .1 .1 .1 .1 .1 .0 ∙ same-lengths (eliminated c) .amounts
-
-same-length-16 : tie.Need-same-length-16
-same-length-16 c = judged c .judge .kept .1 .1 .1 .1 .1 .1 .1 .1 .0 ∙ same-lengths (eliminated c) .order
-
-same-length-18 : tie.Need-same-length-18
-same-length-18 c = judged c .judge .kept .1 .1 .1 .1 .1 .1 .1 .1 .1 .1 .0 ∙ same-lengths (eliminated c) .work
-
 returns-2 : tie.Need-returns-2
 returns-2 c =
     let j = judged c in
@@ -151,13 +140,13 @@ run-spec =
     (λ c. search needs) (λ c. search needs) (λ c. search needs) (λ c. search needs) (λ c. search needs) (λ c. search needs) (λ c. search needs)
     returns
     judge-requires
-    same-length-10
-    same-length-11
-    same-length-12
-    same-length-13
-    same-length-14
-    same-length-15
-    same-length-16
-    (λ c. judged c .judge .kept .1 .1 .1 .1 .1 .1 .1 .1 .1 .0)
-    same-length-18
+    (λ c. judge-lengths (judged c) .panel ∙ same-lengths (eliminated c) .panel)
+    (λ c. judge-lengths (judged c) .d ∙ same-lengths (eliminated c) .d)
+    (λ c. judge-lengths (judged c) .sub ∙ same-lengths (eliminated c) .sub)
+    (λ c. judge-lengths (judged c) .blocks ∙ same-lengths (eliminated c) .blocks)
+    (λ c. judge-lengths (judged c) .lifts ∙ same-lengths (eliminated c) .lifts)
+    (λ c. judge-lengths (judged c) .amounts ∙ same-lengths (eliminated c) .amounts)
+    (λ c. judge-lengths (judged c) .order ∙ same-lengths (eliminated c) .order)
+    (λ c. judge-lengths (judged c) .marks)
+    (λ c. judge-lengths (judged c) .work ∙ same-lengths (eliminated c) .work)
     returns-2)
