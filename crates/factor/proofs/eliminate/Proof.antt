@@ -54,7 +54,7 @@ begin-requires c κs = let e = entry c in copy-pre (e .args .c) (e .args .input 
 
 panels-requires : tie.Need-panels-requires
 panels-requires c κs =
-    let w = c .before .before .before .before .before .before .before .before .before in
+    let w : tie.After-width = search in
     let b = begun w in
     let kept = b .begin .kept in
     let e = entry (b .before) in

@@ -6,8 +6,8 @@ use Rattle.panels.proofs.later_columns.Tie as tie
 
 deferred-update-requires : tie.Need-deferred-update-requires
 deferred-update-requires c κs =
-    let pre = c .before .before .before .before .before .before .before .before .before .pre in
-    deferred-pre _ _ _ _ _ _ _ _ (pre .0) (pre .1 .0) (pre .1 .1)
+    let start : tie.Start = search in
+    deferred-pre _ _ _ _ _ _ _ _ (start .pre .0) (start .pre .1 .0) (start .pre .1 .1)
 
 pub later-columns-spec : {M : Type 1} → statement M
 later-columns-spec =

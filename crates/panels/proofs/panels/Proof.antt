@@ -96,7 +96,7 @@ partners-left c = bytes (c .turn .last .1 .1 .1 .1 .1 .0)
 
 loop-holds : tie.Need-loop-holds Inv-loop μ-loop
 loop-holds c =
-    let start = c .before .before .before .before .before .before .before .before .before in
+    let start : tie.Start Inv-loop μ-loop = search in
     let a = start .args in (
       search needs,
       refl,
@@ -114,7 +114,7 @@ loop-holds c =
 
 turn-requires : tie.Need-turn-requires Inv-loop μ-loop
 turn-requires c κs =
-    let p = c .before .before .before .before .before .before .before .before .before in
+    let p : tie.After-panel-end Inv-loop μ-loop = search in
     let test = p .before .loop-test .taken in
     let inv = looped p .loop .inv in
     let pre = entry (looped p) .pre in (

@@ -7,8 +7,8 @@ use Rattle.panels.proofs.rows_below.Tie as tie
 
 apply-bk-panel-trailing-requires : tie.Need-apply-bk-panel-trailing-requires
 apply-bk-panel-trailing-requires c κs =
-    let pre = c .before .before .before .before .before .before .before .before .pre in
-    (tail-pre _ _ _ _ _ _ _ (pre .0) (pre .1 .0), pre .1 .1)
+    let start : tie.Start = search in
+    (tail-pre _ _ _ _ _ _ _ (start .pre .0) (start .pre .1 .0), start .pre .1 .1)
 
 returns : tie.Need-returns
 returns c = c .before .before .apply-bk-panel-trailing .ensures ∙ rows-part _ _ _ _ _ _ _ _ _ _

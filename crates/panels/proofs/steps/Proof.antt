@@ -30,8 +30,7 @@ back s = putMid 0 (square s - 0) (lent s) (s .ll-bk-panel-step .last .1 .0)
 
 ll-bk-panel-step-requires : tie.Need-ll-bk-panel-step-requires
 ll-bk-panel-step-requires c κs =
-    let start =
-    c .before .before .before .before .before .before .before .before .before .before .before .before .before .before .before .before .before .before in
+    let start : tie.Start = search in
     let pre = start .pre in (
       panel-pre _ _ (start .args .work .now) (pre .0),
       (holds-ke _ _ _ _ _ _ _ _ _ _ (pre .0) (pre .1 .0), (pre .1 .1 .0, pre .1 .1 .1)),

@@ -126,12 +126,12 @@ returns c =
 
 rows-below-requires : tie.Need-rows-below-requires
 rows-below-requires c κs =
-    let g = c .before .before .before .before .before .before .before in
+    let g : tie.After-ran = search in
     (sizes (stepped g) _ (stepped g .steps .kept .0), (diagonals (stepped g), noted g))
 
 later-columns-requires : tie.Need-later-columns-requires
 later-columns-requires c κs =
-    let r = c .before .before .before .before .before .before .before .before in
+    let r : tie.After-rows-below = search in
     let g = went r in
     (sizes (stepped g) _ (r .rows-below .kept .0 ∙ stepped g .steps .kept .0), (diagonals (stepped g), noted g))
 

@@ -12,7 +12,9 @@ get-requires-2 : tie.Need-get-requires-2
 get-requires-2 c κs = corner-in _ _ _ _ _ _ (c .before .before .before .pre) (omega arith) (omega arith)
 
 get-requires-3 : tie.Need-get-requires-3
-get-requires-3 c κs = corner-in _ _ _ _ _ _ (c .before .before .before .before .before .before .pre) (omega arith) (omega arith)
+get-requires-3 c κs =
+    let start : tie.Start = search in
+    corner-in _ _ _ _ _ _ (start .pre) (omega arith) (omega arith)
 
 pub block-at-spec : {M : Type 1} → statement M
 block-at-spec =

@@ -24,7 +24,9 @@ abbrev μ-loop : tie.MeasureT-loop
 μ-loop panel₀ mult d sub blocks partners at ke k₀ panel k = at .ke - k
 
 loop-holds : tie.Need-loop-holds Inv-loop μ-loop
-loop-holds c = (search needs, c .before .before .before .before .before .before .pre .1 .start, refl, refl)
+loop-holds c =
+    let start : tie.Start Inv-loop μ-loop = search in
+    (search needs, start .pre .1 .start, refl, refl)
 
 turn-requires : tie.Need-turn-requires Inv-loop μ-loop
 turn-requires c κs =
