@@ -32,7 +32,7 @@ const OUTCOMES: [&str; 4] = [
 ];
 
 const LEGEND: &str = "\
-Of each call the stations of document 01, the telling cases of oracle/src/telling.rs and cases at the bounds come first,
+Of each call the stations of docs/SCOPE.md, the telling cases of oracle/src/telling.rs and cases at the bounds come first,
 then random ones, the larger last. `oracle/record SEED COUNT CALL NUMBER` prints one case, counted from 0, as a line of
 the oracle's with its answer.
 

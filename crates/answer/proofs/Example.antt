@@ -1,4 +1,4 @@
--- Document 01's example of a stream gives the lines that it must, computed from the definitions. Assumes nothing.
+-- The example of docs/SCOPE.md, "The program node", gives the lines that it must, computed from the definitions. Assumes nothing.
 use mathlib.Core.Path.{_≡_, refl}
 use lib.Ieee.{toBits, ofBits, size, units, add, sub, mul, div, lt, le, eq, round, isNan}
 use Rattle.model.specs.Scalar.{isFinite, magnitudeOf, maximumOf}

@@ -1,4 +1,4 @@
--- Document 01's example of a stream, 'For ncol = nrow = nb = 2, zeros, panel 1 2 0 8', and the lines that it must print. proofs/Example.antt has the claim.
+-- The example of docs/SCOPE.md, "The program node": ncol, nrow and nb 2, panel 1 2 0 8, and the lines that it must print. proofs/Example.antt has the claim.
 -- Definitions only. Assumes nothing.
 use mathlib.Core.List.{List, [], _∷_, _++_}
 use Prim.Native.Nat.{ℕ}

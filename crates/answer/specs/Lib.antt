@@ -1,4 +1,4 @@
--- What the program prints, document 01's example, and what the functions ask of their callers.
+-- What the program prints, the example of a stream, and what the functions ask of their callers.
 pub mod Lines
 pub mod Example
 pub mod Lengths

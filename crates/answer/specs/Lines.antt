@@ -1,4 +1,4 @@
--- What the program prints for a stream of bytes. From document 01, 'Stations to test', from 'The program `node` reads records' on.
+-- What the program prints for a stream of bytes. From docs/SCOPE.md, "The program node".
 -- Text is a list of ASCII codes; a line ends in a newline, and no line has a space at its end. Definitions only. Assumes nothing.
 use mathlib.Core.Bool.{cond}
 use mathlib.Core.List.{List, [], _∷_, _++_}
@@ -24,7 +24,7 @@ use Rattle.text.specs.Text.{word, decimalOf, hexOf}
 unfoldable pub field : ℕ → List ℕ
 field n = 32 ∷ decimalOf n
 
--- a space and an f64 number's bits in hexadecimal: 'not-a-number 7FF8000000000000'
+-- a space and an f64 number's bits in hexadecimal, of a not-a-number 7FF8000000000000
 unfoldable pub number : Float → List ℕ
 number x = 32 ∷ hexOf (toBits binary64 x)
 
@@ -72,11 +72,11 @@ inertiaLine t = word "inertia" ++ three (t .positive) (t .negative) (t .zero) ++
 unfoldable pub entryField : (nrow : ℕ) → List Float → (i : ℕ) → ℕ → List ℕ
 entryField nrow panel i j = number (view nrow panel i j)
 
--- 'tail rows end in their mark': a head row has none
+-- a tail row's mark, which ends its line: a head row has none
 unfoldable pub markField : (ncol : ℕ) → List ℕ → ℕ → List ℕ
 markField ncol marks i = cond (ltb i ncol) [] (field (bytes marks (i - ncol)))
 
--- 'number, columns'
+-- its number, its columns, and a tail row's mark
 unfoldable pub rowLine : (nrow ncol : ℕ) → List Float → List ℕ → ℕ → List ℕ
 rowLine nrow ncol panel marks i = word "row" ++ field i ++ each (entryField nrow panel i) ncol ++ markField ncol marks i ++ newline
 

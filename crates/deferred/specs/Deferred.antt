@@ -1,4 +1,4 @@
--- What the later-panel rule asks of its callers. From document 01, 'll_cdiv_emit'; the rule itself is `deferredRows` of whole/specs/Whole.antt.
+-- What the later-panel rule asks of its callers. From docs/SCOPE.md, "The later columns"; the rule itself is `deferredRows` of whole/specs/Whole.antt.
 -- Definitions only. Assumes nothing.
 use mathlib.Core.Path.{_≡_}
 use mathlib.Core.List.{List}

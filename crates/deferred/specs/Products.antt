@@ -1,4 +1,5 @@
--- L·D of a panel's columns, formed by columns, and what its steps ask of their callers. From document 01, 'll_cdiv_emit'. Definitions only. Assumes nothing.
+-- L·D of a panel's columns, formed by columns, and what its steps ask of their callers. From docs/SCOPE.md, "The later columns".
+-- Definitions only. Assumes nothing.
 use mathlib.Core.Path.{_≡_}
 use mathlib.Core.Bool.{cond, _&&_}
 use mathlib.Core.List.{List}

@@ -1,4 +1,4 @@
--- The sums over a panel's columns, and the later columns less them, and what these steps ask of their callers. From document 01, 'll_cdiv_emit'.
+-- The sums over a panel's columns, and the later columns less them, and what these steps ask of their callers. From docs/SCOPE.md, "The later columns".
 -- g holds L·D: column t for the panel's column kb + t. Definitions only. Assumes nothing.
 use mathlib.Core.Path.{_≡_}
 use mathlib.Core.Bool.{cond, _&&_}

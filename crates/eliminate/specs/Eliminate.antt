@@ -1,4 +1,4 @@
--- A pivot's elimination by columns. From document 01, 'll_bk_panel_step' and 'apply_bk_panel_trailing'; design: the hot loops run down columns.
+-- A pivot's elimination by columns. From docs/SCOPE.md, "A 1x1 pivot" and "A block"; the loops run down columns, for speed.
 -- `region` and the two sweeps are what the loops over columns leave; the contracts that a reader needs cite the model's row by row definitions.
 -- Definitions only. Assumes nothing.
 use Prim.Native.Nat.{ℕ, _+_, _-_, _*_, _<_, _≤_}

@@ -1,4 +1,4 @@
-// The factor call's entry checks, refusals 1 to 6 of document 01 in their order. They read the settings, the lengths
+// The factor call's entry checks, refusals 1 to 6 in their order. They read the settings, the lengths
 // of the ten buffers and the input, and write nothing. A length is worked out only once the shape and the width are
 // sound, so that no product overflows. Tests are joined by `&`, not `&&`: they are plain comparisons, and without a
 // branch the whole test is the definition's own.

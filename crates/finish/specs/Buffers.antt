@@ -1,4 +1,4 @@
--- The buffers of a factor call before its first panel and after a refusal. From document 01, 'll_cdiv_emit' and 'What is turned away'.
+-- The buffers of a factor call before its first panel and after a refusal. From docs/SCOPE.md, "The factor call" and "Refusals".
 -- Definitions only. Assumes nothing.
 use mathlib.Core.Path.{_≡_}
 use mathlib.Core.List.{List}

@@ -1,5 +1,5 @@
--- What the look at the result after the last column asks of its callers, refusal 9, and its part on a block. From document 01, 'What is turned away, in
--- checking order'. Definitions only. Assumes nothing.
+-- What the look at the result after the last column asks of its callers, refusal 9, and its part on a block. From docs/SCOPE.md, "Refusals".
+-- Definitions only. Assumes nothing.
 use mathlib.Core.Path.{_≡_}
 use mathlib.Core.Bool.{Bool, _&&_}
 use mathlib.Core.List.{List}

@@ -1,4 +1,4 @@
--- Numbers out of bytes, the least byte first. From document 01, 'Stations to test': 'u32 .., u16 .., payload, little-endian'; a number's bits are IEEE 754's.
+-- Numbers out of bytes, the least byte first. From docs/SCOPE.md, "The program node"; a number's bits are IEEE 754's.
 -- A byte is a whole number below 256; past the list's end stands 0. Definitions only. Assumes nothing.
 use Prim.Native.Nat.{ℕ, _+_, _*_}
 use mathlib.Core.List.{List}

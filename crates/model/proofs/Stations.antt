@@ -1,4 +1,4 @@
--- Every starred station of document 01 gives the lines that it must, computed from the definitions. Assumes nothing.
+-- Every starred station of docs/SCOPE.md, "Stations", gives the lines that it must, computed from the definitions. Assumes nothing.
 use mathlib.Core.Path.{_≡_, refl}
 use mathlib.Core.List.{map}
 use lib.Count.{trailingZeros}

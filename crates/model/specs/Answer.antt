@@ -1,5 +1,5 @@
--- Refusals by number and place. From document 01, 'What is turned away, in checking order'. The one definition that gives a declared answer its number and place.
--- Definitions only. Assumes nothing.
+-- Refusals by number and place. From docs/SCOPE.md, "Refusals", and docs/REFUSALS.md. The one definition that gives a declared answer its number and
+-- place. Definitions only. Assumes nothing.
 use mathlib.Core.Bool.{Bool, cond}
 use Prim.Native.Nat.{ℕ}
 use Rattle.model.specs.declared.Refusal.{Refusal}

@@ -1,4 +1,4 @@
--- Assembly: entries added to a panel as listed. From document 01, 'Assembly and update', refusals 10 to 12. Definitions only. Assumes nothing.
+-- Assembly: entries added to a panel as listed. From docs/SCOPE.md, "Assembly", and refusals 10 to 12. Definitions only. Assumes nothing.
 use mathlib.Core.Bool.{Bool, cond, not, _&&_}
 use mathlib.Core.List.{List}
 use Prim.Native.Nat.{ℕ, zero, suc, _+_, _*_}
@@ -32,7 +32,7 @@ firstNot f at (suc m) k =
     let rest = firstNot f at m (k + 1) in
     cond (f k) rest (Refused (at k))
 
--- 'row ≥ nrow, column ≥ ncol or row < column'
+-- refusal 11 is not met at entry k: its place is a lower position of the panel
 unfoldable pub placeSound : ℕ → ℕ → (ℕ → ℕ) → (ℕ → ℕ) → ℕ → Bool
 placeSound ncol nrow rows cols k = ltb (rows k) nrow && (ltb (cols k) ncol && leb (cols k) (rows k))
 
@@ -46,7 +46,7 @@ assemblyCheck ncol nrow es panel =
 unfoldable pub addedAt : Mat → ℕ → ℕ → Float → Mat
 addedAt a i j v = λ p q. let sum = a p q ⊕ v in cond (eqb p i && eqb q j) sum (a p q)
 
--- 'entries are added as listed to what the panel holds': m entries from k on
+-- m entries from k on, each added to what stands at its place, one after another as listed
 unfoldable pub assembledFrom : (ℕ → ℕ) → (ℕ → ℕ) → Row → ℕ → ℕ → Mat → Mat
 assembledFrom rows cols numbers zero k a = a
 assembledFrom rows cols numbers (suc m) k a = assembledFrom rows cols numbers m (k + 1) (addedAt a (rows k) (cols k) (numbers k))

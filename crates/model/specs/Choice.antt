@@ -1,4 +1,5 @@
--- The choice of a pivot at k within a panel that ends at ke. From document 01, 'll_bk_panel_step', in LAPACK xSYTF2's words. Definitions only. Assumes nothing.
+-- The choice of a pivot at k within a panel that ends at ke. From docs/SCOPE.md, "The pivot tests", in LAPACK xSYTF2's words.
+-- Definitions only. Assumes nothing.
 use mathlib.Core.Bool.{cond}
 use Prim.Native.Nat.{ℕ, zero, suc, _+_, _-_}
 use lib.Ieee.{lt, le, eq}
@@ -17,19 +18,19 @@ greatest f lo (suc n) best =
     let s = squareOf (f lo) in
     greatest f (lo + 1) n (cond (lt (best .square) s) (record { square = s; at = record { 0 = lo } }) best)
 
--- 'squares start from 0'
+-- nothing found yet: the square +0.0, at row k
 abbrev pub noneYet : ℕ → Greatest
 noneYet k = record { square = zeroF; at = record { 0 = k } }
 
--- 'the greatest square below the diagonal and above ke': rows k + 1 up to ke of column k
+-- the square of 'colmax': rows k + 1 up to ke of column k
 unfoldable pub columnGreatest : Mat → ℕ → ℕ → Greatest
 columnGreatest a k ke = greatest (λ i. a i k) (k + 1) (ke - (k + 1)) (noneYet k)
 
--- 'likewise over row and column imax from k to ke, diagonal aside'
+-- the square of 'rowmax': row r in columns k up to r, then column r in rows r + 1 up to ke
 unfoldable pub rowGreatest : Mat → ℕ → ℕ → ℕ → Greatest
 rowGreatest a k ke r = greatest (λ i. a i r) (r + 1) (ke - (r + 1)) (greatest (a r) k (r - k) (noneYet k))
 
--- the tests in document 01's order; imax is the row of the column's greatest square, and the first row of a block is k's own
+-- the five tests in their order; imax is the row of the column's greatest square, and the first row of a block is k's own
 unfoldable pub chooseOf : Mat → ℕ → ℕ → Choice
 chooseOf a k ke =
     let here : LocalRow = record { 0 = k } in

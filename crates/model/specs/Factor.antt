@@ -1,5 +1,6 @@
--- The factor call whole: refusals 1 to 9 in their order, and every lent cell at the end. From document 01, 'Sizes held', 'What is turned away', 'll_cdiv_emit'.
--- The head alone decides (`headAnswerOf`); a tail row follows from the panels and itself (`factorRowOf`). Definitions only. Assumes nothing.
+-- The factor call whole: refusals 1 to 9 in their order, and every lent cell at the end. From docs/SCOPE.md, "Sizes and buffers", "Refusals" and
+-- "The factor call". The head alone decides (`headAnswerOf`); a tail row follows from the panels and itself (`factorRowOf`).
+-- Definitions only. Assumes nothing.
 use mathlib.Core.Bool.{Bool, true, false, cond, not, _&&_, _||_}
 use mathlib.Core.List.{List}
 use Prim.Native.Nat.{ℕ, zero, suc, _+_, _-_, _*_, min, max}
@@ -43,7 +44,7 @@ pub record Buffers : Type 0 where
 abbrev pub shapeSound : ℕ → ℕ → Bool
 shapeSound ncol nrow = leb ncol mostColumns && (leb nrow mostRows && leb ncol nrow)
 
--- 'working f64 buffer 3·nrow·(nb+1) + nb², nb as passed'
+-- the working buffer: 3·nrow·(nb + 1) + nb², by the width as it is passed
 abbrev pub workLength : ℕ → ℕ → ℕ
 workLength nrow nb = 3 * nrow * (nb + 1) + nb * nb
 
@@ -134,7 +135,7 @@ pivotSound D k =
     let single = endsBlock (D .blocks) k || isFinite (reciprocalOf (D .d k)) in
     cond (begins (D .blocks) k) block single
 
--- column k after the last column: 'd, subdiagonal, lower head entry, block determinant, or reciprocal of a 1x1 pivot or determinant'
+-- column k after the last column: its d, its subdiagonal, what its pivot answers for, and its lower numbers of the head are finite
 unfoldable pub columnSound : ℕ → Diagonals → Mat → ℕ → Bool
 columnSound ncol D a k =
     isFinite (D .d k) && (isFinite (D .sub k) && (pivotSound D k && everyFrom (λ i. isFinite (a i k)) (ncol - k) k))
@@ -168,7 +169,7 @@ headAnswerOf how ncol nb a = judgedRun ncol (headRunOf how ncol nb a)
 unfoldable pub factorRowOf : ℕ → List Panel → Row → Row
 factorRowOf ncol ps r = tailRowOf ncol ps (rowOf ncol r)
 
--- '1 if a tail row holds a number not finite, else 0'
+-- the mark of a factor row: 1 if one of its numbers is not finite, else 0
 unfoldable pub markOf : ℕ → Row → ℕ
 markOf ncol r = cond (everyFrom (λ j. isFinite (r j)) ncol 0) 0 1
 
@@ -183,7 +184,7 @@ pub record Outcome : Type 0 where
   pub answer : Said Report
   pub buffers : Buffers
 
--- 'every factor output and the working buffer hold zeros'
+-- after 7, 8 and 9: zeros in every buffer that the call writes
 abbrev pub zeros : Buffers → Buffers
 zeros b = record {
   panel = replicate (length (b .panel)) zeroF;

@@ -1,4 +1,5 @@
--- The head's elimination: pivots within a panel, panels in turn. From document 01, 'll_bk_panel_step' and 'll_cdiv_emit'. Definitions only. Assumes nothing.
+-- The head's elimination: pivots within a panel, panels in turn. From docs/SCOPE.md, "A 1x1 pivot", "A block" and "The factor call".
+-- Definitions only. Assumes nothing.
 use mathlib.Core.Bool.{Bool, true, false, cond, _&&_}
 use mathlib.Core.List.{List, [], _∷_}
 use Prim.Native.Nat.{ℕ, zero, suc, _+_, _-_, min}
@@ -35,7 +36,7 @@ pub record State : Type 0 where
 
 -- ---- the numbers of a pivot, lifted where the mode asks it
 
--- a 1x1: in Fail a zero is refused; in Lift 'applies if |d| < floor strictly', and the amount is new less old
+-- a 1x1: in Fail a zero is refused; in Lift it is lifted if |d| < floor, strictly, and the amount is new less old
 unfoldable pub settledOne : Mode → Float → OneSettled
 settledOne Fail d = cond (eq d zeroF) Zero (Number d 0 zeroF)
 settledOne (Lift floor) d =
@@ -43,7 +44,7 @@ settledOne (Lift floor) d =
     let lifted = Number new 1 (new ⊖ d) in
     cond (lt (magnitudeOf d) floor) lifted (Number d 0 zeroF)
 
--- 'scale is the greatest magnitude'; 'growth floor (1e-14·scale)·scale'
+-- 'scale', the greatest magnitude; the 'growth floor', (1e-14·scale)·scale
 abbrev pub scaleOf : Block → Float
 scaleOf b = maximumOf (maximumOf (magnitudeOf (b .d11)) (magnitudeOf (b .d22))) (magnitudeOf (b .d21))
 
@@ -51,7 +52,7 @@ abbrev pub growthFloorOf : Block → Float
 growthFloorOf b = growthEps ⊗ scaleOf b ⊗ scaleOf b
 
 -- rounds of a block's lift: `left` may still be tried, `r` is the round at hand, `sum` the r-fold running sum of step.
--- 'until |det| ≥ bar or is not-a-number': a not-a-number is not below the bar
+-- The first try whose |det| is not below the bar ends it: a not-a-number is not below.
 unfoldable pub raisedFrom : Block → Float → Float → ℕ → ℕ → Float → TwoSettled
 raisedFrom b bar step zero r sum = OutOfRounds
 raisedFrom b bar step (suc left) r sum =
@@ -86,7 +87,7 @@ headOne ke k d a = λ i.
     let row = eliminated (one k k d (λ j. a j k ⊗ reciprocalOf d)) (i + 1) (a i) in
     cond (ltb k i && ltb i ke) row (cond (eqb i k) (put (a i) k d) (a i))
 
--- and after a block at k and k + 1: 'the panel keeps the unlifted diagonal'
+-- and after a block at k and k + 1: its own three numbers stay as they were before a lift
 unfoldable pub headTwo : ℕ → ℕ → Block → Mat → Mat
 headTwo ke k b a = λ i.
     let row = eliminated (two k k b (λ j. firstMultiplier b (a j k) (a j (k + 1))) (λ j. secondMultiplier b (a j k) (a j (k + 1)))) (i + 1) (a i) in

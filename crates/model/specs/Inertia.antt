@@ -1,4 +1,5 @@
--- Counts of positive, negative and zero eigenvalues of D, as ported. From document 01, 'Inertia', refusals 19 and 16. Definitions only. Assumes nothing.
+-- Counts of positive, negative and zero eigenvalues of D, as ported. From docs/SCOPE.md, "Inertia", and refusals 19 and 16.
+-- Definitions only. Assumes nothing.
 use mathlib.Core.Bool.{Bool, true, false, cond, not, _&&_, _||_}
 use mathlib.Core.List.{List}
 use Prim.Native.Nat.{ℕ, zero, suc, _+_}
@@ -23,11 +24,11 @@ more t p n z = record { positive = t .positive + p; negative = t .negative + n; 
 abbrev pub empty : Tally
 empty = record { positive = 0; negative = 0; zero = 0 }
 
--- 'a 1x1 counts by sign, zero for neither': a not-a-number is neither
+-- a 1x1 by its sign: what is neither above nor below zero is a zero, a not-a-number too
 unfoldable pub oneCounted : Tally → Float → Tally
 oneCounted t d = cond (lt zeroF d) (more t 1 0 0) (cond (lt d zeroF) (more t 0 1 0) (more t 0 0 1))
 
--- 'det < 0 one of each; det > 0 two by the trace's sign, trace ≥ 0 positive; else one zero and one by the trace'
+-- a block: one of each sign if det < 0; else by the sign of the trace, which is positive from 0 on, two if det > 0 and otherwise one beside a zero
 unfoldable pub twoCounted : Tally → Block → Tally
 twoCounted t b =
     let up = le zeroF (b .d11 ⊕ b .d22) in
@@ -52,7 +53,7 @@ talliedOf n d sub blocks = talliedFrom d sub blocks n n 0 empty
 
 -- ---- the call
 
--- 'a block byte is not 0 or 1, or a 1 stands last or right before another 1'
+-- refusal 16 is not met at k: the byte is 0, or a 1 that has a byte after it, which is no 1
 unfoldable pub byteSound : (ℕ → ℕ) → ℕ → ℕ → Bool
 byteSound blocks n k = leb (blocks k) 1 && not (begins blocks k && (eqb (k + 1) n || begins blocks (k + 1)))
 
@@ -66,7 +67,7 @@ bytesFrom blocks n (suc m) k =
 abbrev pub checkBytes : List ℕ → Check
 checkBytes blocks = bytesFrom (bytes blocks) (length blocks) (length blocks) 0
 
--- 'its three lists differ in length or exceed 128', then 16
+-- refusal 19, then 16
 unfoldable pub inertiaCheck : List Float → List Float → List ℕ → Check
 inertiaCheck d sub blocks =
     orElse (refuseIf (not (eqb (length sub) (length d) && (eqb (length blocks) (length d) && leb (length d) mostColumns))) InertiaLength) (checkBytes blocks)

@@ -1,4 +1,4 @@
--- Rows, matrices and lists. From document 01, 'The node and its neighbours' and 'swap_sym_lower_bounded'.
+-- Rows, matrices and lists. From docs/SCOPE.md, "The node" and "The exchange".
 -- A row is a function of the column, a matrix of row and column. Definitions only. Assumes nothing.
 use mathlib.Core.Bool.{Bool, cond, _&&_}
 use mathlib.Core.List.{List, [], _∷_}
@@ -89,7 +89,7 @@ exchangedPlace p q i = cond (eqb i p) q (cond (eqb i q) p i)
 unfoldable pub swapped : (ℕ → ℕ) → ℕ → ℕ → ℕ → ℕ
 swapped f p q = λ i. f (exchangedPlace p q i)
 
--- 'symmetric exchange in the lower triangle up to a row limit, and of the two rows in all earlier columns':
+-- the exchange of p and q in the rows of the lower triangle before the limit, their rows in all earlier columns included:
 -- row i, column j becomes what stood, by symmetry, at the exchanged row and column
 unfoldable pub exchanged : ℕ → ℕ → ℕ → Mat → Mat
 exchanged p q limit a = λ i j.

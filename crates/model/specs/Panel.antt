@@ -1,4 +1,5 @@
--- A finished panel, and what it does to a row below it. From document 01, 'apply_bk_panel_trailing' and 'll_cdiv_emit'. Definitions only. Assumes nothing.
+-- A finished panel, and what it does to a row below it. From docs/SCOPE.md, "The rows below a panel" and "The later columns".
+-- Definitions only. Assumes nothing.
 use mathlib.Core.Bool.{cond}
 use mathlib.Core.List.{List, [], _∷_}
 use Prim.Native.Nat.{ℕ, zero, suc, _+_, _-_}
@@ -29,7 +30,7 @@ unfoldable pub sumFrom : Row → ℕ → ℕ → Float → Float
 sumFrom f c zero acc = acc
 sumFrom f c (suc n) acc = sumFrom f (c + 1) n (acc ⊕ f c)
 
--- 'each term L·D of x's row (formed first) times L of x's column's row', 'summed from +0.0', over columns kb to ke: l is x's row, m its column's row
+-- 'acc': from +0.0 on, for each of the columns kb to ke in order, L·D of x's row, formed first, times L of its column's row: l is x's row, m its column's row
 abbrev pub accOf : Diagonals → (kb ke : ℕ) → Row → Row → Float
 accOf D kb ke l m = sumFrom (λ k. timesD D l k ⊗ m k) kb (ke - kb) zeroF
 

@@ -1,4 +1,4 @@
--- The square root, correctly rounded as IEEE 754 says, and alpha by its rounded steps. From document 01, 'Leaves'.
+-- The square root, correctly rounded as IEEE 754 says, and alpha by its rounded steps. From docs/SCOPE.md, "The leaves".
 -- proofs/Nearest.antt has the law that no finite number is nearer to the root. Definitions only. Assumes nothing.
 use mathlib.Core.Bool.{true, false, cond}
 use Prim.Native.Nat.{ℕ, zero, suc, _+_, _-_, _*_, _/_, _^_, compare}

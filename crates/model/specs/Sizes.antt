@@ -1,5 +1,5 @@
--- The sizes held, from document 01, 'Sizes held': each limit under one name. model's constants COLUMNS_MAX, ROWS_MAX, WIDTH_MAX and LIMIT_MAX are these numbers:
--- a test of the code against a constant is proved to be the definition's test against the name. Definitions only. Assumes nothing.
+-- The sizes held, from docs/SCOPE.md, "Sizes and buffers": each limit under one name. model's constants COLUMNS_MAX, ROWS_MAX, WIDTH_MAX and LIMIT_MAX are
+-- these numbers: a test of the code against a constant is proved to be the definition's test against the name. Definitions only. Assumes nothing.
 use Prim.Native.Nat.{ℕ}
 
 -- columns of a node, and of a descendant

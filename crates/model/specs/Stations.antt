@@ -1,4 +1,4 @@
--- The starred stations of document 01, 'Stations to test', as one list: what is given and the lines that it must give. proofs/Stations.antt has the claim.
+-- The starred stations of docs/SCOPE.md, "Stations", as one list: what is given and the lines that it must give. proofs/Stations.antt has the claim.
 -- Numbers are written by their bits. Fail, nb = ncol and limit 1 unless said. Definitions only. Assumes nothing.
 use mathlib.Core.List.{List, [], _∷_, map}
 use Prim.Native.Nat.{ℕ, _-_, _*_}

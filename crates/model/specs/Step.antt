@@ -1,4 +1,5 @@
--- One elimination step: what it does to a row, and how it is read off the record of pivots. From document 01, 'll_bk_panel_step' and 'apply_bk_panel_trailing'.
+-- One elimination step: what it does to a row, and how it is read off the record of pivots. From docs/SCOPE.md, "A 1x1 pivot", "A block" and
+-- "The rows below a panel".
 -- Definitions only. Assumes nothing.
 use mathlib.Core.Bool.{Bool, true, false, cond, _&&_}
 use mathlib.Core.List.{List}
@@ -74,7 +75,7 @@ abbrev pub partnerOf : Step → ℕ
 partnerOf (one k kp d m) = kp
 partnerOf (two k kp b m1 m2) = kp
 
--- a row below the panel that ends at ke: 'the same exchanges and steps'
+-- a row below the panel that ends at ke: its exchange of two entries, then its elimination in the columns before ke
 unfoldable pub rowAfterStep : ℕ → Step → Row → Row
 rowAfterStep ke s r = eliminated s ke (λ j. r (exchangedPlace (movedColumn s) (partnerOf s) j))
 

@@ -1,4 +1,4 @@
--- A descendant's update of a target node. From document 01, 'Assembly and update', refusals 13 to 18. Definitions only. Assumes nothing.
+-- A descendant's update of a target node. From docs/SCOPE.md, "Update", and refusals 13 to 18. Definitions only. Assumes nothing.
 use mathlib.Core.Bool.{Bool, true, cond, not, _&&_, _||_}
 use mathlib.Core.List.{List}
 use Prim.Native.Nat.{ℕ, zero, suc, _+_, _*_}
@@ -49,7 +49,7 @@ updateSound t k panel =
 abbrev pub rising : (ℕ → ℕ) → ℕ → Bool
 rising rows n = everyFrom (λ i. eqb (i + 1) n || ltb (rows i) (rows (i + 1))) n 0
 
--- 'begin first, first+1, .. for ncol rows'
+-- the first ncol rows are first, first + 1 and so on
 abbrev pub beginsAt : ℕ → (ℕ → ℕ) → ℕ → Bool
 beginsAt first rows ncol = everyFrom (λ i. eqb (rows i) (first + i)) ncol 0
 
@@ -58,11 +58,11 @@ unfoldable pub placeFrom : (ℕ → ℕ) → ℕ → ℕ → ℕ → ℕ
 placeFrom f g zero i = i
 placeFrom f g (suc m) i = let rest = placeFrom f g m (i + 1) in cond (eqb (f i) g) i rest
 
--- 'a row lands if it is one of the target's first ncol rows'
+-- the row g 'lands': it is one of the target's first ncol rows, which are first, first + 1 and so on (refusal 14)
 abbrev pub lands : Target → ℕ → Bool
 lands t g = leb (t .first) g && ltb g (t .first + t .ncol)
 
--- 'row A (the first at or past that landing) is absent from the target': the first of m rows from i on; `landed` says that a row before it landed
+-- refusal 17: the first of m rows from i on that the target lacks, looked for from the first row that lands on; `landed` says that a row before i landed
 unfoldable pub absentFrom : Target → (ℕ → ℕ) → ℕ → ℕ → Bool → Check
 absentFrom t rows zero i landed = Sound
 absentFrom t rows (suc m) i landed =
@@ -71,7 +71,7 @@ absentFrom t rows (suc m) i landed =
     let rest = absentFrom t rows m (i + 1) now in
     cond (now && not there) (Refused (AbsentRow i)) rest
 
--- column c of the descendant: 'a number below its head, or a d, or a subdiagonal under a 1'
+-- refusal 18 is not met at the descendant's column c: its d, its subdiagonal under a 1 and its numbers below the head are finite
 unfoldable pub descendantSound : Descendant → ℕ → Bool
 descendantSound k c =
     isFinite (vec (k .d) c) && ((not (begins (bytes (k .blocks)) c) || isFinite (vec (k .sub) c))
@@ -95,7 +95,7 @@ updateCheck t k panel =
 abbrev pub descendantRow : Descendant → ℕ → Row
 descendantRow k r = view (k .nk + k .mk) (k .panel) (k .nk + r)
 
--- 'each landing row c forms v', 'each row from c on subtracts acc, summed from +0.0 in column order'
+-- 'acc' of the descendant's row r and its landing row c: from +0.0 on, r's numbers times 'v' of c, in the columns' order
 abbrev pub updateAcc : Descendant → ℕ → ℕ → Float
 updateAcc k r c = sumFrom (λ j. descendantRow k r j ⊗ timesD (diagonalsOf (k .d) (k .sub) (k .blocks)) (descendantRow k c) j) 0 (k .nk) zeroF
 

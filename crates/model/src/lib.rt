@@ -138,7 +138,7 @@ pub struct Report {
     pub inertia: Tally,
 }
 
-// Document 01's refusals 1 to 19 in their order. `numbered` of specs/Answer.antt gives the number and the place of
+// The refusals 1 to 19 of docs/REFUSALS.md in order. `numbered` of specs/Answer.antt gives the number and the place of
 // each.
 pub enum Refusal {
     Shape,

@@ -1,4 +1,4 @@
--- One pivot of a panel, or two one after the other, on the rows below it. From document 01, 'apply_bk_panel_trailing'; a reader need not believe these
+-- One pivot of a panel, or two one after the other, on the rows below it. From docs/SCOPE.md, "The rows below a panel"; a reader need not believe these
 -- names: the contracts of below_step and below_pair cite the model's steps. Rows count from the first row below the panel, columns from the first pivot.
 -- Definitions only. Assumes nothing.
 use Prim.Native.Nat.{ℕ, _+_, _-_, _*_, _<_, _≤_}

@@ -1,4 +1,4 @@
--- What a stream of bytes asks of the program. From document 01, 'Stations to test', the paragraph on `node`, and refusals 20 to 22.
+-- What a stream of bytes asks of the program. From docs/SCOPE.md, "The program node", and refusals 20 to 22.
 -- A stream is a list of bytes: the first record takes bytes 0 to 23, the second the rest. Definitions only. Assumes nothing.
 use mathlib.Core.Bool.{Bool, cond, not, _&&_}
 use mathlib.Core.List.{List}
@@ -15,7 +15,7 @@ use Rattle.record.specs.declared.Asked.the-variants.{Factor, Refused}
 
 -- ---- records
 
--- 'u32 length of the rest, u16 kind, payload': from place at on stands a record of that length and kind, and it is not short
+-- the length of the rest as a u32, then the kind as a u16: from place at on stands a record of that length and kind, and it is not short
 unfoldable pub recordAt : List ℕ → ℕ → ℕ → ℕ → Bool
 recordAt s at len kind = leb (at + 4 + len) (length s) && (eqb (le32 s at) len && eqb (le16 s (at + 4)) kind)
 
@@ -23,7 +23,7 @@ recordAt s at len kind = leb (at + 4 + len) (length s) && (eqb (le32 s at) len &
 unfoldable pub modeOf : ℕ → Float → Mode
 modeOf mode floor = cond (eqb mode 0) Fail (Lift floor)
 
--- 'ncol, nrow, nb, mode, limit as u16, floor f64', past the six bytes of length and kind
+-- ncol, nrow, nb, mode and limit as u16 and the floor as an f64, past the six bytes of length and kind
 unfoldable pub settingsOf : List ℕ → Settings
 settingsOf s = record {
   ncol = le16 s 6;
@@ -37,13 +37,13 @@ settingsOf s = record {
 abbrev pub panelLength : Settings → ℕ
 panelLength c = c .nrow * c .ncol
 
--- the second record's numbers, past its six bytes: the 'input panel'
+-- the second record's numbers, past its six bytes: the input panel
 unfoldable pub panelOf : List ℕ → Settings → List Float
 panelOf s c = numbersOf s 30 (panelLength c)
 
 -- ---- refusals 20 to 22
 
--- 'kind 1 (length 20)', and the mode is one of the two
+-- kind 1, length 20, and the mode is one of the two
 unfoldable pub firstSound : List ℕ → Bool
 firstSound s = recordAt s 0 20 1 && leb (le16 s 12) 1
 

@@ -1,4 +1,4 @@
-// A refusal as the number and the place that document 01 gives it: the one table of them in code.
+// A refusal as the number and the place that docs/REFUSALS.md gives it: the one table of them in code.
 // A reader may rely on each being what `turnedAway` says (model, specs/Answer.antt), whatever the call accepts with.
 ghost use mathlib.Core.Path.{_≡_};
 ghost use Rattle.model.specs.Answer.{Said, refused, turnedAway};

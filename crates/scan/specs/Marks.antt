@@ -1,4 +1,5 @@
--- The marks of the tail's rows, column by column, and what the scan asks of its callers. From document 01, 'll_cdiv_emit'. Definitions only. Assumes nothing.
+-- The marks of the tail's rows, column by column, and what the scan asks of its callers. From docs/SCOPE.md, "The factor call".
+-- Definitions only. Assumes nothing.
 use mathlib.Core.Path.{_≡_}
 use mathlib.Core.Bool.{cond}
 use mathlib.Core.List.{List}

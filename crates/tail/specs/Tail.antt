@@ -1,4 +1,5 @@
--- Rows by their columns from k on, two steps in turn, and what the tail asks. From document 01, 'apply_bk_panel_trailing'. Definitions only. Assumes nothing.
+-- Rows by their columns from k on, two steps in turn, and what the tail asks. From docs/SCOPE.md, "The rows below a panel".
+-- Definitions only. Assumes nothing.
 use Prim.Native.Nat.{ℕ, _+_, _-_, _*_, _<_, _≤_}
 use mathlib.Core.Path.{_≡_}
 use Rattle.model.specs.Matrix.{Row, Mat}

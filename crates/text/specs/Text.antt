@@ -1,4 +1,4 @@
--- Numbers as text, and text placed in a list of bytes. From document 01, 'Stations to test': 'Decimal, bits in hexadecimal'. Text is a list of ASCII codes.
+-- Numbers as text, and text placed in a list of bytes. From docs/SCOPE.md, "The program node". Text is a list of ASCII codes.
 -- Definitions only. Assumes nothing.
 use mathlib.Core.Path.{_≡_}
 use mathlib.Core.Bool.{cond}

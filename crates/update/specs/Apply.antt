@@ -19,11 +19,11 @@ use Rattle.grid.specs.Grid.{In}
 use Rattle.update.specs.Rows.{landsOn}
 use Rattle.update.specs.Call.{descendantOf, NumbersPre}
 
--- 'each landing row c forms v': D times a row; of the descendant only d, subdiagonal and block bytes play a part
+-- 'v' of a landing row: the row times D; of the descendant only d, subdiagonal and block bytes play a part
 unfoldable pub weighed : List Float → List Float → List ℕ → Row → Row
 weighed d sub blocks = timesD (diagonalsOf d sub blocks)
 
--- acc of each row of a, 'summed from +0.0 in column order' over n columns
+-- 'acc' of each row of a: from +0.0 on, over n columns in their order
 unfoldable pub sums : Mat → Row → ℕ → Row
 sums a v n = λ i. sumFrom (λ s. a i s ⊗ v s) 0 n zeroF
 

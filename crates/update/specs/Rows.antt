@@ -1,4 +1,4 @@
--- Tests of one row, scans over rows, and where the descendant's rows stand among the target's. From document 01, 'Assembly and update'.
+-- Tests of one row, scans over rows, and where the descendant's rows stand among the target's. From docs/SCOPE.md, "Update".
 -- Rows of the system are whole numbers; a place is an index into the target's rows. Definitions only. Assumes nothing.
 use mathlib.Core.Path.{_≡_}
 use mathlib.Core.Bool.{Bool, true, cond, _&&_, _||_}
