@@ -1,4 +1,4 @@
-//! The oracle: cases, document 01's rules around the reference, seeded random
+//! The oracle: cases, the rules of docs/SCOPE.md around the reference, seeded random
 //! cases and the telling ones. The reference itself is `rslab::reach`.
 
 pub mod case;

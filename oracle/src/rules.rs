@@ -1,4 +1,4 @@
-//! What document 01 adds to the reference, restated apart from the port: the
+//! What docs/SCOPE.md adds to the reference, restated apart from the port: the
 //! refusals that the Rust does not know, the rounds, the marks. `answer` asks
 //! the Rust for everything else.
 
@@ -21,7 +21,7 @@ fn refuse_at(place: Option<usize>, number: usize) -> Checked {
     place.map_or(Ok(()), |a| Err(Refusal { number, a, b: 0 }))
 }
 
-/// The answer of a call: the Rust's, with document 01's refusals.
+/// The answer of a call: the Rust's, with the refusals of docs/REFUSALS.md.
 pub fn answer(case: &Case) -> Answer {
     let answered = match case {
         Case::Factor(f) => factor(f),
@@ -87,7 +87,7 @@ fn beyond(limit: usize, rounds: &[(usize, usize)]) -> Option<usize> {
     rounds.iter().find(|r| r.1 > limit).map(|r| r.0)
 }
 
-/// The rounds of each lifted block, by document 01's arithmetic on the numbers
+/// The rounds of each lifted block, by docs/SCOPE.md, "A block", on the numbers
 /// that the Rust left: the panel keeps a block's unlifted diagonal.
 fn replayed(s: &Settings, floor: f64, f: &Factored) -> Vec<(usize, usize)> {
     let at = |i: usize, j: usize| f.panel[i + j * s.nrow];

@@ -1,5 +1,5 @@
-//! Hand-made cases: the stations of document 01 with the readings of its
-//! corner cases, and cases that tell the reference from a wrong port of it.
+//! Hand-made cases: the stations and corner cases of docs/SCOPE.md, "Stations",
+//! and cases that tell the reference from a wrong port of it.
 
 use crate::case::*;
 
@@ -50,7 +50,7 @@ fn counted(name: &'static str, d: &[f64], blocks: &[u8]) -> Named {
     (name, Case::Inertia(Inertia { d: d.to_vec(), sub: vec![0.0; d.len()], blocks: blocks.to_vec() }))
 }
 
-/// Document 01, 'Stations to test', and the readings of its corner cases.
+/// docs/SCOPE.md, "Stations", with its corner cases.
 pub fn stations() -> Vec<Named> {
     let least = f64::from_bits(1);
     let nan = f64::NAN;

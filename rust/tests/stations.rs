@@ -1,4 +1,4 @@
-//! Document 01's stations and the example of its program, not-a-numbers above the diagonal, and the bounds.
+//! The stations and the program's example of docs/SCOPE.md, not-a-numbers above the diagonal, and the bounds.
 
 mod common;
 

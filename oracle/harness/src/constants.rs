@@ -1,5 +1,5 @@
 //! The reference's constants. GROWTH_EPS is the one that a run reads, with the
-//! value of document 01. The others only fill defaults that the oracle
+//! value of docs/SCOPE.md, "The leaves". The others only fill defaults that the oracle
 //! overwrites (`reach::settings`) or that no run reads: they are all zero.
 
 pub const GROWTH_EPS: f64 = 1e-14;

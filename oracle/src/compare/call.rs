@@ -78,7 +78,7 @@ pub fn left(f: &Factor) -> Left {
     Left { outcome, buffers }
 }
 
-/// What a call must answer and leave, by the reference and document 01's rules.
+/// What a call must answer and leave, by the reference and the rules of docs/SCOPE.md.
 pub fn must(f: &Factor) -> Left {
     answered(f, rules::answer(&Case::Factor(f.clone())))
 }

@@ -1,5 +1,5 @@
 //! The program `node` on any bytes: each stream is given to a run of its own, which must end with status 0 and print
-//! what document 01 says. NODE names the program.
+//! what docs/SCOPE.md, "The program node", says. NODE names the program.
 
 mod counts;
 mod records;
@@ -85,7 +85,7 @@ fn wrong(ended: &Ended, must: &str) -> Option<String> {
 /// A status, a character more, less or other, and the example's own text are noticed.
 fn notices() {
     let must = records::EXAMPLE;
-    assert_eq!(records::printed(&records::example()), must, "the model and document 01's example differ");
+    assert_eq!(records::printed(&records::example()), must, "the model and the example of docs/SCOPE.md differ");
     let ended = |printed: &str, well: bool| Ended { printed: printed.into(), well };
     assert_eq!(wrong(&ended(must, true), must), None);
     let other = must.replacen('7', "6", 1).replacen('0', "1", 1);

@@ -58,7 +58,7 @@ fn update(u: &Update, panel: &mut [f64]) -> Outcome {
     misuktaan::update(&target, panel, &descendant).map(|()| counted([0; 3]))
 }
 
-/// What a call must answer and leave, by the reference and document 01's rules.
+/// What a call must answer and leave, by the reference and the rules of docs/SCOPE.md.
 pub fn must(case: &Case) -> Left {
     let kept = lent(case).to_vec();
     match rules::answer(case) {

@@ -1,4 +1,5 @@
-//! The program `node` by document 01, apart from the port: the records that it reads, what it must print for any bytes.
+//! The program `node` by docs/SCOPE.md, "The program node", apart from the port: the records that it reads, what it must
+//! print for any bytes.
 
 use oracle::case::*;
 use oracle::rules;
@@ -119,7 +120,7 @@ fn accepted(s: &Settings, answer: &Answer) -> String {
     text
 }
 
-// ---- document 01's example
+// ---- the example of docs/SCOPE.md, "The program node"
 
 /// ncol = nrow = nb = 2, zeros, panel 1 2 0 8.
 pub fn example() -> Vec<u8> {

@@ -1,4 +1,4 @@
-//! Streams for the program `node`: document 01's example cut and changed at every place, and seeded ones, good ones,
+//! Streams for the program `node`: the example of docs/SCOPE.md cut and changed at every place, and seeded ones, good ones,
 //! good ones with up to three things wrong, and random bytes.
 
 use crate::records::{self, FLOOR, LIMIT, MODE, NB, NCOL, NROW, PANEL, SECOND};

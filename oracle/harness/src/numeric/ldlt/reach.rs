@@ -121,7 +121,7 @@ pub fn leaf(name: &str, a: f64, b: f64) -> Option<f64> {
     })
 }
 
-/// Document 01's reference settings. `panel_width` then gives `nb` itself.
+/// The settings of docs/SCOPE.md, "The reference". `panel_width` then gives `nb` itself.
 fn settings(nb: usize) -> KernelTuning<'static> {
     let k = KernelSettings {
         panel_nb: nb,

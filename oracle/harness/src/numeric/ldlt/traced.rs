@@ -16,7 +16,7 @@ use std::ops::{Add, Div, Mul, Neg, Sub};
 use std::panic::{catch_unwind, resume_unwind, AssertUnwindSafe};
 
 /// A lift of more rounds counts as one that does not end: the loop of the
-/// reference has no bound, and document 01's limits stop at 64.
+/// reference has no bound, and a call's limit stops at 64 (docs/SCOPE.md).
 pub const ROUNDS_WATCHED: usize = 10_000;
 
 /// What a run showed: the position reached, and `(position, rounds)` of each
