@@ -1,6 +1,5 @@
 -- One elimination step: what it does to a row, and how it is read off the record of pivots. From docs/SCOPE.md, "A 1x1 pivot", "A block" and
--- "The rows below a panel".
--- Definitions only. Assumes nothing.
+-- "The rows below a panel". Definitions only. Assumes nothing.
 use mathlib.Core.Bool.{Bool, true, false, cond, _&&_}
 use mathlib.Core.List.{List}
 use Prim.Native.Nat.{ℕ, zero, suc, _+_, _-_}

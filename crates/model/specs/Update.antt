@@ -62,7 +62,7 @@ placeFrom f g (suc m) i = let rest = placeFrom f g m (i + 1) in cond (eqb (f i) 
 abbrev pub lands : Target → ℕ → Bool
 lands t g = leb (t .first) g && ltb g (t .first + t .ncol)
 
--- refusal 17: the first of m rows from i on that the target lacks, looked for from the first row that lands on; `landed` says that a row before i landed
+-- refusal 17: the first of m rows from i on that the target lacks, beginning with the first row that lands; `landed` says that a row before i landed
 unfoldable pub absentFrom : Target → (ℕ → ℕ) → ℕ → ℕ → Bool → Check
 absentFrom t rows zero i landed = Sound
 absentFrom t rows (suc m) i landed =
