@@ -1,345 +1,290 @@
-//! Every refusal from Rust: number, place, and what was and was not written, by bits.
+//! Every line of `tests/refusals.txt` from Rust; that file says what its lines mean. Buffers are held and compared by
+//! their bits.
 
 mod common;
 
-use common::{bits, patterns, place, Call};
-use misuktaan::{assemble, inertia, update, Descendant, Entries, Factors, Target};
-use misuktaan::{COLUMNS_MAX, LIMIT_MAX, ROWS_MAX, WIDTH_MAX};
+use common::bits;
+use misuktaan::{assemble, inertia, update, Descendant, Entries, Factors, Inertia, Mode, Refusal, Report};
+use misuktaan::{Settings, Target, COLUMNS_MAX, LIMIT_MAX, ROWS_MAX, WIDTH_MAX};
+use std::collections::BTreeMap;
 
-const INF: f64 = f64::INFINITY;
-const NAN: f64 = f64::NAN;
+/// Buffers by their names.
+type Buffers<'a> = BTreeMap<&'a str, Vec<u64>>;
 
-/// One more than the limits.
-const COLUMNS: usize = COLUMNS_MAX + 1;
-const ROWS: usize = ROWS_MAX + 1;
-
-/// An accepted call of two columns and three rows.
-fn sound() -> Call {
-    Call::new(2, 3, &[4.0, 1.0, 2.0, 3.0, 1.0])
+/// A call: its settings; its buffers, each with its type, and `written` or `work` if it is lent for that alone; how it is
+/// made, with what it may have written.
+struct Call {
+    name: &'static str,
+    settings: &'static [&'static str],
+    buffers: &'static str,
+    make: fn(&Case) -> (Result<Report, Refusal>, Buffers<'static>),
 }
 
-// ---- the factor call
-
-#[test]
-fn refusal_1() {
-    Call::wide(COLUMNS, COLUMNS, 1, &[1.0; COLUMNS * (COLUMNS + 1) / 2]).turned_away(1, 0, 0);
-    Call::wide(1, ROWS, 1, &[1.0; ROWS]).turned_away(1, 0, 0);
-    Call::wide(2, 1, 1, &[1.0]).turned_away(1, 0, 0);
-    let mut call = sound();
-    (call.settings.ncol, call.settings.nrow) = (usize::MAX, usize::MAX);
-    call.turned_away(1, 0, 0);
+#[derive(Default)]
+struct Case<'a> {
+    sizes: BTreeMap<&'a str, usize>,
+    lift: Option<f64>,
+    lists: BTreeMap<&'a str, &'a str>,
+    buffers: Buffers<'a>,
 }
 
-#[test]
-fn refusal_2() {
-    for nb in [0, WIDTH_MAX + 1, usize::MAX] {
-        let mut call = sound();
-        call.settings.nb = nb;
-        call.turned_away(2, 0, 0);
+impl Case<'_> {
+    fn list<T>(&self, name: &str, of: fn(u64) -> T) -> Vec<T> {
+        self.buffers[name].iter().map(|&x| of(x)).collect()
+    }
+
+    fn numbers(&self, name: &str) -> Vec<f64> {
+        self.list(name, f64::from_bits)
     }
 }
 
-#[test]
-fn refusal_3() {
-    fn resize<T: Clone + Default>(list: &mut Vec<T>, longer: bool) {
-        let n = if longer { list.len() + 1 } else { list.len() - 1 };
-        list.resize(n, T::default());
-    }
-    let changes: [fn(&mut Call, bool); 10] = [
-        |c, l| resize(&mut c.input, l),
-        |c, l| resize(&mut c.factors.panel, l),
-        |c, l| resize(&mut c.factors.d, l),
-        |c, l| resize(&mut c.factors.sub, l),
-        |c, l| resize(&mut c.factors.blocks, l),
-        |c, l| resize(&mut c.factors.lifted, l),
-        |c, l| resize(&mut c.factors.amounts, l),
-        |c, l| resize(&mut c.factors.order, l),
-        |c, l| resize(&mut c.factors.marks, l),
-        |c, l| resize(&mut c.factors.work, l),
-    ];
-    for change in changes {
-        for longer in [false, true] {
-            let mut call = sound();
-            change(&mut call, longer);
-            call.turned_away(3, 0, 0);
-        }
-    }
-}
+// ---- the calls
 
-#[test]
-fn refusal_4() {
-    for floor in [0.0, -0.0, -1.0, INF, -INF, NAN] {
-        sound().lifting(floor, 1).turned_away(4, 0, 0);
-    }
-}
+const CALLS: [Call; 4] = [
+    Call {
+        name: "factor",
+        settings: &["ncol", "nrow", "nb", "lift", "limit"],
+        buffers: "panel:f64:written d:f64:written sub:f64:written blocks:u8:written lifted:u8:written \
+                  amounts:f64:written order:usize:written marks:u8:written work:f64:work input:f64",
+        make: factor_call,
+    },
+    Call { name: "inertia", settings: &[], buffers: "d:f64 sub:f64 blocks:u8", make: inertia_call },
+    Call {
+        name: "assemble",
+        settings: &["ncol", "nrow"],
+        buffers: "rows:usize cols:usize numbers:f64 panel:f64",
+        make: assemble_call,
+    },
+    Call {
+        name: "update",
+        settings: &["ncol", "nrow", "first", "nk", "mk"],
+        buffers: "rows:u32 panel:f64 kpanel:f64 kd:f64 ksub:f64 kblocks:u8 krows:u32",
+        make: update_call,
+    },
+];
 
-#[test]
-fn refusal_5() {
-    for limit in [0, LIMIT_MAX + 1, usize::MAX] {
-        sound().lifting(0.5, limit).turned_away(5, 0, 0);
-    }
-}
+/// What a call reports that counts nothing.
+const UNCOUNTED: Report = Report { rounds: 0, inertia: Inertia { positive: 0, negative: 0, zero: 0 } };
 
-#[test]
-fn refusal_6() {
-    Call::new(2, 2, &[1.0, NAN, 1.0]).turned_away(6, 0, 1);
-    Call::new(2, 2, &[1.0, 0.0, INF]).turned_away(6, 1, 1);
-    Call::new(1, 3, &[1.0, 0.0, -INF]).turned_away(6, 0, 2);
-    Call::new(2, 4, &[1.0, 0.0, NAN, NAN, NAN, 1.0, 1.0]).turned_away(6, 0, 2);
-}
-
-#[test]
-fn refusal_7() {
-    Call::new(1, 1, &[0.0]).given_up(7, 0);
-    Call::new(1, 3, &[-0.0, 1.0, 2.0]).given_up(7, 0);
-    Call::new(2, 2, &[1.0, 0.0, 0.0]).given_up(7, 1);
-    Call::wide(2, 2, 1, &[0.0, 1.0, 0.0]).given_up(7, 0);
-    Call::new(2, 2, &[0.0, 1e200, 0.0]).given_up(7, 0);
-}
-
-#[test]
-fn refusal_8() {
-    Call::new(2, 2, &[0.0, 1.0, 0.0]).lifting(2.0, 1).given_up(8, 0);
-    Call::new(3, 4, &[9.0, 0.0, 0.0, 1.0, 0.0, 1.0, 1.0, 0.0, 1.0]).lifting(2.0, 1).given_up(8, 1);
-}
-
-#[test]
-fn refusal_9() {
-    let tiny = f64::from_bits(1);
-    Call::new(1, 1, &[tiny]).given_up(9, 0);
-    Call::new(2, 3, &[1.0, 0.0, 1.0, tiny, 1.0]).given_up(9, 1);
-    Call::new(2, 2, &[0.0, 1e160, 0.0]).given_up(9, 0);
-}
-
-/// The first condition in the order of the numbers is the answer.
-#[test]
-fn the_first_condition_wins() {
-    let make = |stage: usize| {
-        let mut call = Call::new(2, 2, &[NAN; 3]);
-        if stage < 6 {
-            call = call.lifting(if stage < 5 { 0.0 } else { 0.5 }, 0);
-        }
-        if stage < 4 {
-            call.factors.work.push(0.0);
-        }
-        if stage < 3 {
-            call.settings.nb = 0;
-        }
-        if stage < 2 {
-            call.settings.nrow = 1;
-        }
-        call
+fn factor_call(c: &Case) -> (Result<Report, Refusal>, Buffers<'static>) {
+    let mode = c.lift.map_or(Mode::Fail, Mode::Lift);
+    let settings =
+        Settings { ncol: c.sizes["ncol"], nrow: c.sizes["nrow"], nb: c.sizes["nb"], mode, limit: c.sizes["limit"] };
+    let factors = Factors {
+        panel: c.numbers("panel"),
+        d: c.numbers("d"),
+        sub: c.numbers("sub"),
+        blocks: c.list("blocks", |x| x as u8),
+        lifted: c.list("lifted", |x| x as u8),
+        amounts: c.numbers("amounts"),
+        order: c.list("order", |x| x as usize),
+        marks: c.list("marks", |x| x as u8),
+        work: c.numbers("work"),
     };
-    (1..=6).for_each(|number| make(number).turned_away(number, 0, 0));
+    let mut call = common::Call { settings, input: c.numbers("input"), factors };
+    let answer = call.run();
+    (answer, CALLS[0].all().map(|buffer| buffer.0).zip(call.memory()).collect())
 }
 
-// ---- assembly
-
-/// The assembly is refused, and the panel is as it was.
-fn not_assembled(
-    ncol: usize,
-    nrow: usize,
-    rows: &[usize],
-    cols: &[usize],
-    numbers: &[f64],
-    len: usize,
-) -> (usize, usize, usize) {
-    let mut panel = patterns(len);
-    let refusal = assemble(ncol, nrow, &Entries { rows, cols, numbers }, &mut panel).unwrap_err();
-    assert_eq!(bits(&panel), bits(&patterns(len)));
-    place(refusal)
+fn inertia_call(c: &Case) -> (Result<Report, Refusal>, Buffers<'static>) {
+    let counts = inertia(&c.numbers("d"), &c.numbers("sub"), &c.list("blocks", |x| x as u8));
+    (counts.map(|inertia| Report { rounds: 0, inertia }), Buffers::new())
 }
 
-#[test]
-fn refusal_10() {
-    for (ncol, nrow) in [(COLUMNS, COLUMNS), (1, ROWS), (2, 1), (usize::MAX, usize::MAX)] {
-        assert_eq!(not_assembled(ncol, nrow, &[0], &[0], &[1.0], 2), (10, 0, 0));
-    }
-    assert_eq!(not_assembled(1, 2, &[0, 1], &[0], &[1.0], 2), (10, 0, 0));
-    assert_eq!(not_assembled(1, 2, &[0], &[0, 0], &[1.0], 2), (10, 0, 0));
-    assert_eq!(not_assembled(1, 2, &[0], &[0], &[1.0, 1.0], 2), (10, 0, 0));
-    assert_eq!(not_assembled(1, 2, &[0], &[0], &[1.0], 3), (10, 0, 0));
+fn assemble_call(c: &Case) -> (Result<Report, Refusal>, Buffers<'static>) {
+    let (rows, cols) = (c.list("rows", |x| x as usize), c.list("cols", |x| x as usize));
+    let (numbers, mut panel) = (c.numbers("numbers"), c.numbers("panel"));
+    let entries = Entries { rows: &rows, cols: &cols, numbers: &numbers };
+    let answer = assemble(c.sizes["ncol"], c.sizes["nrow"], &entries, &mut panel);
+    (answer.map(|()| UNCOUNTED), Buffers::from([("panel", bits(&panel))]))
 }
 
-#[test]
-fn refusal_11() {
-    assert_eq!(not_assembled(2, 3, &[0, 3], &[0, 0], &[1.0; 2], 6), (11, 1, 0));
-    assert_eq!(not_assembled(2, 3, &[0, 2], &[0, 2], &[1.0; 2], 6), (11, 1, 0));
-    assert_eq!(not_assembled(2, 3, &[0, 0], &[1, 1], &[NAN; 2], 6), (11, 0, 0));
-    assert_eq!(not_assembled(2, 3, &[0, usize::MAX], &[0, 0], &[NAN; 2], 6), (11, 1, 0));
+fn update_call(c: &Case) -> (Result<Report, Refusal>, Buffers<'static>) {
+    let (rows, krows) = (c.list("rows", |x| x as u32), c.list("krows", |x| x as u32));
+    let [mut panel, kpanel, d, sub] = ["panel", "kpanel", "kd", "ksub"].map(|name| c.numbers(name));
+    let blocks = c.list("kblocks", |x| x as u8);
+    let [ncol, nrow, first, nk, mk] = ["ncol", "nrow", "first", "nk", "mk"].map(|name| c.sizes[name]);
+    let target = Target { ncol, nrow, first: first as u32, rows: &rows };
+    let descendant = Descendant { nk, mk, panel: &kpanel, d: &d, sub: &sub, blocks: &blocks, rows: &krows };
+    let answer = update(&target, &mut panel, &descendant);
+    (answer.map(|()| UNCOUNTED), Buffers::from([("panel", bits(&panel))]))
 }
 
-#[test]
-fn refusal_12() {
-    assert_eq!(not_assembled(2, 3, &[0; 3], &[0; 3], &[1.0, -INF, NAN], 6), (12, 1, 0));
+// ---- values and words; None if they cannot be read
+
+fn whole(text: &str) -> Option<usize> {
+    let (name, more) = text.split_at(text.find(['+', '-']).unwrap_or(text.len()));
+    let n: usize = match name {
+        "COLUMNS_MAX" => COLUMNS_MAX,
+        "ROWS_MAX" => ROWS_MAX,
+        "WIDTH_MAX" => WIDTH_MAX,
+        "LIMIT_MAX" => LIMIT_MAX,
+        "SIZE_MAX" => usize::MAX,
+        _ => name.parse().ok()?,
+    };
+    n.checked_add_signed(if more.is_empty() { 0 } else { more.parse().ok()? })
 }
 
-// ---- update
-
-/// An update that is accepted: the columns 5, 6 with the rows 8, 9 below; two columns over the rows 6, 8, 9.
-#[derive(Clone)]
-struct Update {
-    ncol: usize,
-    nrow: usize,
-    first: u32,
-    rows: Vec<u32>,
-    panel: Vec<f64>,
-    nk: usize,
-    mk: usize,
-    kpanel: Vec<f64>,
-    kd: Vec<f64>,
-    ksub: Vec<f64>,
-    kblocks: Vec<u8>,
-    krows: Vec<u32>,
-}
-
-impl Update {
-    fn sound() -> Update {
-        Update {
-            ncol: 2,
-            nrow: 4,
-            first: 5,
-            rows: vec![5, 6, 8, 9],
-            panel: patterns(8),
-            nk: 2,
-            mk: 3,
-            // the head is not read
-            kpanel: vec![NAN, NAN, 2.0, 3.0, 4.0, NAN, NAN, 3.0, 4.0, 5.0],
-            kd: vec![1.0, 1.0],
-            // nor is a subdiagonal under a 0
-            ksub: vec![NAN, NAN],
-            kblocks: vec![0, 0],
-            krows: vec![6, 8, 9],
+/// The elements of a list by their bits, over what they held.
+fn elements(list: &str, kind: &str, held: impl Fn(usize) -> u64) -> Option<Vec<u64>> {
+    let mut all = Vec::new();
+    for item in list.split(',').filter(|_| !list.is_empty()) {
+        let (value, times) = item.split_once('*').unwrap_or((item, "1"));
+        for _ in 0..whole(times)? {
+            all.push(match (value, kind) {
+                ("?", _) => held(all.len()),
+                (_, "f64") => value.parse::<f64>().ok()?.to_bits(),
+                (_, "u8") => u64::from(u8::try_from(whole(value)?).ok()?),
+                (_, "u32") => u64::from(u32::try_from(whole(value)?).ok()?),
+                _ => whole(value)? as u64,
+            });
         }
     }
+    Some(all)
+}
 
-    fn run(&mut self) -> Result<(), misuktaan::Refusal> {
-        let target = Target { ncol: self.ncol, nrow: self.nrow, first: self.first, rows: &self.rows };
-        let descendant = Descendant {
-            nk: self.nk,
-            mk: self.mk,
-            panel: &self.kpanel,
-            d: &self.kd,
-            sub: &self.ksub,
-            blocks: &self.kblocks,
-            rows: &self.krows,
-        };
-        update(&target, &mut self.panel, &descendant)
-    }
-
-    /// With a change the update is refused, and the panel is as it was.
-    fn changed(change: impl FnOnce(&mut Update)) -> (usize, usize, usize) {
-        let mut u = Update::sound();
-        change(&mut u);
-        let before = bits(&u.panel);
-        let refusal = u.run().unwrap_err();
-        assert_eq!(bits(&u.panel), before);
-        place(refusal)
-    }
-
-    /// With a change it is accepted, and the panel is as it was.
-    fn idle(change: impl FnOnce(&mut Update)) {
-        let mut u = Update::sound();
-        change(&mut u);
-        let before = bits(&u.panel);
-        assert_eq!(u.run(), Ok(()));
-        assert_eq!(bits(&u.panel), before);
+impl Call {
+    /// The buffers' names, types and uses.
+    fn all(&self) -> impl Iterator<Item = (&'static str, &'static str, &'static str)> {
+        self.buffers.split_whitespace().map(|buffer| {
+            let (name, kind) = buffer.split_once(':').expect("a type");
+            let (kind, role) = kind.split_once(':').unwrap_or((kind, ""));
+            (name, kind, role)
+        })
     }
 }
 
-#[test]
-fn refusal_13() {
-    let below = ROWS_MAX - 1;
-    let shapes = [(COLUMNS, COLUMNS, 2, 3), (1, ROWS, 2, 3), (2, 1, 2, 3), (2, 4, COLUMNS, 3), (2, 4, 2, below)];
-    let greatest = [(usize::MAX, usize::MAX, 2, 3), (2, 4, usize::MAX, 3), (2, 4, 2, usize::MAX)];
-    for shape in shapes.into_iter().chain(greatest) {
-        assert_eq!(Update::changed(|u| (u.ncol, u.nrow, u.nk, u.mk) = shape), (13, 0, 0));
+impl<'a> Case<'a> {
+    /// Words before the buffers are lent, and those after it.
+    fn read(&mut self, call: &Call, text: &'a str, lent: bool) -> Option<()> {
+        for word in text.split_whitespace() {
+            match word.split_once('=') {
+                Some(("lift", floor)) if call.settings.contains(&"lift") => {
+                    self.lift = Some(floor.parse().ok()?);
+                }
+                Some((name, size)) if call.settings.contains(&name) => {
+                    self.sizes.insert(name, whole(size)?);
+                }
+                Some((name, list)) if !lent && call.all().any(|buffer| buffer.0 == name) => {
+                    self.lists.insert(name, list);
+                }
+                Some(_) => return None,
+                None => match word.split_once(':')? {
+                    (name, "+1") => self.buffers.get_mut(name)?.push(0),
+                    (name, "-1") => drop(self.buffers.get_mut(name)?.pop()?),
+                    _ => return None,
+                },
+            }
+        }
+        Some(())
     }
-    let cuts: [fn(&mut Update); 7] = [
-        |u| u.rows.truncate(u.rows.len() - 1),
-        |u| u.panel.truncate(u.panel.len() - 1),
-        |u| u.kpanel.truncate(u.kpanel.len() - 1),
-        |u| u.kd.truncate(u.kd.len() - 1),
-        |u| u.ksub.truncate(u.ksub.len() - 1),
-        |u| u.kblocks.truncate(u.kblocks.len() - 1),
-        |u| u.krows.truncate(u.krows.len() - 1),
-    ];
-    for cut in cuts {
-        assert_eq!(Update::changed(cut), (13, 0, 0));
+
+    /// The buffers, with what their lists say over patterns. A factor call has all of them, its input the unit matrix.
+    fn lend(&mut self, call: &Call) -> Option<()> {
+        if call.name == "factor" {
+            let (ncol, nrow) = (self.sizes["ncol"], self.sizes["nrow"]);
+            let unit = |j| (j..nrow).map(move |i| if i == j || i >= ncol { 1.0 } else { 0.0 });
+            let lower: Vec<f64> = (0..ncol).flat_map(unit).collect();
+            let made = common::Call::wide(ncol, nrow, self.sizes["nb"], &lower);
+            self.buffers = call.all().map(|buffer| buffer.0).zip(made.memory()).collect();
+        }
+        for (name, kind, _) in call.all() {
+            let pattern = |i: usize| if kind == "f64" { 0x7FF0_0000_0000_0001 + i as u64 } else { 0xA5 };
+            match self.lists.get(name) {
+                None | Some(&"unit") => drop(self.buffers.get(name)?),
+                Some(list) => drop(self.buffers.insert(name, elements(list, kind, pattern)?)),
+            }
+        }
+        Some(())
     }
 }
 
-#[test]
-fn refusal_14() {
-    assert_eq!(Update::changed(|u| u.rows[3] = 8), (14, 0, 0));
-    assert_eq!(Update::changed(|u| u.first = 4), (14, 0, 0));
-    assert_eq!(Update::changed(|u| u.rows[1] = 7), (14, 0, 0));
+// ---- lines
+
+/// Whether a case is so, with what it answers; None if it cannot be read.
+fn judge(sound: &BTreeMap<&str, &str>, line: &str) -> Option<Result<(), String>> {
+    let (asked, answer) = line.split_once(" -> ")?;
+    let (asked, changes) = asked.split_once('|').unwrap_or((asked, ""));
+    let (name, settings) = asked.split_once(' ').unwrap_or((asked, ""));
+    let call = CALLS.iter().find(|call| call.name == name)?;
+    let mut c = Case::default();
+    c.read(call, sound.get(name)?, false)?;
+    c.read(call, settings, false)?;
+    c.lend(call)?;
+    c.read(call, changes, true)?;
+
+    let (said, after) = (call.make)(&c);
+    let said = match said {
+        Ok(Report { rounds, inertia: i }) => [0, 0, 0, rounds, i.positive, i.negative, i.zero],
+        Err(why) => [why.number, why.a, why.b, 0, 0, 0, 0],
+    };
+    let mut left = c.buffers.clone();
+    left.extend(after);
+    let (want, expected) = expected(call, &c.buffers, &left, answer)?;
+    let same = said == want && left == expected;
+    Some(if same { Ok(()) } else { Err(format!("{said:?}, buffers as stated: {}", left == expected)) })
+}
+
+/// The answer that a line states, and what is expected of the buffers after it: of what they held and were left with.
+fn expected<'a>(call: &Call, held: &Buffers<'a>, left: &Buffers<'a>, text: &str) -> Option<([usize; 7], Buffers<'a>)> {
+    let words: Vec<&str> = text.split_whitespace().collect();
+    let mut expected = held.clone();
+    if let [number, a, b, what @ ("nothing" | "zeros")] = words[..] {
+        for (name, _, _) in call.all().filter(|buffer| what == "zeros" && !buffer.2.is_empty()) {
+            expected.get_mut(name)?.fill(0);
+        }
+        return Some(([whole(number).filter(|&n| n > 0)?, whole(a)?, whole(b)?, 0, 0, 0, 0], expected));
+    }
+    let ["accepted", rounds, positive, negative, zero, ref named @ ..] = words[..] else { return None };
+    for (name, _, role) in call.all() {
+        match role {
+            "written" => expected.get_mut(name)?.clone_from(&left[name]),
+            "work" => expected.get_mut(name)?.fill(0),
+            _ => {}
+        }
+    }
+    if call.name == "factor" {
+        let nrow = held["order"].len();
+        for j in 0..held["d"].len() {
+            expected.get_mut("panel")?[j * nrow..][..j].copy_from_slice(&held["input"][j * nrow..][..j]);
+        }
+    }
+    for word in named {
+        let (name, list) = word.split_once('=')?;
+        let (name, kind, _) = call.all().find(|buffer| buffer.0 == name)?;
+        let list = elements(list, kind, |i| held[name].get(i).map_or(0, |&x| x))?;
+        (list.len() == held[name].len()).then(|| expected.insert(name, list))?;
+    }
+    Some(([0, 0, 0, whole(rounds)?, whole(positive)?, whole(negative)?, whole(zero)?], expected))
 }
 
 #[test]
-fn refusal_15() {
-    assert_eq!(Update::changed(|u| u.krows[1] = 6), (15, 0, 0));
-}
-
-#[test]
-fn refusal_16() {
-    assert_eq!(Update::changed(|u| u.kblocks[0] = 2), (16, 0, 0));
-    assert_eq!(Update::changed(|u| u.kblocks[1] = 1), (16, 1, 0));
-    let count = |blocks: &[u8]| inertia(&[1.0; 3], &[0.0; 3], blocks).map_err(place);
-    assert_eq!(count(&[0, 2, 0]), Err((16, 1, 0)));
-    assert_eq!(count(&[0, 0, 1]), Err((16, 2, 0)));
-    assert_eq!(count(&[1, 1, 0]), Err((16, 0, 0)));
-}
-
-#[test]
-fn refusal_17() {
-    assert_eq!(Update::changed(|u| u.krows[1] = 7), (17, 1, 0));
-    assert_eq!(Update::changed(|u| (u.krows[1], u.kd[0]) = (7, NAN)), (17, 1, 0));
-    // no row lands; no columns
-    Update::idle(|u| u.krows = vec![7, 10, 11]);
-    Update::idle(|u| {
-        u.nk = 0;
-        [&mut u.kpanel, &mut u.kd, &mut u.ksub].into_iter().for_each(Vec::clear);
-        u.kblocks.clear();
-        u.krows[1] = 7;
-    });
-}
-
-#[test]
-fn refusal_18() {
-    assert_eq!(Update::changed(|u| u.kpanel[4 + 5] = NAN), (18, 1, 0));
-    assert_eq!(Update::changed(|u| (u.kpanel[4 + 5], u.kd[0]) = (NAN, INF)), (18, 0, 0));
-    assert_eq!(Update::changed(|u| u.kblocks[0] = 1), (18, 0, 0));
-}
-
-/// The sound update: row 6 lands on column 1, and the rows 6, 8, 9 of that column alone are written.
-#[test]
-fn a_landing_row_updates_its_column() {
-    let mut u = Update::sound();
-    u.panel[5..].fill(100.0);
-    assert_eq!(u.run(), Ok(()));
-    assert_eq!(u.panel[5..], [87.0, 82.0, 77.0]);
-    assert_eq!(bits(&u.panel[..5]), bits(&patterns(5)));
-}
-
-// ---- inertia
-
-#[test]
-fn refusal_19() {
-    let count =
-        |d: usize, sub: usize, blocks: usize| inertia(&vec![1.0; d], &vec![0.0; sub], &vec![2; blocks]).map_err(place);
-    assert_eq!(count(2, 3, 3), Err((19, 0, 0)));
-    assert_eq!(count(3, 2, 3), Err((19, 0, 0)));
-    assert_eq!(count(3, 3, 2), Err((19, 0, 0)));
-    assert_eq!(count(COLUMNS, COLUMNS, COLUMNS), Err((19, 0, 0)));
+fn every_line() {
+    let (mut sound, mut passed, mut failed) = (BTreeMap::new(), 0, String::new());
+    let lines = include_str!("../../tests/refusals.txt").lines().zip(1..);
+    for (line, number) in lines.filter(|(line, _)| !line.is_empty() && !line.starts_with('#')) {
+        if let Some((name, settings)) = line.strip_prefix("sound ").and_then(|text| text.split_once(' ')) {
+            assert!(CALLS.iter().any(|call| call.name == name), "line {number} names no call: {line}");
+            sound.insert(name, settings);
+            continue;
+        }
+        let (wrong, unread) = (line.strip_prefix("wrong: "), line.strip_prefix("unread: "));
+        let answer = judge(&sound, wrong.or(unread).unwrap_or(line));
+        if answer.as_ref().map(Result::is_ok) == if unread.is_some() { None } else { Some(wrong.is_none()) } {
+            passed += 1;
+        } else {
+            failed += &format!("line {number}: {answer:?}: {line}\n");
+        }
+    }
+    assert!(failed.is_empty() && passed > 0, "{passed} passed, and not (None: cannot be read):\n{failed}");
 }
 
 // ---- words
 
 #[test]
 fn a_refusal_is_an_error_in_words() {
-    let mut factors = Factors::zeros(1, 1, 1);
-    let settings = sound().settings;
-    let error: Box<dyn std::error::Error> = Box::new(misuktaan::factor(&settings, &[], factors.lend()).unwrap_err());
+    let settings = Settings { ncol: 1, nrow: 1, nb: 1, mode: Mode::Fail, limit: 1 };
+    let refusal = misuktaan::factor(&settings, &[], Factors::zeros(1, 1, 1).lend()).unwrap_err();
+    let error: Box<dyn std::error::Error> = Box::new(refusal);
     assert_eq!(error.to_string(), "refused 3 at 0, 0: a buffer's length differs from its stated one");
 }
