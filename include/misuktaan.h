@@ -23,21 +23,22 @@
  * Pointers and floating point are all that a caller must see to: the rest is checked, and refused by number. No call
  * allocates, waits, or ends the program.
  *
- * REFUSALS. A call tests in the order of the numbers below, 19 before 16; the first condition that is met is the
- * answer. Numbers never shift. Places count from 0. COLUMNS_MAX, ROWS_MAX, WIDTH_MAX and LIMIT_MAX are the constants
- * MISUKTAAN_COLUMNS_MAX and so on below, here and wherever a size is stated.
+ * REFUSALS. A call tests in the order in which its Returns lists the numbers; the first condition that is met is the
+ * answer. Numbers never shift. Places count from 0, and are 0, 0 where none is named. COLUMNS_MAX, ROWS_MAX, WIDTH_MAX
+ * and LIMIT_MAX are the constants MISUKTAAN_COLUMNS_MAX and so on below, here and wherever a size is stated.
  *
  *   number  call      condition                                                       place a, b
  *   1       factor    ncol > COLUMNS_MAX, nrow > ROWS_MAX or nrow < ncol              0, 0
  *   2       factor    nb is 0 or above WIDTH_MAX                                      0, 0
  *   3       factor    a buffer's length differs from its stated one                   0, 0
- *   4       factor    lifts, and the floor is not finite or not above zero            0, 0
- *   5       factor    lifts, and the limit is 0 or above LIMIT_MAX                    0, 0
- *   6       factor    a lower or tail number of the input is not finite               least column, its least row
- *   7       factor    no lifts: the column test finds zero, the chosen 1x1 pivot is   position, 0
- *                     zero, or a block's |det| is at most its growth floor
- *   8       factor    lifts: a block needs more rounds than the limit                 position, 0
- *   9       factor    after the last column: a column holds a d, subdiagonal, lower   least column, 0
+ *   4       factor    with lifts: the floor is not finite or not above zero           0, 0
+ *   5       factor    with lifts: the round limit is 0 or above LIMIT_MAX             0, 0
+ *   6       factor    a lower or tail number of the input is not finite               least such column, its least
+ *                                                                                     such row
+ *   7       factor    without lifts: the column test finds zero, the chosen 1x1       elimination position, 0
+ *                     pivot is zero, or a block's |det| is at most its growth floor
+ *   8       factor    with lifts: a block needs more rounds than the limit            elimination position, 0
+ *   9       factor    after the last column: a column holds a d, subdiagonal, lower   least such column, 0
  *                     head number, block determinant, or reciprocal of a 1x1 pivot
  *                     or determinant that is not finite; a block's determinant
  *                     belongs to its first column
@@ -52,9 +53,9 @@
  *   15      update    descendant rows do not rise strictly                            0, 0
  *   16      update,   a block byte is not 0 or 1, or a 1 stands last or right before  least such place, 0
  *           inertia   another 1
- *   17      update    nk > 0, a descendant row lands on the target's columns, and it  first absent row, by its
- *                     or a later row is absent from the target                        place in krows, 0
- *   18      update    a descendant column has a number below its head, or a d, or a   least column, 0
+ *   17      update    nk > 0, a descendant row lands on the target's columns, and it  place of the first such
+ *                     or a later row is absent from the target                        descendant row, 0
+ *   18      update    a descendant column has a number below its head, or a d, or a   least such column, 0
  *                     subdiagonal under a 1, that is not finite
  *   19      inertia   the three lists differ in length or exceed COLUMNS_MAX          0, 0
  *
@@ -147,7 +148,7 @@ struct misuktaan_outcome misuktaan_factor(
 /*
  * Counts the eigenvalues of D by sign.
  *
- * Returns: number 0 with the counts, rounds 0; or refusal 19 or 16.
+ * Returns: number 0 with the counts, rounds 0; or a refusal of 19, 16.
  * In:   d, sub, blocks  D as a factor call gives it, one length of at most COLUMNS_MAX. Numbers may be anything: a 1x1
  *                       that is a zero or a not-a-number counts as zero.
  */

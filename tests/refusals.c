@@ -1,7 +1,8 @@
 /*
- * Every line of tests/refusals.txt from C; that file says what its lines mean. All buffers of a call, those that it only
- * reads too, lie in one block of memory with gaps between them. The block is filled with signalling not-a-numbers, each
- * with a payload of its own, and is compared byte for byte after the call. A buffer of length 0 points nowhere.
+ * Every line of tests/refusals.txt from C; that file says what its lines mean. All buffers of a call, those that it
+ * only reads too, lie in one block of memory with gaps between them. The block is filled with signalling
+ * not-a-numbers, each with a payload of its own, and is compared byte for byte after the call. A buffer of length 0
+ * points nowhere.
  * Argument: the file. Prints `N passed, 0 failed`; exits 1 if a line failed.
  */
 #include "misuktaan.h"
@@ -203,7 +204,7 @@ static bool elements(const char *text, enum type type, unsigned char *to, size_t
     return true;
 }
 
-/* A word about a buffer: a list to lend it with; once it is lent, a change of its length; in an answer what it holds. */
+/* A word about a buffer: a list to lend it with; once lent, a change of its length; in an answer what it holds. */
 static bool buffer_is(size_t b, const char *rest, const unsigned char *block)
 {
     if (block == memory) {
@@ -229,8 +230,8 @@ static bool setting_is(size_t s, const char *rest)
     return *rest == '=' && (is_lift ? real(rest + 1, &lift) : whole(rest + 1, &size[s]));
 }
 
-/* Words before the buffers are lent, where there is no block; of `memory`, changes; of `expected`, an answer's. Without a
- * text, those that strtok has left. */
+/* Words before the buffers are lent, where there is no block; of `memory`, changes; of `expected`, an answer's.
+ * Without a text, those that strtok has left. */
 static bool words(char *text, const unsigned char *block)
 {
     bool read = true;

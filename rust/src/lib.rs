@@ -59,23 +59,36 @@ impl Refusal {
     pub fn condition(&self) -> &'static str {
         match self.number {
             1 => "ncol > COLUMNS_MAX, nrow > ROWS_MAX or nrow < ncol",
-            2 => "the panel width is 0 or above WIDTH_MAX",
+            2 => "nb is 0 or above WIDTH_MAX",
             3 => "a buffer's length differs from its stated one",
-            4 => "the floor is not finite or not above zero",
-            5 => "the round limit is 0 or above LIMIT_MAX",
+            4 => "with lifts: the floor is not finite or not above zero",
+            5 => "with lifts: the round limit is 0 or above LIMIT_MAX",
             6 => "a lower or tail number of the input is not finite",
-            7 => "a zero column, a zero 1x1 pivot, or a block whose determinant is at most its growth floor",
-            8 => "a block needs more rounds than the limit",
-            9 => "a column of the factor holds a number, or a pivot has a reciprocal, that is not finite",
-            10 => "the shape fails as in 1, or the length of a list or of the panel is wrong",
-            11 => "an entry lies outside the lower triangle and the tail",
+            7 => {
+                "without lifts: the column test finds zero, the chosen 1x1 pivot is zero, or a block's |det| is \
+                 at most its growth floor"
+            }
+            8 => "with lifts: a block needs more rounds than the limit",
+            9 => {
+                "after the last column: a column holds a d, subdiagonal, lower head number, block determinant, or \
+                 reciprocal of a 1x1 pivot or determinant that is not finite; a block's determinant belongs to \
+                 its first column"
+            }
+            10 => "the shape fails as in 1, or a list's or the panel's length is wrong",
+            11 => "an entry has row >= nrow, column >= ncol or row < column",
             12 => "an entry is not finite",
-            13 => "a shape fails, or a length is wrong",
-            14 => "the target's rows do not rise strictly, or do not begin with its columns",
-            15 => "the descendant's rows do not rise strictly",
+            13 => "the target's shape fails as in 1, nk > COLUMNS_MAX, nk + mk > ROWS_MAX, or a length is wrong",
+            14 => "target rows do not rise strictly, or do not begin first, first + 1, .. for ncol rows",
+            15 => "descendant rows do not rise strictly",
             16 => "a block byte is not 0 or 1, or a 1 stands last or right before another 1",
-            17 => "a row at or past the first landing is absent from the target",
-            18 => "a number of the descendant that is read is not finite",
+            17 => {
+                "nk > 0, a descendant row lands on the target's columns, and it or a later row is absent from the \
+                 target"
+            }
+            18 => {
+                "a descendant column has a number below its head, or a d, or a subdiagonal under a 1, that is not \
+                 finite"
+            }
             19 => "the three lists differ in length or exceed COLUMNS_MAX",
             _ => "not a refusal",
         }

@@ -11,8 +11,8 @@ use std::collections::BTreeMap;
 /// Buffers by their names.
 type Buffers<'a> = BTreeMap<&'a str, Vec<u64>>;
 
-/// A call: its settings; its buffers, each with its type, and `written` or `work` if it is lent for that alone; how it is
-/// made, with what it may have written.
+/// A call: its settings; its buffers, each with its type, and `written` or `work` if it is lent for that alone; how it
+/// is made, with what it may have written.
 struct Call {
     name: &'static str,
     settings: &'static [&'static str],
