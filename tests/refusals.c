@@ -356,7 +356,7 @@ static enum verdict judge(char *line, const char *sound)
     }
     struct misuktaan_outcome o = call->make();
     const size_t said[7] = {o.number, o.a, o.b, o.rounds, o.positive, o.negative, o.zero};
-    if (want[0] == 0) {
+    if (want[0] == 0 && o.number == 0) {
         expect_accepted();
     }
     bool same = memcmp(memory, expected, BYTES) == 0;
