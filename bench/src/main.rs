@@ -2,12 +2,13 @@
 //! the same nodes, in turn, and LAPACK's dsytf2 on their heads. The answers of
 //! the two are compared by bits first. Arguments: the seed, and a number by which
 //! the repetitions are divided. A line a shape and one for each of its nodes are
-//! printed, for `report`.
+//! printed, for `report`. `inputs` and the seed, and `once`, are for `layers`.
 
 mod apart;
 #[allow(dead_code)]
 #[path = "../../oracle/src/compare/call.rs"]
 mod call;
+mod once;
 
 use misuktaan::Factors;
 use oracle::case::{Factor, Mode, Settings};
@@ -62,6 +63,12 @@ fn node(rng: &mut Rng, shape: &Shape) -> Factor {
         (0..nrow * ncol).map(|_| (rng.next() >> 11) as f64 / (1u64 << 52) as f64 - 1.0).collect();
     (0..ncol).step_by(2).for_each(|k| panel[k + k * nrow] /= 100.0);
     Factor { settings: Settings { ncol, nrow, nb, mode: Mode::Fail, limit: 1 }, panel, lengths: None }
+}
+
+/// The nodes of each shape.
+fn nodes(seed: u64) -> Vec<Vec<Factor>> {
+    let mut rng = Rng::new(seed);
+    SHAPES.iter().map(|shape| (0..NODES).map(|_| node(&mut rng, shape)).collect()).collect()
 }
 
 // ---- LAPACK
@@ -190,12 +197,10 @@ impl Timed {
     }
 }
 
-fn main() {
-    let mut args = std::env::args().skip(1).map(|a| a.parse().expect("a number"));
-    let (seed, part) = (args.next().unwrap_or(1), args.next().unwrap_or(1) as usize);
-    let mut rng = Rng::new(seed);
+/// The best times of all nodes, printed.
+fn timed(seed: u64, part: usize) {
     let mut nodes: Vec<Vec<Timed>> =
-        SHAPES.iter().map(|shape| (0..NODES).map(|_| Timed::new(node(&mut rng, shape))).collect()).collect();
+        nodes(seed).into_iter().map(|of| of.into_iter().map(Timed::new).collect()).collect();
     for _ in 0..ROUNDS {
         for (shape, nodes) in SHAPES.iter().zip(&mut nodes) {
             nodes.iter_mut().for_each(|node| node.run(shape.runs_in(part)));
@@ -208,5 +213,15 @@ fn main() {
         let runs = ROUNDS * shape.runs_in(part);
         println!("shape {ncol} {nrow} {nb} {runs} {target:.2} {share:.2}");
         nodes.iter().for_each(|Timed { best: [rust, ours, square], .. }| println!("node {rust:.3} {ours:.3} {square:.3}"));
+    }
+}
+
+fn main() {
+    let words: Vec<String> = std::env::args().skip(1).collect();
+    let number = |at: usize| words.get(at).map_or(1, |word| word.parse().expect("a number"));
+    match words.first().map(String::as_str) {
+        Some("inputs") => once::inputs(&nodes(number(1))),
+        Some("once") => once::calls(),
+        _ => timed(number(0), number(1) as usize),
     }
 }
