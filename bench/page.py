@@ -10,9 +10,11 @@ def told(*command):
     return subprocess.run(command, capture_output=True, text=True, check=True, cwd=PAGE.parent).stdout.strip()
 
 
-def commit():
-    """What was built: the commit, and whether the tree holds anything else."""
-    return told("git", "describe", "--always", "--dirty= and changes")
+def library():
+    """Which library was measured: the last commit that changed its code, and whether the tree holds other code."""
+    code = PAGE.parent.parent / "crates/*/src/*"
+    commit = told("git", "log", "-1", "--format=%h", "--", code)
+    return f"the code of {commit}" + (" and changes" if told("git", "status", "--porcelain", "--", code) else "")
 
 
 def table(head, rows):
