@@ -264,11 +264,13 @@ impl Reader {
         self.traced = Traced::Leaf(Leaf { name: name.to_string(), entry, calls: 0, taken: 0 });
     }
 
-    fn leaf_ends(&mut self) {
-        if let Traced::Leaf(leaf) = &self.traced {
-            leaf.print();
+    /// The driver has gone on to something else.
+    fn ends(&mut self) {
+        match std::mem::replace(&mut self.traced, Traced::Nothing) {
+            Traced::Leaf(leaf) => leaf.print(),
+            Traced::Factor(_) => panic!("the end of a call was not seen"),
+            Traced::Nothing => {}
         }
-        self.traced = Traced::Nothing;
     }
 
     /// An instruction, a load, a store or both.
@@ -301,12 +303,15 @@ impl Reader {
 
     fn line(&mut self, line: &str) {
         match line.split_once(' ') {
-            Some(("call", numbers)) => return self.factor_begins(numbers),
+            Some(("call", numbers)) => {
+                self.ends();
+                return self.factor_begins(numbers);
+            }
             Some(("leaf", name)) => {
-                self.leaf_ends();
+                self.ends();
                 return self.leaf_begins(name);
             }
-            None => return self.leaf_ends(),
+            None => return self.ends(),
             _ if matches!(self.traced, Traced::Nothing) => return,
             _ => {}
         }
