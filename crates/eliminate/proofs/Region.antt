@@ -8,9 +8,10 @@ use borrow.Author.Tests.{lt-ltb, le-ltb, le-leb, lt-leb, eq-eqb, ne-eqb, leb-tru
 use lib.Dec.{leb}
 use lib.Ieee.{Float}
 use Rattle.model.specs.Matrix.{Row, Mat, within, withColumn}
+use Rattle.model.proofs.Cases.{test, cmp}
 use Rattle.grid.specs.Grid.{In}
 use Rattle.grid.specs.Rules.{columnOf, lessTimesIf, lessTwo, LaterPre}
-use Rattle.grid.proofs.Laws.{test, cmp, in-panel, col-in}
+use Rattle.grid.proofs.Laws.{in-panel, col-in}
 use Rattle.eliminate.specs.Eliminate.{inPanel, region, sweptOne, sweptTwo}
 use Rattle.eliminate.proofs.Buffer.{kept-at}
 

@@ -10,8 +10,9 @@ use lib.Dec.{ltb, leb, eqb}
 use lib.ListN.{length, getD, set, length-set}
 use lib.Ieee.{Float, nan}
 use Rattle.model.specs.Matrix.{Mat, columnStart, view, putAt}
+use Rattle.model.proofs.Cases.{test, no}
 use Rattle.grid.specs.Grid.{In}
-use Rattle.grid.proofs.Laws.{test, no, view-read, view-written}
+use Rattle.grid.proofs.Laws.{view-read, view-written}
 use Rattle.exchange.specs.Exchange.{cellsSwapped, crossExchanged, diagonalExchanged, rowsExchanged}
 
 -- (i, j) and (k, l) exchanged

@@ -2,15 +2,17 @@
 use Prim.Native.Nat.{ℕ, _+_, _<_, _≤_}
 use mathlib.Core.Path.{_≡_, refl, sym, _∙_, fun-ext}
 use mathlib.Core.Logic.{_≢_}
-use mathlib.Core.Bool.{Bool, true, false, _&&_, false≢true}
+use mathlib.Core.Bool.{Bool, true, false, _&&_}
 use native.Mathlib.Omega.{arith}
 use borrow.Author.Tests.{lt-ltb, le-ltb, le-leb, lt-leb, eq-eqb, ne-eqb, eqb-true, eqb-false, ltb-true, ltb-false, leb-true}
 use lib.Dec.{ltb, leb, eqb}
 use Rattle.model.specs.Matrix.{Mat, exchanged, exchangedPlace}
 use Rattle.grid.specs.Rules.{columnsExchanged}
-use Rattle.grid.proofs.Laws.{test, cmp, no, col-in}
+use Rattle.model.proofs.Cases.{test, cmp, no, and-left, and-right}
+use Rattle.model.proofs.Exchanged.{exchanged-in, exchanged-up, exchanged-past}
+use Rattle.grid.proofs.Laws.{col-in}
 use Rattle.exchange.specs.Exchange.{crossExchanged, diagonalExchanged, rowsExchanged, PartsPre, ExchangePre}
-use Rattle.exchange.proofs.Laws.{place-p, place-q, place-no, keep, turn, exchanged-in, exchanged-up, exchanged-past}
+use Rattle.exchange.proofs.Laws.{place-p, place-q, place-no, keep, turn}
 
 -- ---- tests
 
@@ -18,22 +20,14 @@ off : (b : Bool) → (b ≡ true → ⊥) → b ≡ false
 off true h = absurd (h refl)
 off false h = refl
 
-and-l : (x y : Bool) → x && y ≡ true → x ≡ true
-and-l true y e = refl
-and-l false y e = e
-
-and-r : (x y : Bool) → x && y ≡ true → y ≡ true
-and-r true y e = e
-and-r false y e = absurd (false≢true e)
-
 -- a place of a part, from its test
 part-not : (x y lo a hi : ℕ) → (x ≡ y → lo ≤ a → a < hi → ⊥) → eqb x y && (leb lo a && ltb a hi) ≡ false
 part-not x y lo a hi h =
-    off _ (λ t. let r = and-r (eqb x y) _ t in
-    h (eqb-true x y (and-l (eqb x y) _ t)) (leb-true lo a (and-l (leb lo a) _ r)) (ltb-true a hi (and-r (leb lo a) _ r)))
+    off _ (λ t. let r = and-right (eqb x y) _ t in
+    h (eqb-true x y (and-left (eqb x y) _ t)) (leb-true lo a (and-left (leb lo a) _ r)) (ltb-true a hi (and-right (leb lo a) _ r)))
 
 cell-not : (x y z w : ℕ) → (x ≡ y → z ≡ w → ⊥) → eqb x y && eqb z w ≡ false
-cell-not x y z w h = off _ (λ t. h (eqb-true x y (and-l (eqb x y) _ t)) (eqb-true z w (and-r (eqb x y) _ t)))
+cell-not x y z w h = off _ (λ t. h (eqb-true x y (and-left (eqb x y) _ t)) (eqb-true z w (and-right (eqb x y) _ t)))
 
 -- ---- after the columns, A; the cross, B; the diagonal, C; the rows, D
 
@@ -110,19 +104,19 @@ module _ (M : Mat) (p q lim : ℕ) (d : p < q) (u : q < lim) where
   -- the exchange, at a place whose exchanged row and column are x and y
   kept : (a b x y : ℕ) → b ≤ a → a < lim → exchangedPlace p q a ≡ x → exchangedPlace p q b ≡ y → y ≤ x → M x y ≡ E a b
   unfolding E
-  kept a b x y h l e f g = keep M x y g ∙ sym (exchanged-in M p q lim a b h l ∙ rw (e, f))
+  kept a b x y h l e f g = keep M x y g ∙ sym (exchanged-in p q lim M a b h l ∙ rw (e, f))
 
   turned : (a b x y : ℕ) → b ≤ a → a < lim → exchangedPlace p q a ≡ x → exchangedPlace p q b ≡ y → x ≤ y → M y x ≡ E a b
   unfolding E
-  turned a b x y h l e f g = turn M x y g ∙ sym (exchanged-in M p q lim a b h l ∙ rw (e, f))
+  turned a b x y h l e f g = turn M x y g ∙ sym (exchanged-in p q lim M a b h l ∙ rw (e, f))
 
   E-up : (a b : ℕ) → a < b → M a b ≡ E a b
   unfolding E
-  E-up a b h = sym (exchanged-up M p q lim a b h)
+  E-up a b h = sym (exchanged-up p q lim M a b h)
 
   E-past : (a b : ℕ) → lim ≤ a → M a b ≡ E a b
   unfolding E
-  E-past a b h = sym (exchanged-past M p q lim a b h)
+  E-past a b h = sym (exchanged-past p q lim M a b h)
 
   -- a row and a column that are neither p nor q
   stay : (a b : ℕ) → a ≢ p → a ≢ q → b ≢ p → b ≢ q → M a b ≡ E a b

@@ -1,20 +1,19 @@
 -- What an accepted call may be relied on for: its order is a permutation that leaves the tail in place, and its block bytes are well formed, so that
 -- inertia and update never answer 16 to them. Assumes nothing.
 use mathlib.Core.Path.{_≡_, refl, sym, _∙_, ap, subst}
-use mathlib.Core.Logic.{_⊎_, inl, inr, ⊎-elim}
-use mathlib.Core.Bool.{Bool, true, false, cond, not, _&&_, _||_}
+use mathlib.Core.Bool.{true}
 use mathlib.Core.List.{List}
 use Prim.Native.Nat.{ℕ, zero, suc, _+_, _-_, _≤_, _<_, min, max}
 use native.Mathlib.Omega.{arith}
-use borrow.Author.Tests.{lt-ltb, le-ltb, le-leb, eq-eqb, ne-eqb, eqb-true, eqb-false, ltb-true, ltb-false}
-use lib.Dec.{leb, ltb, eqb}
-use lib.ListN.{length, getD}
-use Rattle.model.specs.Matrix.{Mat, view, headOf, bytes, put, exchangedPlace, swapped, tabulate}
-use Rattle.model.specs.Step.{Pivots, begins, isBlock}
+use borrow.Author.Tests.{le-leb, ne-eqb, eqb-true, ltb-true, ltb-false}
+use lib.Dec.{ltb, eqb}
+use lib.ListN.{length}
+use Rattle.model.specs.Matrix.{Mat, view, headOf, bytes, exchangedPlace, swapped, tabulate}
+use Rattle.model.specs.Step.{Pivots, isBlock}
 use Rattle.model.specs.Kept.{Paired, Recorded}
 use Rattle.model.specs.Panel.{Panel}
 use Rattle.model.specs.Head as head
-use Rattle.model.specs.Head.{State, Tried, took, tryOf, lastOf, byteOf, noted, Progress, stopped, going, after, panelOf, Run, done, closed, passed, withPanel, continued, panelsOf}
+use Rattle.model.specs.Head.{State, lastOf, noted, Progress, stopped, going, panelOf, Run, done, closed, passed, withPanel, continued, panelsOf}
 use Rattle.model.specs.Inertia.{byteSound, bytesFrom, checkBytes}
 use Rattle.model.specs.Factor.{pivotingOf, Outcome, start, headRunOf, HeadAnswer, fails, stands, judged, judgedRun, headAnswerOf, entryCheck, resultCheck, afterHead, afterCheck, factorOf}
 use Rattle.model.specs.Answer.{Said, accepted, turnedAway}
@@ -26,7 +25,8 @@ use Rattle.model.specs.declared.Refusal.{Refusal}
 use Rattle.model.specs.declared.Check.{Check}
 use Rattle.model.specs.declared.Check.the-variants.{Sound, Refused}
 use Rattle.model.proofs.Tabulated.{length-tabulateFrom, getD-tabulate}
-use Rattle.model.proofs.Cases.{test, cmp}
+use Rattle.model.proofs.Cases.{test}
+use Rattle.model.proofs.Exchanged.{place-twice, place-past}
 use Rattle.model.proofs.Entry.{Passed, passed as entry-passed, past-entry}
 use Rattle.model.proofs.Bounds.{GoodPivot}
 use Rattle.model.proofs.Recorded.{last-from, Reached, panel-reached, noted-recorded, none-recorded}
@@ -40,21 +40,6 @@ pub record Permutes (n : ℕ) (f : ℕ → ℕ) : Type 0 where
   pub right : (i : ℕ) → f (inverse i) ≡ i
   pub fixes : (i : ℕ) → n ≤ i → f i ≡ i
 
--- an exchange of places done twice is none
-pub place-twice : (p q i : ℕ) → exchangedPlace p q (exchangedPlace p q i) ≡ i
-place-twice p q i =
-    test (eqb i p)
-    (λ e. let x : i ≡ p = eqb-true i p e in rw e (test (eqb q p)
-    (λ f. let y : q ≡ p = eqb-true q p f in rw f (omega arith))
-    (λ f. rw (f, eq-eqb q q refl) (sym x))))
-    (λ e. rw e (test (eqb i q)
-    (λ f. rw (f, eq-eqb p p refl) (sym (eqb-true i q f)))
-    (λ f. rw (f, e, f))))
-
--- an exchange of two places below n moves nothing at or past n
-pub place-past : (n p q i : ℕ) → p < n → q < n → n ≤ i → exchangedPlace p q i ≡ i
-place-past n p q i hp hq h = rw (ne-eqb i p (λ e. omega arith), ne-eqb i q (λ e. omega arith))
-
 -- an exchange of two places below n leaves a permutation
 pub swapped-permutes : (n : ℕ) (f : ℕ → ℕ) (p q : ℕ) → p < n → q < n → Permutes n f → Permutes n (swapped f p q)
 unfolding swapped
@@ -62,7 +47,7 @@ swapped-permutes n f p q hp hq w = record {
   inverse = λ i. exchangedPlace p q (w .inverse i);
   left = λ i. ap (λ (x : ℕ). exchangedPlace p q x) (w .left (exchangedPlace p q i)) ∙ place-twice p q i;
   right = λ i. ap f (place-twice p q (w .inverse i)) ∙ w .right i;
-  fixes = λ i h. ap f (place-past n p q i hp hq h) ∙ w .fixes i h;
+  fixes = λ i h. ap f (place-past p q n i hp hq h) ∙ w .fixes i h;
 }
 
 -- ---- the run keeps both

@@ -3,6 +3,8 @@ pub mod Cases
 pub mod Root
 pub mod Nearest
 pub mod Tabulated
+pub mod Exchanged
+pub mod Summed
 pub mod Entry
 pub mod Stations
 pub mod Independence

@@ -1,12 +1,12 @@
 -- What the record of pivots keeps to goes through every step of a panel: block bytes are well formed, and no exchange goes back. Assumes nothing.
 use mathlib.Core.Path.{_≡_, refl, sym, _∙_, ap, subst}
-use mathlib.Core.Bool.{Bool, true, false, cond}
+use mathlib.Core.Bool.{Bool, true, false}
 use Prim.Native.Nat.{ℕ, zero, suc, _+_, _-_, _≤_, _<_}
 use native.Mathlib.Omega.{arith}
 use borrow.Author.Tests.{eq-eqb, ne-eqb, ltb-true, ltb-false, eqb-true, eqb-false}
 use lib.Dec.{ltb, eqb}
 use Rattle.model.specs.Matrix.{put}
-use Rattle.model.specs.Step.{Pivots, begins, pastOf, firstOf, isBlock}
+use Rattle.model.specs.Step.{Pivots, pastOf, firstOf, isBlock}
 use Rattle.model.specs.Head.{State, Tried, refusedBy, took, tryOf, lastOf, byteOf, noted, Progress, stopped, going, after, panelOf}
 use Rattle.model.specs.Kept.{Paired, Starts, Ahead, Recorded}
 use Rattle.model.specs.declared.Pivoting.{Pivoting}
@@ -24,6 +24,11 @@ last-from k false = omega arith
 pub last-block : (k : ℕ) → lastOf k true ≡ k + 1
 unfolding lastOf
 last-block k = refl
+
+-- where a test says so
+pub last-wide : (k : ℕ) (two : Bool) → two ≡ true → lastOf k two ≡ k + 1
+unfolding lastOf
+last-wide k two e = rw e
 
 -- a 1x1's
 pub last-single : (k : ℕ) → lastOf k false ≡ k

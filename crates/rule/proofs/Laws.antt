@@ -1,7 +1,7 @@
 -- Laws of a pivot's numbers: the two constants, the ways through the tests of a 1x1 and of a block, a block's lift a round at a time. Assumes nothing.
 use mathlib.Core.Path.{_≡_, sym, ap, _∙_}
 use mathlib.Core.Bool.{Bool, true, false}
-use Prim.Native.Nat.{ℕ, zero, suc, _+_, _-_, _≤_, _<_}
+use Prim.Native.Nat.{ℕ, zero, _+_, _-_, _≤_, _<_}
 use native.Mathlib.Omega.{arith}
 use lib.Ieee.{Float, binary64, lt, le, eq, ofBits}
 use lib.Ieee.Bits.{ofBits-toBits}
@@ -16,6 +16,7 @@ use Rattle.model.specs.declared.Block.{Block}
 use Rattle.model.specs.declared.OneSettled.the-variants.{Zero, Number}
 use Rattle.model.specs.declared.TwoSettled.{TwoSettled}
 use Rattle.model.specs.declared.TwoSettled.the-variants.{Low, OutOfRounds, Numbers}
+use Rattle.model.proofs.Cases.{one-left}
 use Rattle.model.proofs.Nearest.{alpha-bits, growthEps-bits}
 
 -- ---- the constants, by the bits that their rounded steps have
@@ -59,20 +60,17 @@ module _ (b : Block) (bar step : Float) (limit : ℕ) where
   pub raised-none : Left 0 step
   raised-none = ap (λ (n : ℕ). raisedFrom b bar step n 1 step) (omega arith)
 
-  one-left : (done : ℕ) → done < limit → limit - done ≡ suc (limit - (done + 1))
-  one-left done h = omega arith
-
   module _ (done : ℕ) (sum m : Float) (block : Block) (i : Left done sum) (h : done < limit) (eb : block ≡ tried sum) (em : m ≡ magnitudeOf (block .det)) where
     seen : (t : Bool) → lt m bar ≡ t → lt (magnitudeOf (tried sum .det)) bar ≡ t
     seen t e = ap (λ (x : Block). lt (magnitudeOf (x .det)) bar) (sym eb) ∙ ap (λ (x : Float). lt x bar) (sym em) ∙ e
 
     pub raised-step : lt m bar ≡ true → Left (done + 1) (sum ⊕ step)
     unfolding raisedFrom
-    raised-step t = rw (one-left done h, seen true t) at i
+    raised-step t = rw (one-left limit done h, seen true t) at i
 
     pub raised-enough : lt m bar ≡ false → Numbers block 1 sum (done + 1) ≡ raisedFrom b bar step limit 1 step
     unfolding raisedFrom
-    raised-enough t = ap (λ (x : Block). Numbers x 1 sum (done + 1)) eb ∙ (rw (one-left done h, seen false t) at i)
+    raised-enough t = ap (λ (x : Block). Numbers x 1 sum (done + 1)) eb ∙ (rw (one-left limit done h, seen false t) at i)
 
   pub raised-out : (done : ℕ) (sum : Float) → Left done sum → limit ≤ done → OutOfRounds ≡ raisedFrom b bar step limit 1 step
   unfolding raisedFrom

@@ -19,9 +19,9 @@ use denote.Floats.{passes}
 use borrow.Author.Tests.{ltb-true, lt-ltb, ne-eqb}
 use Rattle.model.specs.Scalar.{_⊗_, zeroF, maximumOf, isFinite}
 use Rattle.model.specs.Root.{square, sqrtOf, alpha}
+use Rattle.model.proofs.Cases.{and-left, and-right}
 use Rattle.model.proofs.Root.{square-le, le-or-lt}
 use Rattle.model.proofs.Nearest.{sqrt-rounds}
-use Rattle.scan.proofs.Laws.{and-l, and-r}
 use Rattle.rule.specs.Reach.{Reaches, ReachPre}
 use Rattle.rule.proofs.Laws.{alpha-is}
 use Rattle.rule.proofs.Units.{ahead, unsigned, ahead-round, le-infinity, le-through, lt-not-le, mul-of, mul-grows, none, held, held-exact}
@@ -234,8 +234,8 @@ module _ (k : Float) (n c : ℕ) (C : 0 < c) (v : HasValue k false n c) where
   pub reached : (own x t : Float) → t ≡ alpha ⊗ low own → ReachPre own x → T (fits binary64 x) → lt x (low own ⊗ low own) && le t own ≡ true
       → Reaches own x
   reached own x t et m f w =
-      let h = and-l (lt x (low own ⊗ low own)) (le t own) w in
-      let g = and-r (lt x (low own ⊗ low own)) (le t own) w in
+      let h = and-left (lt x (low own ⊗ low own)) (le t own) w in
+      let g = and-right (lt x (low own ⊗ low own)) (le t own) w in
       ⊎-elim
       (λ (a : T (ahead own)).
       ⊎-elim (λ (b : T (ahead x)). both own x a b f h (subst (λ (y : Float). le y own ≡ true) et g))

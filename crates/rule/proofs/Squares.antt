@@ -18,9 +18,9 @@ use lib.Ieee.Scale.{grid, finite, round-val, round-under, normal-of-rounded}
 use borrow.Author.Tests.{ltb-true}
 use Rattle.model.specs.Scalar.{_⊗_, zeroF, isFinite, magnitudeOf, squareOf}
 use Rattle.model.specs.Root.{sqrtOf}
+use Rattle.model.proofs.Cases.{and-left, and-right}
 use Rattle.model.proofs.Nearest.{Nearer, pow-le-back, placed, asked, multiple, sqrt-rounds, held as digits-of}
 use Rattle.scan.specs.Greatest.{SquareOf}
-use Rattle.scan.proofs.Laws.{and-l as both-l, and-r as both-r}
 use Rattle.rule.proofs.Units.{mul-of, held}
 use Rattle.rule.proofs.Reach.{same-units, zero-below, finite-is}
 use Rattle.rule.proofs.Nearby.{Squared, squared, root-back}
@@ -180,8 +180,8 @@ least-not-below h = false≢true h
 
 pub root-spared : (square x m : Float) (f : Bool) → T (fits binary64 x) → SquareOf square x → f ≡ isFinite square → lt least square && f ≡ true
     → m ≡ magnitudeOf x → m ≡ sqrtOf square
-root-spared square x m f k (inl z) ef w em = absurd (least-not-below (ap (λ (y : Float). lt least y) (sym z) ∙ both-l (lt least square) f w))
+root-spared square x m f k (inl z) ef w em = absurd (least-not-below (ap (λ (y : Float). lt least y) (sym z) ∙ and-left (lt least square) f w))
 root-spared square x m f k (inr e) ef w em =
-    let above : lt least (squareOf x) ≡ true = ap (λ (y : Float). lt least y) (sym e) ∙ both-l (lt least square) f w in
-    let below : isFinite (squareOf x) ≡ true = ap isFinite (sym e) ∙ sym ef ∙ both-r (lt least square) f w in
+    let above : lt least (squareOf x) ≡ true = ap (λ (y : Float). lt least y) (sym e) ∙ and-left (lt least square) f w in
+    let below : isFinite (squareOf x) ≡ true = ap isFinite (sym e) ∙ sym ef ∙ and-right (lt least square) f w in
     em ∙ sym (root-of-square x k above below) ∙ ap sqrtOf (sym e)

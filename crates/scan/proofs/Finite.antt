@@ -17,12 +17,13 @@ use Rattle.model.specs.Factor.{everyFrom, columnCheck, columnsCheck, markOf}
 use Rattle.model.specs.declared.Refusal.the-variants.{Input}
 use Rattle.model.specs.declared.Check.{Check}
 use Rattle.model.specs.declared.Check.the-variants.{Sound, Refused}
-use Rattle.grid.proofs.Laws.{test, col-in}
+use Rattle.model.proofs.Cases.{test, one-left, none-left, and-left, and-right}
+use Rattle.grid.proofs.Laws.{col-in}
 use Rattle.grid.proofs.Parts.{column-at}
 use Rattle.scan.specs.Greatest.{DownPre}
 use Rattle.scan.specs.Finite.{markedBy, finiteFrom, columnSum, sumFinite, columnFinite, lowerFinite, firstRow, KnownFinite}
 use Rattle.scan.proofs.Sums.{sum-term, of-term}
-use Rattle.scan.proofs.Laws.{left, none, and-l, and-r, every-last, every-same, every-at, every-of}
+use Rattle.scan.proofs.Laws.{every-last, every-same, every-at, every-of}
 
 -- ---- a mark, the numbers of a list, and of a column
 
@@ -93,14 +94,14 @@ column-sound : (a : Mat) (j n i : ℕ) → everyFrom (λ k. isFinite (a k j)) n 
 unfolding everyFrom columnCheck
 column-sound a j zero i e = refl
 column-sound a j (suc n) i e =
-    let here : isFinite (a i j) ≡ true = and-l (isFinite (a i j)) _ e in
-    rw here (column-sound a j n (i + 1) (and-r (isFinite (a i j)) _ e))
+    let here : isFinite (a i j) ≡ true = and-left (isFinite (a i j)) _ e in
+    rw here (column-sound a j n (i + 1) (and-right (isFinite (a i j)) _ e))
 
 first-row : (a : Mat) (n j r : ℕ) → r ≡ firstRow a n j → columnCheck a j (n - r) r ≡ columnCheck a j (n - j) j
 unfolding firstRow columnFinite columnCheck
 first-row a n j r e =
     test (columnFinite a j j n)
-    (λ p. let q : r ≡ n = e ∙ rw p in rw (q, none n n (omega arith)) (sym (column-sound a j (n - j) j p)))
+    (λ p. let q : r ≡ n = e ∙ rw p in rw (q, none-left n n (omega arith)) (sym (column-sound a j (n - j) j p)))
     (λ p. let q : r ≡ j = e ∙ rw p in rw q)
 
 pub first-low : (a : Mat) (n c j r : ℕ) → j < c → c ≤ n → r ≡ firstRow a n j → j ≤ r
@@ -116,7 +117,7 @@ columns-sound : (a : Mat) (n k j : ℕ) → everyFrom (λ i. columnFinite a i i 
 unfolding everyFrom columnsCheck columnFinite
 columns-sound a n zero j e = refl
 columns-sound a n (suc k) j e =
-    rw (column-sound a j (n - j) j (and-l (columnFinite a j j n) _ e)) (columns-sound a n k (j + 1) (and-r (columnFinite a j j n) _ e))
+    rw (column-sound a j (n - j) j (and-left (columnFinite a j j n) _ e)) (columns-sound a n k (j + 1) (and-right (columnFinite a j j n) _ e))
 
 pub panel-sound : (a : Mat) (n c : ℕ) (b : Bool) → b ≡ sumFinite a n c → b ≡ true → Sound ≡ columnsCheck a n c 0
 unfolding lowerFinite
@@ -133,26 +134,26 @@ module _ (a : Mat) (n c j i : ℕ) (x : Float) (b : Bool) (C : Check) (h : i < n
   -- a turn of the rows, and the end of them all
   pub row-step : not b ≡ false → C ≡ fromHere a n c j (i + 1)
   unfolding columnCheck
-  row-step f = let t : isFinite (a i j) ≡ true = sym at ∙ not-false b f in p ∙ rw (left n i h, t)
+  row-step f = let t : isFinite (a i j) ≡ true = sym at ∙ not-false b f in p ∙ rw (one-left n i h, t)
 
   pub row-stop : not b ≡ true → Refused (Input (record { 0 = j }) (record { 0 = i })) ≡ C
   unfolding columnCheck
-  row-stop f = let t : isFinite (a i j) ≡ false = sym at ∙ not-true b f in sym (p ∙ rw (left n i h, t))
+  row-stop f = let t : isFinite (a i j) ≡ false = sym at ∙ not-true b f in sym (p ∙ rw (one-left n i h, t))
 
 pub scan-pre : (n c j len : ℕ) → c ≤ n → len ≡ n * c → j < c → DownPre n j j n len
 scan-pre n c j len h e l = record { up = omega arith; rows = omega arith; there = col-in n c j len e l }
 
 pub row-none : (a : Mat) (n c j r : ℕ) (C : Check) → j < c → C ≡ columnsCheck a n (c - j) j → r ≡ firstRow a n j → C ≡ fromHere a n c j r
 unfolding columnsCheck
-row-none a n c j r C h p e = p ∙ rw (left c j h, ← first-row a n j r e)
+row-none a n c j r C h p e = p ∙ rw (one-left c j h, ← first-row a n j r e)
 
 pub row-end : (a : Mat) (n c j i : ℕ) (C : Check) → n ≤ i → C ≡ fromHere a n c j i → C ≡ columnsCheck a n (c - (j + 1)) (j + 1)
 unfolding columnCheck
-row-end a n c j i C h p = p ∙ rw (none n i h)
+row-end a n c j i C h p = p ∙ rw (none-left n i h)
 
 pub column-none : (a : Mat) (n c : ℕ) → columnsCheck a n c 0 ≡ columnsCheck a n (c - 0) 0
 column-none a n c = ap (λ (k : ℕ). columnsCheck a n k 0) (omega arith)
 
 pub column-end : (a : Mat) (n c j : ℕ) (C : Check) → c ≤ j → C ≡ columnsCheck a n (c - j) j → Sound ≡ C
 unfolding columnsCheck
-column-end a n c j C h p = sym (p ∙ rw (none c j h))
+column-end a n c j C h p = sym (p ∙ rw (none-left c j h))

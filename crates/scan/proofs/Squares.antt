@@ -10,21 +10,21 @@ use Rattle.model.specs.Scalar.{squareOf}
 use Rattle.model.specs.Matrix.{Row, Mat, columnStart, view}
 use Rattle.model.specs.Choice.{greatest, noneYet, columnGreatest, rowGreatest}
 use Rattle.model.specs.declared.Greatest.{Greatest}
+use Rattle.model.proofs.Cases.{test, one-left, none-left}
 use borrow.Author.Tests.{lt-ltb, le-ltb}
 use Rattle.grid.specs.Grid.{In}
-use Rattle.grid.proofs.Laws.{test, view-read, col-in, in-col}
+use Rattle.grid.proofs.Laws.{view-read, col-in, in-col}
 use Rattle.scan.specs.Greatest.{better, greatestDown, greatestAlong, across, FoundIn, DownPre, AlongPre, ColumnPre, RowPre, AcrossPre}
-use Rattle.scan.proofs.Laws.{left, none}
 
 -- ---- the two directions: g is the best before place i, G the whole scan's
 
 greatest-step : (f : Row) (hi i : ℕ) (g : Greatest) → i < hi → greatest f (i + 1) (hi - (i + 1)) (better g (squareOf (f i)) i) ≡ greatest f i (hi - i) g
 unfolding greatest better
-greatest-step f hi i g h = rw (left hi i h)
+greatest-step f hi i g h = rw (one-left hi i h)
 
 greatest-end : (f : Row) (hi i : ℕ) (g : Greatest) → hi ≤ i → greatest f i (hi - i) g ≡ g
 unfolding greatest
-greatest-end f hi i g h = rw (none hi i h)
+greatest-end f hi i g h = rw (none-left hi i h)
 
 pub down-step : (xs : List Float) (n column s hi i : ℕ) (g h G : Greatest) → s ≡ columnStart n column → i < hi → hi ≤ n
     → greatestDown (view n xs) column i hi g ≡ G → h ≡ better g (squareOf (getD xs (i + s) nan)) i → greatestDown (view n xs) column (i + 1) hi h ≡ G

@@ -12,10 +12,9 @@ use lib.Ieee.{Float, nan, inf, fin, add}
 use Rattle.model.specs.Scalar.{_⊕_, zeroF, isFinite}
 use Rattle.model.specs.Matrix.{Row, columnStart, view, vec}
 use Rattle.model.specs.Panel.{sumFrom}
-use Rattle.grid.proofs.Laws.{test}
+use Rattle.model.proofs.Cases.{test, one-left, none-left}
 use Rattle.grid.proofs.Parts.{column-at, mid-count}
 use Rattle.scan.specs.Finite.{everySecond, sixteen, longSum, sumOf, columnSum}
-use Rattle.scan.proofs.Laws.{left, none}
 
 -- ---- two terms
 
@@ -68,11 +67,11 @@ sum-none f n s = ap (λ (k : ℕ). sumFrom f 0 k s) (omega arith)
 
 pub sum-turn : (f : Row) (n i : ℕ) (s y S : Float) → i < n → y ≡ f i → sumFrom f i (n - i) s ≡ S → sumFrom f (i + 1) (n - (i + 1)) (s ⊕ y) ≡ S
 unfolding sumFrom
-sum-turn f n i s y S h e p = rw e (sym (rw (left n i h)) ∙ p)
+sum-turn f n i s y S h e p = rw e (sym (rw (one-left n i h)) ∙ p)
 
 pub sum-end : (f : Row) (n i : ℕ) (s S : Float) → n ≤ i → sumFrom f i (n - i) s ≡ S → s ≡ S
 unfolding sumFrom
-sum-end f n i s S h p = sym (rw (none n i h)) ∙ p
+sum-end f n i s S h p = sym (rw (none-left n i h)) ∙ p
 
 -- the numbers of a list
 pub short-turn : (xs : List Float) (n i : ℕ) (s S : Float) → i < n → sumFrom (vec xs) i (n - i) s ≡ S

@@ -13,6 +13,8 @@ use Rattle.model.specs.Step.{one, two, eliminated, firstMultiplier, secondMulti
 use Rattle.model.specs.Head.{headOne, headTwo, keptOne, keptTwo}
 use Rattle.model.specs.declared.Block.{Block}
 use Rattle.model.proofs.Cases.{test, cmp, no}
+use Rattle.model.proofs.Exchanged.{place-under, exchanged-in, exchanged-up, exchanged-past}
+use Rattle.model.proofs.Independence.{same-head}
 
 -- ---- ranges
 
@@ -58,30 +60,10 @@ is-head c a b inside up past =
     (λ v. let y = ltb-false i c v in past i j y ∙ sym (head-past c a i j y)))
     (λ u. let x = leb-false j i u in up i j x ∙ sym (head-up c a i j x))
 
--- two heads are one where the triangles are
-pub head-alike : (c : ℕ) (a b : Mat) → ((i j : ℕ) → j ≤ i → i < c → a i j ≡ b i j) → headOf c a ≡ headOf c b
-head-alike c a b h = is-head c b (headOf c a) (λ i j x y. head-at c a i j x y ∙ h i j x y) (head-up c a) (head-past c a)
-
 pub head-twice : (c : ℕ) (a : Mat) → headOf c (headOf c a) ≡ headOf c a
-head-twice c a = head-alike c (headOf c a) a (head-at c a)
+head-twice c a = same-head c (headOf c a) a (head-at c a)
 
 -- ---- the exchange
-
-pub place-under : (p q lim i : ℕ) → p < lim → q < lim → i < lim → exchangedPlace p q i < lim
-place-under p q lim i hp hq hi = test (eqb i p) (λ e. rw e hq) (λ e. rw e (test (eqb i q) (λ f. rw f hp) (λ f. rw f hi)))
-
-pub exchanged-in : (p q lim : ℕ) (a : Mat) (i j : ℕ) → j ≤ i → i < lim
-    → exchanged p q lim a i j ≡ a (max (exchangedPlace p q i) (exchangedPlace p q j)) (min (exchangedPlace p q i) (exchangedPlace p q j))
-unfolding exchanged
-exchanged-in p q lim a i j h l = rw (le-leb j i h, lt-ltb i lim l)
-
-pub exchanged-up : (p q lim : ℕ) (a : Mat) (i j : ℕ) → i < j → exchanged p q lim a i j ≡ a i j
-unfolding exchanged
-exchanged-up p q lim a i j h = rw (lt-leb j i h)
-
-pub exchanged-past : (p q lim : ℕ) (a : Mat) (i j : ℕ) → lim ≤ i → exchanged p q lim a i j ≡ a i j
-unfolding exchanged
-exchanged-past p q lim a i j h = rw (le-ltb i lim h, no (leb j i))
 
 pub exchanged-masked : (c p q lim : ℕ) (a : Mat) → p < lim → q < lim → lim ≤ c → exchanged p q lim (headOf c a) ≡ headOf c (exchanged p q lim a)
 exchanged-masked c p q lim a hp hq hc =

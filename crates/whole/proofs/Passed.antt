@@ -10,8 +10,9 @@ use Rattle.model.specs.Step.{rowAfterSteps}
 use Rattle.model.specs.Panel.{rowAfterPanel}
 use Rattle.model.specs.Head.{State, blank, closed, passed}
 use Rattle.model.proofs.Cases.{test}
+use Rattle.model.proofs.Independence.{same-head}
 use Rattle.whole.specs.Whole.{below, wholeClosed, deferredRows, wholePassed, cutState}
-use Rattle.whole.proofs.Masked.{within-in, within-before, within-past, head-at, head-alike}
+use Rattle.whole.proofs.Masked.{within-in, within-before, within-past, head-at}
 use Rattle.whole.proofs.Steps.{PivotsInside}
 use Rattle.whole.proofs.Rows.{row-at, head-row, steps-cut, deferred-past, deferred-alike, panel-cut}
 
@@ -118,7 +119,7 @@ module _ (nrow ncol kb ke : ℕ) (t : State) (b : Mat) (w : PivotsInside ke (t .
 
   head-passed : headOf ncol (wholeNext nrow ncol kb ke t .a) ≡ headOf ncol (headNext kb ke (withHead t b) .a)
   head-passed =
-      head-alike ncol (wholeNext nrow ncol kb ke t .a) (headNext kb ke (withHead t b) .a)
+      same-head ncol (wholeNext nrow ncol kb ke t .a) (headNext kb ke (withHead t b) .a)
       (λ i j h l. test (ltb i ke) (λ x. before-alike i j h l (ltb-true i ke x)) (λ x. later-alike i j h l (ltb-false i ke x)))
 
   pub state-passed : cutState ncol (wholeNext nrow ncol kb ke t) ≡ cutState ncol (headNext kb ke (withHead t b))

@@ -3,15 +3,16 @@
 use Prim.Native.Nat.{ℕ, zero, suc, _+_, _-_, _<_, _≤_}
 use mathlib.Core.Path.{_≡_, refl, sym, _∙_, ap, fun-ext}
 use native.Mathlib.Omega.{arith}
-use borrow.Author.Tests.{lt-ltb, le-ltb, ne-eqb, eqb-true, ltb-true, ltb-false}
+use borrow.Author.Tests.{lt-ltb, le-ltb, eqb-true, ltb-true, ltb-false}
 use lib.Dec.{ltb}
-use lib.Ieee.{Float}
 use Rattle.model.specs.Scalar.{_⊗_, zeroF}
 use Rattle.model.specs.Matrix.{Row, Mat, headOf, rowOf, exchangedPlace}
 use Rattle.model.specs.Step.{Step, one, two, rowAfterStep, Diagonals, begins, pastOf, stepAt, firstOf, arrived, rowStepped, rowAfterSteps}
-use Rattle.model.specs.Panel.{Panel, timesD, sumFrom, accOf, rowDeferred, rowAfterPanel}
+use Rattle.model.specs.Panel.{Panel, timesD, accOf, rowDeferred, rowAfterPanel}
 use Rattle.model.proofs.Cases.{test}
-use Rattle.whole.proofs.Masked.{ranged, within-past, head-at, head-up, place-under, one-alike, two-alike, one-past, two-past}
+use Rattle.model.proofs.Exchanged.{place-under, place-past}
+use Rattle.model.proofs.Summed.{sum-alike}
+use Rattle.whole.proofs.Masked.{ranged, within-past, head-at, head-up, one-alike, two-alike, one-past, two-past}
 use Rattle.whole.proofs.Steps.{Inside}
 
 -- ---- a row cut at column e
@@ -36,10 +37,6 @@ pub head-row : (c : ℕ) (a : Mat) (i : ℕ) → i < c → headOf c a i ≡ rowO
 head-row c a i h = is-row (i + 1) (a i) (headOf c a i) (λ j l. head-at c a i j (omega arith) h) (λ j l. head-up c a i j (omega arith))
 
 -- ---- a step
-
--- a place past both stays
-place-past : (p q lim i : ℕ) → p < lim → q < lim → lim ≤ i → exchangedPlace p q i ≡ i
-place-past p q lim i hp hq h = rw (ne-eqb i p (λ x. omega arith), ne-eqb i q (λ x. omega arith))
 
 -- its columns and its partner stand before ke
 abbrev Before : ℕ → Step → Type 0
@@ -133,11 +130,6 @@ module _ (D : Diagonals) (q : ℕ → ℕ) (m : Mat) (ke : ℕ) (w : Inside ke (
       (λ t. rw t)
 
 -- ---- the later-panel rule
-
-sum-alike : (f g : Row) (c n : ℕ) (acc : Float) → ((k : ℕ) → c ≤ k → k < c + n → f k ≡ g k) → sumFrom f c n acc ≡ sumFrom g c n acc
-unfolding sumFrom
-sum-alike f g c zero acc h = refl
-sum-alike f g c (suc n) acc h = rw (h c (omega arith) (omega arith)) (sum-alike f g (c + 1) n _ (λ k x y. h k (omega arith) (omega arith)))
 
 module _ (D : Diagonals) (kb ke : ℕ) (pair : (j : ℕ) → D .blocks j ≡ 1 → j + 1 < ke) where
   -- L·D before ke sees no column from ke on

@@ -25,8 +25,10 @@ use Rattle.model.specs.declared.TwoSettled.{TwoSettled}
 use Rattle.model.specs.declared.TwoSettled.the-variants.{Low, OutOfRounds, Numbers}
 use Rattle.model.proofs.Bounds.{GoodPivot, Good, try-good}
 use Rattle.model.proofs.Cases.{test}
+use Rattle.model.proofs.Exchanged.{exchanged-up, exchanged-past}
+use Rattle.model.proofs.Recorded.{last-wide}
 use Rattle.whole.specs.Whole.{cutState, cutTried, cutProgress}
-use Rattle.whole.proofs.Masked.{exchanged-up, exchanged-past, headOne-up, headOne-past, headTwo-up, headTwo-past}
+use Rattle.whole.proofs.Masked.{headOne-up, headOne-past, headTwo-up, headTwo-past}
 use Rattle.whole.proofs.Tried.{blockIn, try-masked}
 
 -- the state after a pivot at k
@@ -160,10 +162,6 @@ start-inside ncol a = record { partner = λ j. omega arith; pair = λ j e. let z
 wide : (b : Bool) → byteOf b ≡ 1 → b ≡ true
 wide true e = refl
 wide false e = let z : _≡_ {A = ℕ} 0 1 = e in let n : ⊥ = omega arith in absurd n
-
-last-wide : (k : ℕ) (b : Bool) → b ≡ true → lastOf k b ≡ k + 1
-unfolding lastOf
-last-wide k b e = rw e
 
 noted-inside : (ke limit k : ℕ) (p : Pivots) (v : Pivot) → GoodPivot ke limit k v → PivotsInside ke p → PivotsInside ke (noted p k (lastOf k (isBlock (v .diagonal))) v)
 unfolding noted put
