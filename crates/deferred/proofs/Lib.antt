@@ -1,4 +1,4 @@
--- Laws of the deferred update: of the products, of the sums, of the later columns.
-pub mod Product
-pub mod Sum
+-- Laws of the later columns: in parts, one or two at a time, and all of them by rows.
+pub mod Parts
 pub mod Columns
+pub mod Rows

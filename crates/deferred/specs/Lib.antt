@@ -1,4 +1,3 @@
 -- What a finished panel does to the columns after it, the steps that do it, and what they ask of their callers.
 pub mod Deferred
-pub mod Products
-pub mod Sums
+pub mod Columns

@@ -1,7 +1,6 @@
-// The deferred update: what a finished panel does to the columns after it. L·D is formed in products.rt, the sums of
-// two columns at once in sums.rt. A reader may rely on the contract of deferred_update: every rounding is the
+// The deferred update: what a finished panel does to the columns after it. L·D is formed first; then the later columns
+// lose their sums, two columns at a time. A reader may rely on the contract of deferred_update: every rounding is the
 // definition's.
-use model::Frame;
 ghost use mathlib.Core.Path.{_≡_};
 ghost use Prim.Native.Nat.{_+_, _-_, _<_, _≤_, min, max};
 ghost use lib.ListN.{length};
@@ -9,24 +8,11 @@ ghost use Rattle.model.specs.Matrix.{view, vec, withColumn};
 ghost use Rattle.model.specs.Step.{diagonalsOf};
 ghost use Rattle.grid.specs.Rules.{columnOf, behind, lessEach};
 ghost use Rattle.whole.specs.Whole.{deferredRows};
+ghost use Rattle.products.specs.Products.{withProducts};
 ghost use Rattle.deferred.specs.Deferred.{DeferredPre};
-ghost use Rattle.deferred.specs.Products.{withProducts};
-ghost use Rattle.deferred.specs.Sums.{partDeferred, LosePre, PairPre, ColumnsPre, RowsPre};
-
-mod products;
-mod sums;
-
-// What is summed, in a panel of nrow rows: for the n rows from lo on, the terms of the panel's w columns from kb on, in
-// the sums of the later columns c and e.
-struct Terms {
-    nrow: usize,
-    c: usize,
-    e: usize,
-    kb: usize,
-    w: usize,
-    lo: usize,
-    n: usize,
-}
+ghost use Rattle.deferred.specs.Columns.{partDeferred, LosePre, PairPre, ColumnsPre, RowsPre};
+use model::Frame;
+use sums::Terms;
 
 // How many rows are worked at a time: their sums are local arrays, and their part of L·D stays in the cache for all
 // later columns.

@@ -1,5 +1,6 @@
 -- `deferred::defer_next` meets its contract: two columns, or one. Assumes nothing.
-use Rattle.deferred.proofs.Columns.{pair-pre, from-diagonal}
+use Rattle.deferred.proofs.Columns.{pair-pre}
+use Rattle.deferred.proofs.Parts.{from-diagonal}
 use borrow.Author.Needs.{needs}
 use Rattle.deferred.proofs.defer_next.Statement.{statement}
 use Rattle.deferred.proofs.defer_next.Tie as tie

@@ -4,8 +4,8 @@ use mathlib.Core.Path.{_≡_}
 use lib.ListN.{length}
 use borrow.Author.Needs.{needs}
 use Rattle.model.specs.Matrix.{view}
-use Rattle.deferred.specs.Sums.{partDeferred}
-use Rattle.deferred.proofs.Columns.{columns-none, columns-still, columns-step, columns-end}
+use Rattle.deferred.specs.Columns.{partDeferred}
+use Rattle.deferred.proofs.Parts.{columns-none, columns-still, columns-step, columns-end}
 use Rattle.deferred.proofs.defer_rows.Statement.{statement}
 use Rattle.deferred.proofs.defer_rows.Tie as tie
 

@@ -1,5 +1,5 @@
 -- `deferred::deferred_update` meets its contract: the products, then the later columns. Assumes nothing.
-use Rattle.deferred.proofs.Columns.{update-products, update-whole}
+use Rattle.deferred.proofs.Rows.{update-products, update-whole}
 use borrow.Author.Needs.{needs}
 use Rattle.deferred.proofs.deferred_update.Statement.{statement}
 use Rattle.deferred.proofs.deferred_update.Tie as tie

@@ -26,15 +26,13 @@ use denote.Ref.{RefT, MutRef, ptr-vals, mut-tells}
 use denote.Signature.{plain}
 use denote.Steps.{opens, closes, owned, peeks, heard, nothing}
 use denote.Struct.Steps.{spelt}
-use denote.Struct.Laws as LL
-use denote.Enum.Laws as LE
 use denote.Triple.Entry.{onEntry}
 use denote.Triple.Statement.{Contract, Triple}
 use denote.Triple.Call.{calls-at}
 use denote.Triple.Clauses.{ensured, lasts}
 use denote.Triple.Spec.{Meets, tripleOf}
 use denote.Triple.Table.{entered, cited}
-use denote.Triple.Walked.{says, needs, Stays, stay-ref, stay-none, walkOf, AllGo, goes-none, goes-ref, Walks, ends-at, walked, walk-meets}
+use denote.Triple.Walked.{says, needs, Stays, stay-ref, stay-none, walkOf, goes-none, goes-ref, ends-at, walked, walk-meets}
 use denote.Exit.{yes}
 use Rattle.model.specs.declared.Tally.{Tally}
 use Rattle.model.proofs.Tally as T
@@ -42,11 +40,9 @@ use Rattle.model.proofs.Tally.Laws as T′
 use Rattle.inertia.specs.Count.{countedOf, CountPre}
 use Rattle.model.specs.declared.Diagonal.{Diagonal}
 use Rattle.model.proofs.Diagonal as E
-use Rattle.model.proofs.Diagonal.Laws as E′
-use Rattle.inertia.proofs.Machine.{tallyVal, pivotVal, tally-typed, pivot-typed, pivot-makes}
+use Rattle.inertia.proofs.Machine.{tallyVal, pivotVal, tallyVals, pivotVals, tally-tells, pivot-tells, tally-typed, pivot-typed, pivot-makes}
 use Rattle.inertia.proofs.counted as counted
 use Rattle.inertia.proofs.counted.Symbol as counted-def
-use Rattle.inertia.proofs.counted.Symbol.{name as #inertia·counted}
 use Rattle.inertia.proofs.counted.Met as counted-thm
 use Rattle.inertia.proofs.count.Key.{name as #inertia·count}
 use Rattle.inertia.proofs.count as count
@@ -95,7 +91,7 @@ module _ {M : Type 1} (𝓤 : URA M) (H : Heap 𝓤) (A : Atoms 𝓤) (W : Given
   counted-of : (r : Tally) → ent 𝓤 (ensured 𝓤 H A counted.ended (counted.clauses 𝓤 H A at-mem run) tt (t, (p, tt)) tt r) (fact 𝓤 (r ≡ countedOf t p))
   counted-of r = exE 𝓤 _ (λ ws. snd∗ 𝓤 (sem 𝓤 H A (lasts counted.ended tt (t, (p, tt)) ws)) (fact 𝓤 (r ≡ countedOf t p)))
 
-  module _ (C : Calls 𝓤 H) (Λ : Loops 𝓤 H) (fm : FmC 𝓤 H (W .laws) C) (known : Triple 𝓤 (C #inertia·counted) (Counted 𝓤 H A at-mem run)) where
+  module _ (C : Calls 𝓤 H) (Λ : Loops 𝓤 H) (fm : FmC 𝓤 H (W .laws) C) (known : Triple 𝓤 (C counted-def.name) (Counted 𝓤 H A at-mem run)) where
     walk : CountPre t → ent 𝓤 (onEntry 𝓤 H A count.signature (κ, tt) (q, tt) x at) (WpFn 𝓤 H C Λ code.function (vptr b o ∷ pivotVal p ∷ []) Post)
     walk room =
         qed W ((‵ (flft κ q) ⊛ ‵ ftrue) ∷ ‵ (owns (MutRef (named 0) κ T.the-row ∷ E.the-row ∷ []) x at) ∷ []) ∵
@@ -106,7 +102,7 @@ module _ {M : Type 1} (𝓤 : URA M) (H : Heap 𝓤) (A : Atoms 𝓤) (W : Given
         alloc1 ! (λ l₀. alloc1 ! (λ l₁. alloc1 ! (λ l₂. alloc1 ! (λ l₃. alloc1 ! (λ l₄. alloc0 ! $ params1 ! $
         pass1 ! (init ! 6 refl (tt, tt)) $ pass1 ! (init ! 4 refl (pivot-typed 𝓤 H A W p _ ok)) $ pass0 ! $
         move ! (10 ∷ 11 ∷ 12 ∷ []) $ opens ! tt T.the-row {h = t} b o (λ vs.
-        spelt ! T.the-row (Is T.the-row) (shows 𝓤 H A T.the-row) (LL.vals T.the-type T′.the-laws) (LL.tells T.the-type T′.the-laws) fullShare t vs b o $
+        spelt ! T.the-row (Is T.the-row) (shows 𝓤 H A T.the-row) tallyVals tally-tells fullShare t vs b o $
         use1 W (‵ (fat fullShare T′.mir b o (tallyVal t))) (W .laws .raw-at fullShare T′.mir b o (tallyVal t)) $
         move ! (1 ∷ []) $ peeks ! T.the-row (Is T.the-row) (shows 𝓤 H A T.the-row) t (tallyVal t ∷ []) (λ was. move ! (1 ∷ 0 ∷ []) $
         -- [the tally's cell; what it owns; the open borrow; what observes it; what holds it; _4; …; _3; …; _2; …; _1; …; room for _0; …]
@@ -131,25 +127,17 @@ module _ {M : Type 1} (𝓤 : URA M) (H : Heap 𝓤) (A : Atoms 𝓤) (W : Given
         move ! (5 ∷ 6 ∷ []) $ free1 ! $ move ! (3 ∷ 4 ∷ []) $ free1 ! $ free0 ! $
         keep ! (0 ∷ 1 ∷ 2 ∷ []) $ by ! (exits r ok e)))))))))))))
 
-module _ {M : Type 1} (𝓤 : URA M) (H : Heap 𝓤) (A : Atoms 𝓤) (W : Given 𝓤 H A) (at-mem : Memory → SProp 𝓤) (run : Routine → Fun 𝓤) where
-  count-walks : (C : Calls 𝓤 H) (Λ : Loops 𝓤 H) → FmC 𝓤 H (W .laws) C → Triple 𝓤 (C #inertia·counted) (Counted 𝓤 H A at-mem run)
-      → Walks 𝓤 H A count.ended stayed (WpFn 𝓤 H C Λ code.function) (count.clauses 𝓤 H A at-mem run)
-  count-walks C Λ fm known =
-      walked 𝓤 H A count.ended stayed (count.clauses 𝓤 H A at-mem run) (WpFn 𝓤 H C Λ code.function)
-      (λ κs. (ptr-vals, (LE.vals E.the-type E′.the-laws, tt))) (λ κs. (mut-tells (named 0) (κs .0) T.the-row, (LE.tells E.the-type E′.the-laws, tt)))
-      (λ κs qs bounds a _ _. needs 𝓤 (CountPre (a .0 .now)) _
-      (walk 𝓤 H A W at-mem run (κs .0) (qs .0) (a .0 .ptr .0) (a .0 .ptr .1) (a .0 .name) (a .0 .now) (a .1 .0) C Λ fm known))
-
-  goes : AllGo 𝓤 H A W 1 (count.signature .params) (count.ended .kept) stayed
-  goes = (goes-ref 𝓤 H A W 1 0 tt (plain (λ _. T.the-row)), (goes-none 𝓤 H A W 1 (λ _. E.the-row) yes (λ κs x f. refl), tt))
-
 count-meets : {M : Type 1} (𝓤 : URA M) (H : Heap 𝓤) (A : Atoms 𝓤) → Given 𝓤 H A → (at-mem : Memory → SProp 𝓤) (run : Routine → Fun 𝓤) (𝓣 : Tables 𝓤 H)
-    → Triple 𝓤 (𝓣 .C #inertia·counted) (Counted 𝓤 H A at-mem run)
+    → Triple 𝓤 (𝓣 .C counted-def.name) (Counted 𝓤 H A at-mem run)
     → Meets 𝓤 H A count.signature (WpFn 𝓤 H (𝓣 .C) (𝓣 .Λ) code.function) (count.spec 𝓤 H A at-mem run)
 count-meets 𝓤 H A W at-mem run 𝓣 known =
-    walk-meets 𝓤 H A count.ended stayed W (goes 𝓤 H A W at-mem run) (count.clauses 𝓤 H A at-mem run)
-    (WpFn 𝓤 H (𝓣 .C) (𝓣 .Λ) code.function) (WpFn-mono 𝓤 H (W .laws) 𝓣 code.function)
-    (count-walks 𝓤 H A W at-mem run (𝓣 .C) (𝓣 .Λ) (fmOf 𝓤 H (W .laws) 𝓣) known)
+    walk-meets 𝓤 H A count.ended stayed W
+    (goes-ref 𝓤 H A W 1 0 tt (plain (λ _. T.the-row)), (goes-none 𝓤 H A W 1 (λ _. E.the-row) yes (λ κs x f. refl), tt))
+    (count.clauses 𝓤 H A at-mem run) (WpFn 𝓤 H (𝓣 .C) (𝓣 .Λ) code.function) (WpFn-mono 𝓤 H (W .laws) 𝓣 code.function)
+    (walked 𝓤 H A count.ended stayed (count.clauses 𝓤 H A at-mem run) (WpFn 𝓤 H (𝓣 .C) (𝓣 .Λ) code.function)
+    (λ κs. (ptr-vals, (pivotVals, tt))) (λ κs. (mut-tells (named 0) (κs .0) T.the-row, (pivot-tells, tt)))
+    (λ κs qs bounds a _ _. needs 𝓤 (CountPre (a .0 .now)) _ (walk 𝓤 H A W at-mem run (κs .0) (qs .0)
+    (a .0 .ptr .0) (a .0 .ptr .1) (a .0 .name) (a .0 .now) (a .1 .0) (𝓣 .C) (𝓣 .Λ) (fmOf 𝓤 H (W .laws) 𝓣) known)))
 
 pub count-spec : {M : Type 1} → stated.statement M
 unfolding code.routine tablesOf
@@ -157,5 +145,5 @@ count-spec 𝓤 H 𝓜 𝓖 𝓡 =
     entered 𝓤 H (tripleOf 𝓤 H (𝓖 .A) count.signature (count.spec 𝓤 H (𝓖 .A) (𝓜 .mem) (𝓡 .run)))
     (tables 𝓤 H 𝓜 𝓡 code.env .C) (tables 𝓤 H 𝓜 𝓡 code.env .Λ) #inertia·count code.function (code.unfolded 𝓤 H 𝓜 𝓡)
     (count-meets 𝓤 H (𝓖 .A) (givenOf 𝓤 H 𝓜 𝓖) (𝓜 .mem) (𝓡 .run) (tablesOf 𝓤 H 𝓜 (tables 𝓤 H 𝓜 𝓡 code.env))
-    (cited 𝓤 H (Counted 𝓤 H (𝓖 .A) (𝓜 .mem) (𝓡 .run)) 𝓜 𝓡 code.env #inertia·counted counted-def.routine code.calls-inertia·counted
+    (cited 𝓤 H (Counted 𝓤 H (𝓖 .A) (𝓜 .mem) (𝓡 .run)) 𝓜 𝓡 code.env counted-def.name counted-def.routine code.calls-inertia·counted
     (counted-thm.met 𝓤 H 𝓜 𝓖 𝓡)))

@@ -9,14 +9,14 @@ use lib.Dec.{T as Holds}
 use mir.Syntax.{named, tyUnit}
 use mir.Val.{Val, vptr, hasTy, WT}
 use base.Logic.{SProp, ent, sep, id⊢}
-use base.Fml.{GName, Fml, fat, ftrue, fsep, flft, flent}
+use base.Fml.{GName, Fml, fat, ftrue, flft, flent}
 use prog.Memory.{Memory}
 use prog.Routine.{Routine}
 use prog.Wp.{Heap, Calls, Loops, WpFn, Tables}
 use ghost.Atoms.{Atoms, sem}
 use contract.Monad.{Fun, fact}
 use contract.Running.{givenOf, tables, tablesOf}
-use types.Kit.{Given, ‵, raw, some, later, _⊛_, _$_, _∵_, !, qed, by, move, keep, use1, use2, use3, split, join, pick, fsplit, fjoin, fpick, fpack, feqL, suffices, frame, await, done}
+use types.Kit.{Given, ‵, raw, some, later, _⊛_, _$_, _∵_, !, qed, by, move, keep, use1, use2, use3, split, join, pick, fsplit, fjoin, feqL, suffices, frame, await, done}
 use types.Run.{look, init, forget, stop, from, load, addr, of-opd, and-then, no-more, assigns, land, returns, enter, alloc1, alloc0, params1, pass1, pass0, free1, free0}
 use types.SemTy.{Body}
 use types.Tokens.{lft-new, lft-end}
@@ -24,20 +24,17 @@ use sound.WpLaws.{FmC, fmOf, WpFn-mono}
 use denote.RattleType.{owns}
 use denote.Laws.{Is, shows}
 use denote.Lend.{lends-ref, ref-back}
-use denote.Memory.{mem, cellAt, partOf}
+use denote.Memory.{mem}
 use denote.Builtin.{unit}
 use denote.Ref.{RefT, MutRef}
 use denote.Steps.{only, owned, peeks, heard, nothing}
-use denote.Struct.Steps.{spelt}
-use denote.Struct.Laws as LL
-use denote.Enum.Laws as LE
 use denote.Triple.Entry.{onEntry}
 use denote.Triple.Statement.{Contract, Triple}
 use denote.Triple.Call.{calls-at}
 use denote.Triple.Clauses.{ensured, lasts}
 use denote.Triple.Spec.{Meets, tripleOf}
 use denote.Triple.Table.{entered, cited}
-use denote.Triple.Walked.{says, needs, Stays, stay-none, walkOf, AllGo, goes-none, Walks, ends-at, walked, walk-meets}
+use denote.Triple.Walked.{says, needs, Stays, stay-none, walkOf, goes-none, ends-at, walked, walk-meets}
 use denote.Exit.{yes}
 use Rattle.model.specs.declared.Tally.{Tally}
 use Rattle.model.proofs.Tally as T
@@ -45,11 +42,9 @@ use Rattle.model.proofs.Tally.Laws as T′
 use Rattle.inertia.specs.Count.{countedOf, CountPre}
 use Rattle.model.specs.declared.Diagonal.{Diagonal}
 use Rattle.model.proofs.Diagonal as E
-use Rattle.model.proofs.Diagonal.Laws as E′
-use Rattle.inertia.proofs.Machine.{tallyVal, pivotVal, tally-typed, pivot-typed, tally-makes, pivot-makes}
+use Rattle.inertia.proofs.Machine.{tallyVal, pivotVal, tallyVals, pivotVals, tally-tells, pivot-tells, tally-typed, pivot-typed, tally-makes, pivot-makes, has, lies, taken}
 use Rattle.inertia.proofs.count as count
 use Rattle.inertia.proofs.count.Symbol as count-def
-use Rattle.inertia.proofs.count.Symbol.{name as #inertia·count}
 use Rattle.inertia.proofs.count.Met as count-thm
 use Rattle.inertia.proofs.tallied.Key.{name as #inertia·tallied}
 use Rattle.inertia.proofs.tallied as tallied
@@ -62,13 +57,6 @@ stayed = (stay-none (λ _. T.the-row) yes, (stay-none (λ _. E.the-row) yes, tt)
 -- the contract that the proof cites
 abbrev Count : {M : Type 1} (𝓤 : URA M) (H : Heap 𝓤) (A : Atoms 𝓤) (mem : Memory → SProp 𝓤) (run : Routine → Fun 𝓤) → Contract 𝓤
 Count 𝓤 H A mem run = tripleOf 𝓤 H A count.signature (count.spec 𝓤 H A mem run)
-
--- what a tally owns, and the cell that it lies in
-abbrev has : Tally → List Val → Fml
-has t vs = T.the-row .own t vs
-
-abbrev cell : Tally → ℕ → Fml
-cell t l = cellAt fullShare (T.the-row .mir) (tallyVal t ∷ []) l 0
 
 module _ {M : Type 1} (𝓤 : URA M) (H : Heap 𝓤) (A : Atoms 𝓤) (W : Given 𝓤 H A) (at-mem : Memory → SProp 𝓤) (run : Routine → Fun 𝓤)
     (t : Tally) (p : Diagonal) (was : Is T.the-row t (tallyVal t ∷ [])) (ok : Is E.the-row p (pivotVal p ∷ [])) where
@@ -101,18 +89,7 @@ module _ {M : Type 1} (𝓤 : URA M) (H : Heap 𝓤) (A : Atoms 𝓤) (W : Given
       qed W (‵ (flft (ν ∷ []) fullShare) ∷ ‵ (own-at l ν γ) ∷ []) ∵ says ! room $ nothing ! $ move ! (1 ∷ 0 ∷ []) $ join ! $ frame ! $ nothing ! $
       owned ! E.the-row (Is E.the-row) (pivot-makes 𝓤 H A) p _ ok $ fjoin ! $ move ! (1 ∷ 0 ∷ []) $ fjoin ! $ done !
 
-  -- what lies at l: the cell with what is owned
-  lies : (l : ℕ) → ent 𝓤 (sep 𝓤 (sem 𝓤 H A (cell t l)) (sem 𝓤 H A (has t (tallyVal t ∷ [])))) (sem 𝓤 H A (mem T.the-row .lies t l 0))
-  unfolding partOf
-  lies l = qed W (‵ (cell t l) ∷ ‵ (has t (tallyVal t ∷ [])) ∷ []) ∵ fjoin ! $
-      fpack ! (List Val) (λ us. fsep (cellAt fullShare (T.the-row .mir) us l 0) (has t us)) (tallyVal t ∷ []) $ done !
-
-  taken : (l : ℕ) (r : Tally) → ent 𝓤 (sem 𝓤 H A (mem T.the-row .lies r l 0)) (sep 𝓤 (sem 𝓤 H A (cell r l)) (sem 𝓤 H A (has r (tallyVal r ∷ []))))
-  unfolding partOf
-  taken l r = qed W (‵ (mem T.the-row .lies r l 0) ∷ []) ∵ fpick ! (λ vs. fsplit ! $
-      spelt ! T.the-row (Is T.the-row) (shows 𝓤 H A T.the-row) (LL.vals T.the-type T′.the-laws) (LL.tells T.the-type T′.the-laws) fullShare r vs l 0 $ done !)
-
-  module _ (C : Calls 𝓤 H) (Λ : Loops 𝓤 H) (fm : FmC 𝓤 H (W .laws) C) (known : Triple 𝓤 (C #inertia·count) (Count 𝓤 H A at-mem run)) where
+  module _ (C : Calls 𝓤 H) (Λ : Loops 𝓤 H) (fm : FmC 𝓤 H (W .laws) C) (known : Triple 𝓤 (C count-def.name) (Count 𝓤 H A at-mem run)) where
     walk : CountPre t → ent 𝓤 (onEntry 𝓤 H A tallied.signature tt tt (t, (p, tt)) at) (WpFn 𝓤 H C Λ code.function (tallyVal t ∷ pivotVal p ∷ []) Post)
     walk room =
         qed W (‵ ftrue ∷ ‵ (owns (T.the-row ∷ E.the-row ∷ []) (t, (p, tt)) at) ∷ []) ∵ enter ! C Λ code.function (tallyVal t ∷ pivotVal p ∷ []) _ $
@@ -122,8 +99,7 @@ module _ {M : Type 1} (𝓤 : URA M) (H : Heap 𝓤) (A : Atoms 𝓤) (W : Given
         assigns ! (of-opd ! (load ! (from ! (stop !)) (look ! 8 refl))) (from ! (stop !)) (init ! 4 refl (tally-typed 𝓤 H A W t _ was)) $
         assigns ! (addr ! (from ! (stop !))) (from ! (stop !)) (init ! 0 refl (tt, tt)) $
         -- the local is lent for a lifetime ν of the call
-        move ! (4 ∷ []) $ use1 W (‵ (cell t l₃)) (W .laws .at-raw fullShare T′.mir l₃ 0 (tallyVal t)) $
-        owned ! T.the-row (Is T.the-row) (tally-makes 𝓤 H A) t _ was $ move ! (1 ∷ 0 ∷ []) $ use2 W (‵ (mem T.the-row .lies t l₃ 0)) (lies l₃) $
+        move ! (4 ∷ []) $ use1 W (‵ (mem T.the-row .lies t l₃ 0)) (lies 𝓤 H A W t l₃ was) $
         lft-new ! tt (λ ν. move ! (1 ∷ []) $
         use1 W (later (some (λ (γ : GName). ‵ (own-at l₃ ν γ) ⊛ ‵ (flent (ν ∷ []) (Body (mem T.the-row) l₃ 0 γ)))))
         (lends-ref 𝓤 H A W T.the-row (named 0) (ν ∷ []) t l₃ 0) $ await ! tt $ pick ! (λ γ. split ! $
@@ -142,8 +118,7 @@ module _ {M : Type 1} (𝓤 : URA M) (H : Heap 𝓤) (A : Atoms 𝓤) (W : Given
         land ! (from ! (stop !)) (init ! 7 refl (subst (λ (y : Val). Holds (hasTy tyUnit y) × WT y) (sym (ap only u)) (tt, tt))) $
         lft-end ! tt $ move ! (0 ∷ 4 ∷ 2 ∷ []) $
         use3 W (later (‵ (mem T.the-row .lies (ws .0) l₃ 0))) (ref-back 𝓤 H A W T.the-row (ν ∷ []) γ (ws .0) l₃ 0) $ await ! tt $
-        use1 W (‵ (cell (ws .0) l₃) ⊛ ‵ (has (ws .0) (tallyVal (ws .0) ∷ []))) (taken l₃ (ws .0)) $ split ! $
-        use1 W (‵ (fat fullShare T′.mir l₃ 0 (tallyVal (ws .0)))) (W .laws .raw-at fullShare T′.mir l₃ 0 (tallyVal (ws .0))) $
+        use1 W (‵ (fat fullShare T′.mir l₃ 0 (tallyVal (ws .0))) ⊛ ‵ (has (ws .0) (tallyVals (ws .0)))) (taken 𝓤 H A W (ws .0) l₃) $ split ! $
         move ! (1 ∷ []) $ peeks ! T.the-row (Is T.the-row) (shows 𝓤 H A T.the-row) (ws .0) (tallyVal (ws .0) ∷ []) (λ is.
         -- [what the tally owns; _3; true; …; _5; …; _4; …; what frees _3; _2; …; _1; …; room for _0; …]
         assigns ! (of-opd ! (load ! (from ! (stop !)) (look ! 1 refl))) (from ! (stop !)) (init ! 13 refl (tally-typed 𝓤 H A W (ws .0) _ is)) $
@@ -152,25 +127,17 @@ module _ {M : Type 1} (𝓤 : URA M) (H : Heap 𝓤) (A : Atoms 𝓤) (W : Given
         move ! (1 ∷ 8 ∷ []) $ free1 ! $ move ! (5 ∷ 6 ∷ []) $ free1 ! $ move ! (3 ∷ 4 ∷ []) $ free1 ! $ free0 ! $
         keep ! (0 ∷ []) $ by ! (exits (ws .0) (tallyVal (ws .0)) e)))))))))))))))
 
-module _ {M : Type 1} (𝓤 : URA M) (H : Heap 𝓤) (A : Atoms 𝓤) (W : Given 𝓤 H A) (at-mem : Memory → SProp 𝓤) (run : Routine → Fun 𝓤) where
-  tallied-walks : (C : Calls 𝓤 H) (Λ : Loops 𝓤 H) → FmC 𝓤 H (W .laws) C → Triple 𝓤 (C #inertia·count) (Count 𝓤 H A at-mem run)
-      → Walks 𝓤 H A tallied.ended stayed (WpFn 𝓤 H C Λ code.function) (tallied.clauses 𝓤 H A at-mem run)
-  tallied-walks C Λ fm known =
-      walked 𝓤 H A tallied.ended stayed (tallied.clauses 𝓤 H A at-mem run) (WpFn 𝓤 H C Λ code.function)
-      (λ κs. (LL.vals T.the-type T′.the-laws, (LE.vals E.the-type E′.the-laws, tt)))
-      (λ κs. (LL.tells T.the-type T′.the-laws, (LE.tells E.the-type E′.the-laws, tt)))
-      (λ κs qs bounds a _ are. needs 𝓤 (CountPre (a .0)) _ (walk 𝓤 H A W at-mem run (a .0) (a .1 .0) (are .0) (are .1 .0) C Λ fm known))
-
-  goes : AllGo 𝓤 H A W 0 (tallied.signature .params) (tallied.ended .kept) stayed
-  goes = (goes-none 𝓤 H A W 0 (λ _. T.the-row) yes (λ κs x f. refl), (goes-none 𝓤 H A W 0 (λ _. E.the-row) yes (λ κs x f. refl), tt))
-
 tallied-meets : {M : Type 1} (𝓤 : URA M) (H : Heap 𝓤) (A : Atoms 𝓤) → Given 𝓤 H A → (at-mem : Memory → SProp 𝓤) (run : Routine → Fun 𝓤) (𝓣 : Tables 𝓤 H)
-    → Triple 𝓤 (𝓣 .C #inertia·count) (Count 𝓤 H A at-mem run)
+    → Triple 𝓤 (𝓣 .C count-def.name) (Count 𝓤 H A at-mem run)
     → Meets 𝓤 H A tallied.signature (WpFn 𝓤 H (𝓣 .C) (𝓣 .Λ) code.function) (tallied.spec 𝓤 H A at-mem run)
 tallied-meets 𝓤 H A W at-mem run 𝓣 known =
-    walk-meets 𝓤 H A tallied.ended stayed W (goes 𝓤 H A W at-mem run) (tallied.clauses 𝓤 H A at-mem run)
-    (WpFn 𝓤 H (𝓣 .C) (𝓣 .Λ) code.function) (WpFn-mono 𝓤 H (W .laws) 𝓣 code.function)
-    (tallied-walks 𝓤 H A W at-mem run (𝓣 .C) (𝓣 .Λ) (fmOf 𝓤 H (W .laws) 𝓣) known)
+    walk-meets 𝓤 H A tallied.ended stayed W
+    (goes-none 𝓤 H A W 0 (λ _. T.the-row) yes (λ κs x f. refl), (goes-none 𝓤 H A W 0 (λ _. E.the-row) yes (λ κs x f. refl), tt))
+    (tallied.clauses 𝓤 H A at-mem run) (WpFn 𝓤 H (𝓣 .C) (𝓣 .Λ) code.function) (WpFn-mono 𝓤 H (W .laws) 𝓣 code.function)
+    (walked 𝓤 H A tallied.ended stayed (tallied.clauses 𝓤 H A at-mem run) (WpFn 𝓤 H (𝓣 .C) (𝓣 .Λ) code.function)
+    (λ κs. (tallyVals, (pivotVals, tt))) (λ κs. (tally-tells, (pivot-tells, tt)))
+    (λ κs qs bounds a _ are. needs 𝓤 (CountPre (a .0)) _
+    (walk 𝓤 H A W at-mem run (a .0) (a .1 .0) (are .0) (are .1 .0) (𝓣 .C) (𝓣 .Λ) (fmOf 𝓤 H (W .laws) 𝓣) known)))
 
 pub tallied-spec : {M : Type 1} → stated.statement M
 unfolding code.routine tablesOf
@@ -178,4 +145,4 @@ tallied-spec 𝓤 H 𝓜 𝓖 𝓡 =
     entered 𝓤 H (tripleOf 𝓤 H (𝓖 .A) tallied.signature (tallied.spec 𝓤 H (𝓖 .A) (𝓜 .mem) (𝓡 .run)))
     (tables 𝓤 H 𝓜 𝓡 code.env .C) (tables 𝓤 H 𝓜 𝓡 code.env .Λ) #inertia·tallied code.function (code.unfolded 𝓤 H 𝓜 𝓡)
     (tallied-meets 𝓤 H (𝓖 .A) (givenOf 𝓤 H 𝓜 𝓖) (𝓜 .mem) (𝓡 .run) (tablesOf 𝓤 H 𝓜 (tables 𝓤 H 𝓜 𝓡 code.env))
-    (cited 𝓤 H (Count 𝓤 H (𝓖 .A) (𝓜 .mem) (𝓡 .run)) 𝓜 𝓡 code.env #inertia·count count-def.routine code.calls-inertia·count (count-thm.met 𝓤 H 𝓜 𝓖 𝓡)))
+    (cited 𝓤 H (Count 𝓤 H (𝓖 .A) (𝓜 .mem) (𝓡 .run)) 𝓜 𝓡 code.env count-def.name count-def.routine code.calls-inertia·count (count-thm.met 𝓤 H 𝓜 𝓖 𝓡)))

@@ -1,0 +1,2 @@
+-- Laws of L·D.
+pub mod Product
