@@ -9,13 +9,7 @@ keep-one-requires : tie.Need-keep-one-requires
 keep-one-requires c κs = (search (needs, one-keep-pre), search (needs, source-pre))
 
 returns : tie.Need-returns
-returns c =
-    let put = c .before .before in
-    let swept = put .before .before .before .before in
-    let kept = swept .before .before .before .before .before in
-    let r = kept .before .reciprocal .ensures in
-    let e = kept .keep-one .ensures in
-    (one-head _ _ _ _ _ _ _ r e _ _ (swept .apply-one .ensures) (put .put .ensures), one-kept _ _ _ _ _ _ _ r e)
+returns c = (search one-head, search one-kept)
 
 pub head-one-spec : {M : Type 1} → statement M
 head-one-spec =

@@ -3,7 +3,7 @@
 use mathlib.Core.Path.{_≡_, sym, ap, _∙_}
 use Prim.Native.Nat.{ℕ, _-_, _%_, _^_, _<_}
 use native.Mathlib.Omega.{arith}
-use lib.Count.{leadingZeros, leading-le}
+use lib.Count.{leading-le}
 use lib.Ieee.{binary64, ofBits, toBits}
 use lib.Ieee.Bits.{ofBits-toBits, toBits-lt}
 use denote.Floats.{passes}
@@ -11,7 +11,7 @@ use borrow.Author.Needs.{needs}
 use Rattle.model.specs.Root.{roundRoot}
 use Rattle.model.proofs.Root.{sqrt-at-nan, sqrt-at-zero, sqrt-at-minus-zero, sqrt-at-top, sqrt-at-negative, sqrt-at-low, sqrt-at-normal}
 use Rattle.scalar.proofs.Leaves.{nan-made, is-nan, no-nan}
-use Rattle.scalar.proofs.Steps.{Moved, moved}
+use Rattle.scalar.proofs.Steps.{moved}
 use Rattle.scalar.proofs.sqrt.Statement.{statement}
 use Rattle.scalar.proofs.sqrt.Tie as tie
 
@@ -23,11 +23,8 @@ wide : (c : tie.Start) → toBits binary64 (c .args .x) < 2 ^ 64
 wide c = toBits-lt binary64 (c .args .x) (passes _ (c .good .0 .1))
 
 -- a subnormal's digits
-abbrev low : tie.Then6 → ℕ
-low c = toBits binary64 (c .before .before .before .before .before .before .args .x) % 2 ^ 52
-
-up : (c : tie.Then6) → Moved (low c) (leadingZeros 64 (low c) - 11)
-up c = moved _ (omega arith) (omega arith)
+abbrev low : tie.Start → ℕ
+low c = toBits binary64 (c .args .x) % 2 ^ 52
 
 returns-2 : tie.Need-returns-2
 returns-2 c = sqrt-at-zero (back (c .before .before) ∙ ap (ofBits binary64) (c .if2 .taken))
@@ -41,23 +38,24 @@ returns-4 c =
     nan-made ∙ sym (sqrt-at-negative _ _ (back at) (c .if4 .taken) (wide at))
 
 returns-5 : tie.Need-returns-5
-returns-5 c = sqrt-at-top _ _ (back (c .before .before .before .before .before)) (c .if5 .taken) (omega arith)
+returns-5 c = let start : tie.Start = search in sqrt-at-top _ _ (back start) (c .if5 .taken) (omega arith)
 
 scaled-requires : tie.Need-scaled-requires
-scaled-requires c κs = record { from = up c .from; to = up c .to; exponent = omega arith }
+scaled-requires c κs =
+    let start : tie.Start = search in
+    let up = moved (low start) (omega arith) (omega arith) in
+    record { from = up .from; to = up .to; exponent = omega arith }
 
 returns-6 : tie.Need-returns-6
 returns-6 c =
-    let at = c .before in
-    c .scaled .ensures
-    ∙ ap roundRoot (up at .root)
-    ∙ sym (sqrt-at-low _ _ (back (at .before .before .before .before .before .before)) (omega arith) (at .if6 .taken))
+    let start : tie.Start = search in
+    let up = moved (low start) (omega arith) (omega arith) in
+    c .scaled .ensures ∙ ap roundRoot (up .root) ∙ sym (sqrt-at-low _ _ (back start) (omega arith) (c .before .if6 .taken))
 
 returns-7 : tie.Need-returns-7
 returns-7 c =
-    let at = c .before in
-    c .scaled2 .ensures
-    ∙ sym (sqrt-at-normal _ _ (back (at .before .before .before .before .before .before)) (at .before .if5 .left) (at .if6 .left))
+    let start : tie.Start = search in
+    c .scaled2 .ensures ∙ sym (sqrt-at-normal _ _ (back start) (c .before .before .if5 .left) (c .before .if6 .left))
 
 pub sqrt-spec : {M : Type 1} → statement M
 sqrt-spec =
@@ -69,10 +67,10 @@ sqrt-spec =
     returns-3
     returns-4
     returns-5
-    (λ c. omega (arith, leading-le 64 (low c)))
-    (λ c. up c .some)
-    (λ c. omega (arith, up c .few))
-    (λ c. omega (arith, up c .few))
+    (λ c. let start : tie.Start = search in omega (arith, leading-le 64 (low start)))
+    (λ c. let start : tie.Start = search in moved (low start) (omega arith) (omega arith) .some)
+    (λ c. let start : tie.Start = search in omega (arith, moved (low start) (omega arith) (omega arith) .few))
+    (λ c. let start : tie.Start = search in omega (arith, moved (low start) (omega arith) (omega arith) .few))
     scaled-requires
     (λ c. search needs) (λ c. search needs) (λ c κs. search needs)
     returns-6

@@ -6,15 +6,18 @@ use Rattle.sums.proofs.add_four.Tie as tie
 
 plus-four-requires : tie.Need-plus-four-requires
 plus-four-requires c κs =
-    let start = c .before .before .before .before .before .before .before .before .before .before in
-    let at = start .four-places .ensures in
-    let pre = start .before .before .before .before .before .pre in
+    let places : tie.After-four-places = search in
+    let start : tie.Start = search in
+    let at = places .four-places .ensures in
+    let pre = start .pre in
     four-pre _ _ _ _ _ _ _ _ _ _ _ _ (at .0 .0) (at .0 .1) (at .1 .0) (at .1 .1) (pre .0) (pre .1)
 
 returns : tie.Need-returns
 returns c =
-    let four = c .before .before .before .before in
-    let m3 = four .before .before .before in
+    let places : tie.After-four-places = search in
+    let start : tie.Start = search in
+    let four : tie.After-plus-four = search in
+    let m3 : tie.After-get8 = search in
     let m2 = m3 .before in
     let m1 = m2 .before in
     let m0 = m1 .before in
@@ -22,8 +25,8 @@ returns c =
     let l2 = l3 .before in
     let l1 = l2 .before in
     let l0 = l1 .before in
-    let at = l0 .before .four-places .ensures in
-    let pre = l0 .before .before .before .before .before .before .pre in
+    let at = places .four-places .ensures in
+    let pre = start .pre in
     let gave = four .plus-four .ensures in (
       four-terms _ _ _ _ _ _ _ _ _ _ _ _ _ _ _ _ _ _ (at .0 .0) (at .0 .1) (at .1 .0) (at .1 .1) (pre .0 .rows) (l0 .get .ensures) (l1 .get2 .ensures)
           (l2 .get3 .ensures) (l3 .get4 .ensures) (gave .0),

@@ -6,8 +6,9 @@ use Rattle.eliminate.proofs.kept.keep_two.Tie as tie
 
 combine-requires : tie.Need-combine-requires
 combine-requires c κs =
-    let starts = c .before .before .before in
-    let pre = starts .before .before .before .before .before .pre in
+    let starts : tie.After-column-start3 = search in
+    let entry : tie.Start = search in
+    let pre = entry .pre in
     keep-parts _ _ _ _ _ _ _ _ _ _ _ _ (starts .before .before .column-start .ensures) (starts .before .column-start2 .ensures)
     (starts .column-start3 .ensures) (pre .0) (pre .1 .0) (pre .1 .1)
 
