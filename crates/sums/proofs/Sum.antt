@@ -20,7 +20,7 @@ use Rattle.grid.specs.Rules.{ahead, zeroed, plusTimes, plusFour}
 use Rattle.grid.proofs.Laws.{vec-part}
 use Rattle.grid.proofs.Rules.{plus-four-step}
 use Rattle.sums.specs.declared.Terms.{Terms}
-use Rattle.sums.specs.Sums.{laterRow, rowsFrom, gathered, FourPre, TermsPre, GatherPre}
+use Rattle.sums.specs.Sums.{laterRow, rowsFrom, gathered, TermsPre, GatherPre}
 
 -- ---- the kernel: one place more
 
@@ -66,13 +66,13 @@ one-term x y gs a N lo n c kb t s l at h e p =
       column-from N gs t lo (lo + s) i (omega arith) (omega arith),
     ))
 
-pub four-terms : (x y : Row) (gs : List Float) (a : Mat) (N lo n c kb t g0 g1 g2 g3 : ℕ) (l0 l1 l2 l3 : Float) → g0 ≡ lo + columnStart N t
-    → g1 ≡ lo + columnStart N (t + 1) → g2 ≡ lo + columnStart N (t + 2) → g3 ≡ lo + columnStart N (t + 3) → lo + n ≤ N → l0 ≡ a c (kb + t) → l1 ≡ a c (kb + t + 1)
-    → l2 ≡ a c (kb + t + 2) → l3 ≡ a c (kb + t + 3)
+pub four-terms : (x y : Row) (gs : List Float) (a : Mat) (N lo n c kb t g0 g1 g2 g3 : ℕ) (l0 l1 l2 l3 : Float)
     → y ≡ withPart x 0 n (plusFour x (ahead g0 (vec gs)) (ahead g1 (vec gs)) (ahead g2 (vec gs)) (ahead g3 (vec gs)) l0 l1 l2 l3)
+    → (g0 ≡ lo + columnStart N t) × (g1 ≡ lo + columnStart N (t + 1)) → (g2 ≡ lo + columnStart N (t + 2)) × (g3 ≡ lo + columnStart N (t + 3)) → lo + n ≤ N
+    → (l0 ≡ a c (kb + t)) × (l1 ≡ a c (kb + t + 1)) → (l2 ≡ a c (kb + t + 2)) × (l3 ≡ a c (kb + t + 3))
     → y ≡ withPart x 0 n (gathered x (rowsFrom lo (view N gs)) (laterRow a c kb) t 4)
 unfolding gathered laterRow plusFour ahead sumFrom
-four-terms x y gs a N lo n c kb t g0 g1 g2 g3 l0 l1 l2 l3 c0 c1 c2 c3 h e0 e1 e2 e3 p =
+four-terms x y gs a N lo n c kb t g0 g1 g2 g3 l0 l1 l2 l3 p (c0, c1) (c2, c3) h (e0, e1) (e2, e3) =
     let s2 : t + 1 + 1 ≡ t + 2 = omega arith in
     let s3 : t + 2 + 1 ≡ t + 3 = omega arith in
     let k1 : kb + (t + 1) ≡ kb + t + 1 = omega arith in
@@ -93,15 +93,6 @@ four-terms x y gs a N lo n c kb t g0 g1 g2 g3 l0 l1 l2 l3 c0 c1 c2 c3 h e0 e1 e2
       column-from N gs (t + 2) lo g2 i (omega arith) c2,
       column-from N gs (t + 3) lo g3 i (omega arith) c3,
     ))
-
--- the four columns are there
-pub four-pre : (at : Terms) (c e t g0 g1 g2 g3 xlen ylen glen len : ℕ) → g0 ≡ at .lo + columnStart (at .nrow) t → g1 ≡ at .lo + columnStart (at .nrow) (t + 1)
-    → g2 ≡ at .lo + columnStart (at .nrow) (t + 2) → g3 ≡ at .lo + columnStart (at .nrow) (t + 3) → TermsPre at c t 4 xlen glen len
-    → TermsPre at e t 4 ylen glen len → FourPre (at .n) g0 g1 g2 g3 xlen ylen glen
-four-pre at c e t g0 g1 g2 g3 xlen ylen glen len c0 c1 c2 c3 x y =
-    let rows = x .rows in
-    let out = x .out in
-    record { first = x .sums; second = y .sums; columns = (omega arith, omega arith, omega arith, omega arith) }
 
 -- ---- terms after terms
 

@@ -2,7 +2,7 @@
 // of both, whose numbers it loads once; each sum still meets its own terms one by one in their order. A reader may rely
 // on the contract of both_sums.
 ghost use mathlib.Core.Path.{_≡_};
-ghost use Prim.Native.Nat.{_+_, _-_, _*_, _≤_};
+ghost use Prim.Native.Nat.{_+_, _-_, _*_, _<_, _≤_};
 ghost use lib.ListN.{length};
 ghost use mir.Syntax.{w64};
 ghost use mir.Val.{Fits};
@@ -38,6 +38,20 @@ fn four_places(nrow: usize, t: usize, lo: usize) -> FourPlaces
     let g2 = column_start(nrow, t + 2);
     let g3 = column_start(nrow, t + 3);
     FourPlaces(lo + g0, lo + g1, lo + g2, lo + g3)
+}
+
+// L of row r in the panel's columns k to k + 3.
+fn four_multipliers(panel: &[f64], nrow: usize, r: usize, k: usize) -> FourMultipliers
+    requires { ⌜ (r < nrow) × (k + 4 ≤ nrow) × ((k + 4) * nrow ≤ length (now panel)) ⌝ }
+    ensures { λ l. ⌜ (l .0 ≡ view nrow (now (panel .entry)) r k) × (l .1 ≡ view nrow (now (panel .entry)) r (k + 1)) ⌝ }
+    ensures { λ l. ⌜ (l .2 ≡ view nrow (now (panel .entry)) r (k + 2))
+        × (l .3 ≡ view nrow (now (panel .entry)) r (k + 3)) ⌝ }
+{
+    let l0 = grid::get(panel, nrow, r, k);
+    let l1 = grid::get(panel, nrow, r, k + 1);
+    let l2 = grid::get(panel, nrow, r, k + 2);
+    let l3 = grid::get(panel, nrow, r, k + 3);
+    FourMultipliers(l0, l1, l2, l3)
 }
 
 // (((x + g0·l0) + g1·l1) + g2·l2) + g3·l3, and the same of y with m; the n numbers of g0 to g3 begin where `at` says. The
@@ -94,16 +108,8 @@ fn add_four(x: &mut [f64], y: &mut [f64], g: &[f64], panel: &[f64], at: Terms, t
     let kb = at.kb;
     let lo = at.lo;
     let places = four_places(nrow, t, lo);
-    let l0 = grid::get(panel, nrow, at.c, kb + t);
-    let l1 = grid::get(panel, nrow, at.c, kb + t + 1);
-    let l2 = grid::get(panel, nrow, at.c, kb + t + 2);
-    let l3 = grid::get(panel, nrow, at.c, kb + t + 3);
-    let m0 = grid::get(panel, nrow, at.e, kb + t);
-    let m1 = grid::get(panel, nrow, at.e, kb + t + 1);
-    let m2 = grid::get(panel, nrow, at.e, kb + t + 2);
-    let m3 = grid::get(panel, nrow, at.e, kb + t + 3);
-    let l = FourMultipliers(l0, l1, l2, l3);
-    let m = FourMultipliers(m0, m1, m2, m3);
+    let l = four_multipliers(panel, nrow, at.c, kb + t);
+    let m = four_multipliers(panel, nrow, at.e, kb + t);
     plus_four(x, y, g, places, at.n, l, m);
 }
 
