@@ -13,8 +13,10 @@ use Rattle.model.specs.Scalar.{_⊖_, _⊗_, zeroF}
 use Rattle.model.specs.Matrix.{Row, Mat, columnStart, view, vec, withColumn, withPart}
 use Rattle.model.proofs.Cases.{test, cmp, no}
 use Rattle.model.proofs.Summed.{sum-same}
-use Rattle.grid.specs.Rules.{columnOf, behind, zeroed, lessEach}
-use Rattle.grid.proofs.Laws.{col-in, vec-part}
+use Rattle.grid.specs.Rules.{columnOf}
+use Rattle.kernels.specs.Rules.{behind, zeroed, lessEach}
+use Rattle.grid.proofs.Laws.{col-in}
+use Rattle.kernels.proofs.Laws.{vec-part}
 use Rattle.grid.proofs.Parts.{column-at, column-lent}
 use Rattle.sums.specs.Sums.{laterRow, rowsFrom, gathered}
 use Rattle.deferred.specs.Columns.{columnDeferred, partDeferred, PairPre, ColumnsPre, RowsPre}

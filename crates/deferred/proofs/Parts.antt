@@ -11,7 +11,7 @@ use Rattle.model.specs.Scalar.{_⊖_, _⊗_}
 use Rattle.model.specs.Matrix.{Mat, within}
 use Rattle.model.proofs.Cases.{test, no}
 use Rattle.model.proofs.Summed.{sum-same}
-use Rattle.grid.specs.Rules.{zeroed}
+use Rattle.kernels.specs.Rules.{zeroed}
 use Rattle.sums.specs.Sums.{laterRow, gathered}
 use Rattle.deferred.specs.Columns.{columnDeferred, partDeferred, ColumnsPre}
 

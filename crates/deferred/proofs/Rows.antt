@@ -14,7 +14,7 @@ use Rattle.model.specs.Step.{Diagonals}
 use Rattle.model.specs.Panel.{timesD, accOf, rowDeferred}
 use Rattle.model.proofs.Cases.{test, no}
 use Rattle.model.proofs.Summed.{sum-same}
-use Rattle.grid.specs.Rules.{zeroed}
+use Rattle.kernels.specs.Rules.{zeroed}
 use Rattle.whole.specs.Whole.{deferredRows}
 use Rattle.products.specs.Products.{columnProduct, withProducts, ProductsPre}
 use Rattle.sums.specs.Sums.{laterRow, gathered}

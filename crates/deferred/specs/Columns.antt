@@ -6,7 +6,7 @@ use Prim.Native.Nat.{ℕ, _+_, _-_, _*_, _<_, _≤_}
 use lib.Dec.{leb}
 use Rattle.model.specs.Scalar.{_⊖_}
 use Rattle.model.specs.Matrix.{Row, Mat, within}
-use Rattle.grid.specs.Rules.{zeroed}
+use Rattle.kernels.specs.Rules.{zeroed}
 use Rattle.sums.specs.Sums.{laterRow, gathered}
 use Rattle.sums.specs.declared.Terms.{Terms}
 

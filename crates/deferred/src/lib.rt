@@ -6,7 +6,8 @@ ghost use Prim.Native.Nat.{_+_, _-_, _<_, _≤_, min, max};
 ghost use lib.ListN.{length};
 ghost use Rattle.model.specs.Matrix.{view, vec, withColumn};
 ghost use Rattle.model.specs.Step.{diagonalsOf};
-ghost use Rattle.grid.specs.Rules.{columnOf, behind, lessEach};
+ghost use Rattle.kernels.specs.Rules.{behind, lessEach};
+ghost use Rattle.grid.specs.Rules.{columnOf};
 ghost use Rattle.whole.specs.Whole.{deferredRows};
 ghost use Rattle.products.specs.Products.{withProducts};
 ghost use Rattle.deferred.specs.Deferred.{DeferredPre};
@@ -49,7 +50,7 @@ fn lose(panel: &mut [f64], nrow: usize, j: usize, lo: usize, hi: usize, s: &[f64
     let b = hi + start;
     let p = from - lo;
     let q = hi - lo;
-    grid::kernels::less_each(&mut panel[a..b], &s[p..q], hi - from);
+    kernels::less_each(&mut panel[a..b], &s[p..q], hi - from);
 }
 
 // The rows of `at` in its columns c and e, each from its diagonal down, lose their sums. Both sums are there before

@@ -12,8 +12,10 @@ use lib.Ieee.{Float}
 use Rattle.model.specs.Scalar.{_⊖_, _⊗_}
 use Rattle.model.specs.Matrix.{Row, Mat, columnStart, view, vec, within, withColumn, withPart}
 use Rattle.model.proofs.Cases.{test, no}
-use Rattle.grid.specs.Rules.{columnOf, times, combined, ThreePre}
-use Rattle.grid.proofs.Parts.{mid-count, column-at, column-lent}
+use Rattle.grid.specs.Rules.{columnOf}
+use Rattle.kernels.specs.Rules.{times, combined, ThreePre}
+use Rattle.kernels.proofs.Parts.{mid-count}
+use Rattle.grid.proofs.Parts.{column-at, column-lent}
 use Rattle.whole.proofs.Masked.{within-in, within-before, within-past, ranged}
 use Rattle.eliminate.specs.Eliminate.{inPanel, KeepPre, SourcePre}
 

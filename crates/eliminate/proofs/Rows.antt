@@ -12,7 +12,8 @@ use Rattle.model.specs.Step.{one, two, eliminated}
 use Rattle.model.specs.Head.{headOne, headTwo, keptOne, keptTwo}
 use Rattle.model.specs.declared.Block.{Block}
 use Rattle.model.proofs.Cases.{test, cmp, no}
-use Rattle.grid.specs.Rules.{columnOf, times, combined}
+use Rattle.grid.specs.Rules.{columnOf}
+use Rattle.kernels.specs.Rules.{times, combined}
 use Rattle.whole.proofs.Masked.{within-before, within-past, one-alike, two-alike, headOne-in, headOne-diagonal, headOne-before, headOne-past}
 use Rattle.whole.proofs.Masked.{firsts, seconds, headTwo-in, headTwo-before, headTwo-past}
 use Rattle.eliminate.specs.Eliminate.{region, sweptOne, sweptTwo, appliedOne, appliedTwo}

@@ -10,7 +10,8 @@ use Rattle.model.specs.Scalar.{_⊖_, _⊗_, zeroF, reciprocalOf}
 use Rattle.model.specs.Matrix.{Row, Mat, within, withColumn}
 use Rattle.model.specs.Step.{lessMultiple}
 use Rattle.model.specs.declared.Block.{Block}
-use Rattle.grid.specs.Rules.{columnOf, times, combined}
+use Rattle.kernels.specs.Rules.{times, combined}
+use Rattle.grid.specs.Rules.{columnOf}
 
 -- the multipliers' buffer by the panel's rows and columns: row j and column c stand at j - kb and c - kb; +0.0 outside the panel
 unfoldable pub inPanel : ℕ → ℕ → Mat → Mat

@@ -2,12 +2,12 @@
 // column c − kb. What is kept is for the rows below the panel. A reader may rely on the contracts: no other number of
 // the buffer changes within the panel.
 use grid::column_start;
-use grid::kernels;
 use model::Frame;
 ghost use mathlib.Core.Path.{_≡_};
 ghost use lib.ListN.{length};
 ghost use Rattle.model.specs.Matrix.{view, withColumn};
-ghost use Rattle.grid.specs.Rules.{columnOf, times, combined};
+ghost use Rattle.kernels.specs.Rules.{times, combined};
+ghost use Rattle.grid.specs.Rules.{columnOf};
 ghost use Rattle.eliminate.specs.Eliminate.{inPanel, KeepPre, SourcePre};
 
 // Rows lo up to ke of column c become those of the panel times r.

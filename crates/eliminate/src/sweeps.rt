@@ -1,7 +1,7 @@
 // The columns of a panel past a pivot, each less the pivot's part: one column a turn, lent with the pivot's as one part
 // of the panel. A reader may rely on the contracts: no other number changes.
-use grid::TwoMultipliers;
 use grid::columns;
+use kernels::TwoMultipliers;
 use model::Frame;
 ghost use mathlib.Core.Path.{_≡_};
 ghost use Prim.Native.Nat.{_+_, max};

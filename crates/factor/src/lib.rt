@@ -106,7 +106,7 @@ fn accept(
         (now (work .entry))) ⌝ }
 {
     scan::marks_of(panel, marks, c.ncol, c.nrow, finite);
-    grid::kernels::zero(work);
+    kernels::zero(work);
     let inertia = inertia::tally(d, sub, blocks);
     Factored::Accepted(Report { rounds, inertia })
 }

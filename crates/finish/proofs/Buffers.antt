@@ -15,8 +15,8 @@ use Rattle.model.specs.Step.{pivotsOf}
 use Rattle.model.specs.Head.{State, blank}
 use Rattle.model.specs.Factor.{Buffers, start, zeros}
 use Rattle.model.proofs.Tabulated.{length-tabulateFrom, getD-tabulate, is-tabulate}
-use Rattle.grid.proofs.Laws.{test, vec-part}
-use Rattle.grid.proofs.Parts.{part-lent}
+use Rattle.kernels.proofs.Laws.{test, vec-part}
+use Rattle.kernels.proofs.Parts.{part-lent}
 use Rattle.finish.specs.Buffers.{buffersOf, inOrder, Begun}
 
 -- ---- the copy

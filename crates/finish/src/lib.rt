@@ -11,7 +11,6 @@ ghost use Rattle.finish.specs.Buffers.{buffersOf, inOrder, Begun, PartPr
 ghost use Rattle.scan.specs.Finite.{columnFinite, KnownFinite};
 ghost use Rattle.finish.specs.Result.{blockSound};
 ghost use Rattle.finish.specs.Result.{HeadPre, PivotsPre, ResultPre};
-use grid::kernels;
 use model::Block;
 use model::Check;
 use model::Elim;

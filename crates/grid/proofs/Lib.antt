@@ -1,4 +1,4 @@
--- Laws of a list seen as a matrix, of the slice kernels, and of parts that are lent: cited by every crate above.
+-- Laws of a list seen as a matrix, of columns that are lent, and of the exchange of two: cited by every crate above.
 pub mod Laws
-pub mod Rules
 pub mod Parts
+pub mod Exchange

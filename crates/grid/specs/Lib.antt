@@ -1,3 +1,3 @@
--- Rules of the slice kernels and of parts of columns, and what the functions ask of their callers.
+-- Places of a panel, rules of parts of its columns, and what the functions ask of their callers.
 pub mod Grid
 pub mod Rules

@@ -1,20 +1,19 @@
 // Rows lo up to hi of columns of a column-major panel, lent to a kernel as a part of the panel. A vector that goes with
 // them holds number i for row i. A reader may rely on the contracts: nothing else of the panel or of the vector
 // changes.
-use super::FourMultipliers;
-use super::ThreeMultipliers;
-use super::TwoMultipliers;
 use super::column_start;
-use super::kernels;
+use kernels::FourMultipliers;
+use kernels::ThreeMultipliers;
+use kernels::TwoMultipliers;
 ghost use mathlib.Core.Path.{_≡_};
 ghost use Prim.Native.Nat.{_+_};
 ghost use lib.ListN.{length};
 ghost use mir.Syntax.{w64};
 ghost use mir.Val.{Fits};
 ghost use Rattle.model.specs.Matrix.{view, vec, withColumn, withPart};
-ghost use Rattle.grid.specs.Rules.{columnOf, zeroed, lessTimes, lessTimesIf, lessTwo, lessThree, lessFour};
-ghost use Rattle.grid.specs.Rules.{plusTimes, times, combined, columnsExchanged};
-ghost use Rattle.grid.specs.Rules.{PartPre, ColumnPre, LaterPre, RowsPre, ExchangePre};
+ghost use Rattle.kernels.specs.Rules.{zeroed, plusTimes, times, combined};
+ghost use Rattle.grid.specs.Rules.{columnOf, lessTimes, lessTimesIf, lessTwo, lessThree, lessFour};
+ghost use Rattle.grid.specs.Rules.{columnsExchanged, PartPre, ColumnPre, LaterPre, RowsPre, ExchangePre};
 
 // Numbers lo up to hi of x become +0.0.
 pub fn zero(x: &mut [f64], lo: usize, hi: usize)
@@ -90,9 +89,8 @@ fn less(panel: &mut [f64], nrow: usize, k: usize, j: usize, lo: usize, hi: usize
     let first = column_start(nrow, k);
     let own = column_start(nrow, j);
     let a = lo + first;
-    let x = lo + own;
     let e = hi + own;
-    kernels::less_ahead(&mut panel[a..e], x - a, hi - lo, m);
+    kernels::less_ahead(&mut panel[a..e], own - first, hi - lo, m);
 }
 
 // The same, and nothing where m is a zero of either sign.
@@ -124,11 +122,12 @@ pub fn less_two(
         (columnOf (view nrow (now (panel .entry))) (k + 1)) (m .0) (m .1)) ⌝ }
 {
     let first = column_start(nrow, k);
+    let second = column_start(nrow, k + 1);
     let own = column_start(nrow, j);
     let a = lo + first;
-    let x = lo + own;
     let e = hi + own;
-    kernels::less_two_ahead(&mut panel[a..e], nrow, x - a, hi - lo, m.0, m.1);
+    let p = second - first;
+    kernels::less_two_ahead(&mut panel[a..e], p, own - first, hi - lo, m);
 }
 
 // Of columns k to k + 2.
@@ -149,11 +148,14 @@ pub fn less_three(
         (m .0) (m .1) (m .2)) ⌝ }
 {
     let first = column_start(nrow, k);
+    let second = column_start(nrow, k + 1);
+    let third = column_start(nrow, k + 2);
     let own = column_start(nrow, j);
     let a = lo + first;
-    let x = lo + own;
     let e = hi + own;
-    kernels::less_three_ahead(&mut panel[a..e], nrow, x - a, hi - lo, m.0, m.1, m.2);
+    let p = second - first;
+    let r = third - first;
+    kernels::less_three_ahead(&mut panel[a..e], p, r, own - first, hi - lo, m);
 }
 
 // Of columns k to k + 3.
@@ -174,11 +176,16 @@ pub fn less_four(
         (columnOf (view nrow (now (panel .entry))) (k + 3)) (m .0) (m .1) (m .2) (m .3)) ⌝ }
 {
     let first = column_start(nrow, k);
+    let second = column_start(nrow, k + 1);
+    let third = column_start(nrow, k + 2);
+    let fourth = column_start(nrow, k + 3);
     let own = column_start(nrow, j);
     let a = lo + first;
-    let x = lo + own;
     let e = hi + own;
-    kernels::less_four_ahead(&mut panel[a..e], nrow, x - a, hi - lo, m.0, m.1, m.2, m.3);
+    let p = second - first;
+    let r = third - first;
+    let s = fourth - first;
+    kernels::less_four_ahead(&mut panel[a..e], p, r, s, own - first, hi - lo, m);
 }
 
 // Rows lo up to hi of columns p and q, one for the other; nothing where they are the same column.

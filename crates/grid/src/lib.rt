@@ -1,6 +1,6 @@
-// A column-major panel: where its columns begin, and one number read and written, here; slice kernels in kernels.rt,
-// parts of columns lent to them in columns.rt; and the multipliers that a column goes by, where it loses several others
-// in one pass. Whoever needs an address asks column_start for it: no other code knows how the columns lie.
+// A column-major panel: where its columns begin, and one number read and written, here; parts of columns lent to the
+// slice kernels in columns.rt. Whoever needs an address asks column_start for it: no other code knows how the columns
+// lie.
 ghost use mathlib.Core.Path.{_≡_};
 ghost use lib.ListN.{length};
 ghost use mir.Syntax.{w64};
@@ -9,14 +9,6 @@ ghost use Rattle.model.specs.Matrix.{columnStart, view, putAt};
 ghost use Rattle.grid.specs.Grid.{In};
 
 pub mod columns;
-pub mod kernels;
-
-// A column's own multipliers of two columns, in the order in which it loses them; of three; of four.
-pub struct TwoMultipliers(pub f64, pub f64);
-
-pub struct ThreeMultipliers(pub f64, pub f64, pub f64);
-
-pub struct FourMultipliers(pub f64, pub f64, pub f64, pub f64);
 
 // Where column j of a panel of nrow rows begins: row i of it stands i further on.
 pub fn column_start(nrow: usize, j: usize) -> usize

@@ -14,7 +14,8 @@ use Rattle.model.specs.Head.{lastOf}
 use Rattle.model.specs.declared.Diagonal.{Diagonal}
 use Rattle.model.specs.declared.Diagonal.the-variants.{One, Two}
 use Rattle.model.proofs.Cases.{test, no}
-use Rattle.grid.specs.Rules.{columnOf, times, combined, columnsExchanged}
+use Rattle.kernels.specs.Rules.{times, combined}
+use Rattle.grid.specs.Rules.{columnOf, columnsExchanged}
 use Rattle.whole.specs.Whole.{below}
 use Rattle.whole.proofs.Masked.{ranged}
 use Rattle.pairs.specs.Pairs.{stepOf, rowAfterBoth, lessAt, strip, sweptFirst, sweptBoth, ownBy}

@@ -17,8 +17,9 @@ use Rattle.model.specs.declared.Block.{Block}
 use Rattle.model.specs.declared.Diagonal.{Diagonal}
 use Rattle.model.specs.declared.Diagonal.the-variants.{One, Two}
 use Rattle.model.proofs.Cases.{test, cmp}
+use Rattle.kernels.specs.Rules.{times, combined}
 use Rattle.grid.specs.Grid.{In}
-use Rattle.grid.specs.Rules.{columnOf, times, combined, LaterPre, RowsPre, ExchangePre}
+use Rattle.grid.specs.Rules.{columnOf, LaterPre, RowsPre, ExchangePre}
 use Rattle.pairs.specs.Pairs.{lessAt, stepped, steppedTwice, strip, sweptFirst, sweptBoth, ownBy, PartPre, SweepPre, StepPre, PairPre}
 use Rattle.pairs.specs.declared.Part.{Part}
 use Rattle.pairs.proofs.Column.{last-from}

@@ -11,7 +11,8 @@ use Rattle.model.specs.Step.{Step, one, two, lessMultiple, rowAfterStep}
 use Rattle.model.specs.Head.{lastOf}
 use Rattle.model.specs.declared.Diagonal.{Diagonal}
 use Rattle.model.specs.declared.Diagonal.the-variants.{One, Two}
-use Rattle.grid.specs.Rules.{columnOf, times, combined}
+use Rattle.kernels.specs.Rules.{times, combined}
+use Rattle.grid.specs.Rules.{columnOf}
 use Rattle.pairs.specs.declared.Part.{Part}
 
 -- the step of the pivot x at k; of a 1x1 the second multipliers are not read

@@ -1,10 +1,10 @@
 // A column of a part less the parts of one pivot or of two, in one pass: the operations of each number are those of the
 // pivots one after the other, in their order. The first pivot stands in the part's first columns. A reader may rely on
 // the contracts: no other number changes.
-use grid::FourMultipliers;
-use grid::ThreeMultipliers;
-use grid::TwoMultipliers;
 use grid::columns;
+use kernels::FourMultipliers;
+use kernels::ThreeMultipliers;
+use kernels::TwoMultipliers;
 ghost use mathlib.Core.Path.{_≡_};
 ghost use Prim.Native.Nat.{_+_};
 ghost use lib.ListN.{length};

@@ -5,10 +5,10 @@
 // i + j·nrow, and the multiplier of row j in column c at j + c·nb. A reader may rely on the contracts of below_step and
 // below_pair: they cite the model's steps, and leave every other number of the part alone.
 use diagonal::is_block;
-use grid::FourMultipliers;
-use grid::ThreeMultipliers;
-use grid::TwoMultipliers;
 use grid::columns;
+use kernels::FourMultipliers;
+use kernels::ThreeMultipliers;
+use kernels::TwoMultipliers;
 use model::Diagonal;
 use scalar::reciprocal;
 ghost use mathlib.Core.Path.{_≡_};

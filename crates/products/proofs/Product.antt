@@ -14,7 +14,8 @@ use Rattle.model.specs.Matrix.{Row, Mat, columnStart, view, vec, bytes, withCol
 use Rattle.model.specs.Step.{Diagonals, diagonalsOf, endsBlock}
 use Rattle.model.specs.Panel.{timesD}
 use Rattle.model.proofs.Cases.{test, cmp}
-use Rattle.grid.specs.Rules.{columnOf, times, blended}
+use Rattle.grid.specs.Rules.{columnOf}
+use Rattle.kernels.specs.Rules.{times, blended}
 use Rattle.grid.proofs.Parts.{column-at, column-lent}
 use Rattle.products.specs.Products.{columnProduct, withProducts, BlendPre, ProductPre, ProductsPre}
 

@@ -5,7 +5,8 @@ ghost use Prim.Native.Nat.{_+_, _-_};
 ghost use lib.ListN.{length};
 ghost use Rattle.model.specs.Matrix.{view, withColumn};
 ghost use Rattle.model.specs.Step.{diagonalsOf};
-ghost use Rattle.grid.specs.Rules.{columnOf, times, blended};
+ghost use Rattle.grid.specs.Rules.{columnOf};
+ghost use Rattle.kernels.specs.Rules.{times, blended};
 ghost use Rattle.products.specs.Products.{columnProduct, withProducts};
 ghost use Rattle.products.specs.Products.{ScalePre, BlendPre, ProductPre, ProductsPre};
 use grid::column_start;
@@ -23,7 +24,7 @@ fn scale_column(g: &mut [f64], panel: &[f64], nrow: usize, t: usize, k: usize, l
     let b = nrow + out;
     let c = lo + source;
     let e = nrow + source;
-    grid::kernels::scale(&mut g[a..b], &panel[c..e], nrow - lo, r);
+    kernels::scale(&mut g[a..b], &panel[c..e], nrow - lo, r);
 }
 
 // Rows from lo on of g's column t become those of the panel's columns k and j times p and q, added.
@@ -53,7 +54,7 @@ fn blend_columns(
     let e = nrow + source;
     let u = lo + other;
     let v = nrow + other;
-    grid::kernels::blend(&mut g[a..b], &panel[c..e], &panel[u..v], nrow - lo, p, q);
+    kernels::blend(&mut g[a..b], &panel[c..e], &panel[u..v], nrow - lo, p, q);
 }
 
 // Rows from lo on of g's column t become L·D of the panel's column k.

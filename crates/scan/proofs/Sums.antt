@@ -13,7 +13,8 @@ use Rattle.model.specs.Scalar.{_⊕_, zeroF, isFinite}
 use Rattle.model.specs.Matrix.{Row, columnStart, view, vec}
 use Rattle.model.specs.Panel.{sumFrom}
 use Rattle.model.proofs.Cases.{test, one-left, none-left}
-use Rattle.grid.proofs.Parts.{column-at, mid-count}
+use Rattle.grid.proofs.Parts.{column-at}
+use Rattle.kernels.proofs.Parts.{mid-count}
 use Rattle.scan.specs.Finite.{everySecond, sixteen, longSum, sumOf, columnSum}
 
 -- ---- two terms

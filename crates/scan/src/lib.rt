@@ -319,7 +319,7 @@ pub fn marks_of(panel: &[f64], marks: &mut [u8], ncol: usize, nrow: usize, finit
     requires { ⌜ KnownFinite finite (view nrow (now panel)) nrow ncol ⌝ }
     ensures { λ _. ⌜ now (marks .exit) ≡ tailMarks (view nrow (now (panel .entry))) ncol nrow ncol ⌝ }
 {
-    grid::kernels::zero_bytes(marks);
+    kernels::zero_bytes(marks);
     if finite {
         return;
     }

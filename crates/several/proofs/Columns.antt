@@ -8,7 +8,8 @@ use borrow.Author.Tests.{lt-ltb}
 use lib.ListN.{length}
 use lib.Ieee.{Float}
 use Rattle.model.specs.Matrix.{Row, Mat, columnStart, view, vec, withPart, withColumn}
-use Rattle.grid.specs.Rules.{columnOf, behind, lessTimes, lessTwo, lessThree}
+use Rattle.kernels.specs.Rules.{behind}
+use Rattle.grid.specs.Rules.{columnOf, lessTimes, lessTwo, lessThree}
 use Rattle.grid.proofs.Parts.{rowView, view-part}
 use Rattle.several.specs.Several.{runsBy, twoFrom, threeFrom, fourLessTwo, twoLessThree, columnsBy, fourColumns, twoColumns, RunsPre, ColumnsPre}
 

@@ -10,8 +10,9 @@ use lib.ListN.{length, getD, set, length-set}
 use lib.Seq.{getD-set-other}
 use lib.Ieee.{Float, nan, binary64, sub, mul}
 use Rattle.model.specs.Matrix.{Row, vec, put, withPart}
-use Rattle.grid.specs.Rules.{behind, lessTimes, lessTwo, lessThree}
-use Rattle.grid.proofs.Laws.{test, vec-set, withPart-none, withPart-before, withPart-past, withPart-more}
+use Rattle.kernels.specs.Rules.{behind}
+use Rattle.kernels.proofs.Laws.{test, vec-set, withPart-none, withPart-before, withPart-past, withPart-more}
+use Rattle.grid.specs.Rules.{lessTimes, lessTwo, lessThree}
 use Rattle.several.specs.Several.{pick, runsBy, twoFrom, threeFrom, fourLessTwo, twoLessThree}
 
 -- ---- places that are not written

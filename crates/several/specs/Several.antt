@@ -3,7 +3,8 @@
 use Prim.Native.Nat.{ℕ, zero, suc, _+_, _-_, _*_, _<_, _≤_}
 use lib.Ieee.{Float}
 use Rattle.model.specs.Matrix.{Row, Mat, withPart, withColumn}
-use Rattle.grid.specs.Rules.{columnOf, behind, lessTwo, lessThree}
+use Rattle.kernels.specs.Rules.{behind}
+use Rattle.grid.specs.Rules.{columnOf, lessTwo, lessThree}
 
 -- the u-th of four, and the last from there on
 unfoldable pub pick : Float → Float → Float → Float → ℕ → Float

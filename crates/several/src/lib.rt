@@ -1,9 +1,9 @@
 // Several later columns of a part of a panel, each less its own multiples of the part's first columns, in one pass:
 // those are read once for all of them. Row i of column j stands at i + j·nrow. Each number keeps its operations and
 // their order. A reader may rely on the contracts: no other number changes.
-use grid::ThreeMultipliers;
-use grid::TwoMultipliers;
 use grid::column_start;
+use kernels::ThreeMultipliers;
+use kernels::TwoMultipliers;
 ghost use mathlib.Core.Path.{_≡_};
 ghost use Prim.Native.Nat.{_+_};
 ghost use lib.ListN.{length};

@@ -16,9 +16,10 @@ use Rattle.model.specs.Matrix.{Row, Mat, columnStart, view, vec, withPart}
 use Rattle.model.specs.Panel.{sumFrom}
 use Rattle.model.proofs.Cases.{test}
 use Rattle.model.proofs.Summed.{sum-append}
-use Rattle.grid.specs.Rules.{ahead, zeroed, plusTimes, plusFour}
-use Rattle.grid.proofs.Laws.{vec-part}
-use Rattle.grid.proofs.Rules.{plus-four-step}
+use Rattle.model.specs.Kept.{ahead}
+use Rattle.kernels.specs.Rules.{zeroed, plusTimes, plusFour}
+use Rattle.kernels.proofs.Laws.{vec-part}
+use Rattle.kernels.proofs.Rules.{plus-four-step}
 use Rattle.sums.specs.declared.Terms.{Terms}
 use Rattle.sums.specs.Sums.{laterRow, rowsFrom, gathered, TermsPre, GatherPre}
 

@@ -7,9 +7,10 @@ ghost use lib.ListN.{length};
 ghost use mir.Syntax.{w64};
 ghost use mir.Val.{Fits};
 ghost use Rattle.model.specs.Matrix.{columnStart, view, vec, withPart};
-ghost use Rattle.grid.specs.Rules.{ahead, zeroed, plusFour};
+ghost use Rattle.model.specs.Kept.{ahead};
+ghost use Rattle.kernels.specs.Rules.{zeroed, plusFour};
 ghost use Rattle.sums.specs.Sums.{laterRow, rowsFrom, gathered, FourPre, TermsPre, GatherPre};
-use grid::FourMultipliers;
+use kernels::FourMultipliers;
 use grid::column_start;
 
 // What is summed, in a panel of nrow rows: for the n rows from lo on, the terms of the panel's w columns from kb on, in
@@ -170,7 +171,7 @@ fn add_one(x: &mut [f64], g: &[f64], panel: &[f64], at: Terms, j: usize, t: usiz
     let l = grid::get(panel, nrow, j, kb + t);
     let a = lo + column_start(nrow, t);
     let b = a + n;
-    grid::kernels::plus(x, &g[a..b], n, l);
+    kernels::plus(x, &g[a..b], n, l);
 }
 
 // They gain the terms of columns s up to w one by one.

@@ -12,7 +12,8 @@ use lib.ListN.{length, getD, drop, length-drop}
 use lib.Seq.{getD-drop, take-all}
 use lib.Ieee.{Float, nan}
 use Rattle.model.specs.Matrix.{Row, Mat, view, vec, withPart}
-use Rattle.grid.proofs.Laws.{test, view-at, view-out, vec-put}
+use Rattle.kernels.proofs.Laws.{test, vec-put}
+use Rattle.grid.proofs.Laws.{view-at, view-out}
 use Rattle.whole.specs.Whole.{below}
 use Rattle.whole.proofs.Masked.{within-in, within-before, within-past}
 use Rattle.eliminate.specs.Eliminate.{inPanel}

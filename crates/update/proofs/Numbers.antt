@@ -12,9 +12,11 @@ use Rattle.model.specs.Scalar.{_⊕_, _⊖_, _⊗_, zeroF}
 use Rattle.model.specs.Matrix.{Row, Mat, columnStart, view, vec, bytes, within, withPart}
 use Rattle.model.specs.Panel.{timesD, sumFrom}
 use Rattle.model.proofs.Cases.{test}
+use Rattle.kernels.specs.Rules.{zeroed, plusTimes}
+use Rattle.kernels.proofs.Laws.{vec-set, withPart-step}
 use Rattle.grid.specs.Grid.{In}
-use Rattle.grid.specs.Rules.{columnOf, zeroed, plusTimes, ColumnPre}
-use Rattle.grid.proofs.Laws.{in-col, col-in, vec-set, withPart-step, own-set}
+use Rattle.grid.specs.Rules.{columnOf, ColumnPre}
+use Rattle.grid.proofs.Laws.{in-col, col-in, own-set}
 use Rattle.checks.proofs.Bytes.{bytes-paired}
 use Rattle.update.specs.Apply.{weighed, sums, lessAt, lessFrom, WeightPre, WeighPre, SumPre, SubtractPre}
 

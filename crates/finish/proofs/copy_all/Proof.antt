@@ -4,7 +4,7 @@ use mathlib.Core.Path.{_≡_}
 use lib.ListN.{length}
 use borrow.Author.Needs.{needs}
 use Rattle.model.specs.Matrix.{vec, withPart}
-use Rattle.grid.proofs.Rules.{rule-none}
+use Rattle.kernels.proofs.Rules.{rule-none}
 use Rattle.finish.proofs.Buffers.{copy-step, copy-end}
 use Rattle.finish.proofs.copy_all.Statement.{statement}
 use Rattle.finish.proofs.copy_all.Tie as tie

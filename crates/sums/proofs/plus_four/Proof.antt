@@ -5,9 +5,10 @@ use mathlib.Core.Path.{_≡_}
 use lib.ListN.{length}
 use borrow.Author.Needs.{needs}
 use Rattle.model.specs.Matrix.{vec, withPart}
-use Rattle.grid.specs.Rules.{ahead, plusFour}
-use Rattle.grid.proofs.Laws.{withPart-end}
-use Rattle.grid.proofs.Rules.{rule-none}
+use Rattle.model.specs.Kept.{ahead}
+use Rattle.kernels.specs.Rules.{plusFour}
+use Rattle.kernels.proofs.Laws.{withPart-end}
+use Rattle.kernels.proofs.Rules.{rule-none}
 use Rattle.sums.proofs.Sum.{four-step}
 use Rattle.sums.proofs.plus_four.Statement.{statement}
 use Rattle.sums.proofs.plus_four.Tie as tie

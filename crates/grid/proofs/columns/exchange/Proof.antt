@@ -6,7 +6,7 @@ use lib.ListN.{length, length-set}
 use borrow.Author.Needs.{needs}
 use Rattle.model.specs.Matrix.{view}
 use Rattle.grid.specs.Rules.{columnsExchanged}
-use Rattle.grid.proofs.Parts.{exchange-none, exchange-step, exchange-end, exchange-same}
+use Rattle.grid.proofs.Exchange.{exchange-none, exchange-step, exchange-end, exchange-same}
 use Rattle.grid.proofs.columns.exchange.Statement.{statement}
 use Rattle.grid.proofs.columns.exchange.Tie as tie
 

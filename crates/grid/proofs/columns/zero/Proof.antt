@@ -1,6 +1,6 @@
 -- `grid::columns::zero` meets its contract: what the kernel makes of the lent part is made of the whole. Assumes nothing.
 use borrow.Author.Needs.{needs}
-use Rattle.grid.proofs.Parts.{zero-lent}
+use Rattle.kernels.proofs.Parts.{zero-lent}
 use Rattle.grid.proofs.columns.zero.Statement.{statement}
 use Rattle.grid.proofs.columns.zero.Tie as tie
 

@@ -5,7 +5,7 @@ use native.Mathlib.Omega.{arith}
 use lib.ListN.{length}
 use borrow.Author.Needs.{needs}
 use Rattle.model.specs.Matrix.{view, vec, withPart}
-use Rattle.grid.proofs.Laws.{withPart-none, withPart-end}
+use Rattle.kernels.proofs.Laws.{withPart-none, withPart-end}
 use Rattle.update.specs.Apply.{weighed}
 use Rattle.update.proofs.Numbers.{weigh-column, weigh-step}
 use Rattle.update.proofs.apply.weigh.Statement.{statement}

@@ -1,0 +1,2 @@
+-- Rules of the slice kernels, and what the kernels ask of their callers.
+pub mod Rules
