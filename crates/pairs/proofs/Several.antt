@@ -9,9 +9,10 @@ use Rattle.model.specs.Scalar.{zeroF}
 use Rattle.model.specs.Matrix.{Row, Mat, withColumn, exchangedPlace}
 use Rattle.model.specs.Head.{lastOf}
 use Rattle.model.proofs.Cases.{cmp, and-left, and-right}
+use Rattle.kernels.specs.Rules.{pick}
 use Rattle.grid.specs.Rules.{columnOf, lessTimes, lessTwo, lessThree}
 use Rattle.grid.proofs.Laws.{withColumn-other}
-use Rattle.several.specs.Several.{pick, columnsBy, fourColumns, twoColumns, ColumnsPre}
+use Rattle.several.specs.Several.{columnsBy, fourColumns, twoColumns, ColumnsPre}
 use Rattle.pairs.specs.Pairs.{lessAt, steppedTwice, strip, sweptBoth, neitherZero, PairPre}
 use Rattle.pairs.specs.declared.Part.{Part}
 use Rattle.pairs.proofs.Column.{last-from, block-last, single-last}

@@ -1,36 +1,45 @@
 // Several later columns of a part of a panel, each less its own multiples of the part's first columns, in one pass:
-// those are read once for all of them. Row i of column j stands at i + j·nrow. Each number keeps its operations and
-// their order. A reader may rely on the contracts: no other number changes.
+// those are read once for all of them. The kernels here take the places where columns begin, and know nothing else of
+// how the columns lie. Each number keeps its operations and their order. A reader may rely on the contracts: no other
+// number changes.
 use grid::column_start;
 use kernels::ThreeMultipliers;
 use kernels::TwoMultipliers;
 ghost use mathlib.Core.Path.{_≡_};
 ghost use Prim.Native.Nat.{_+_};
 ghost use lib.ListN.{length};
+ghost use mir.Syntax.{w64};
+ghost use mir.Val.{Fits};
 ghost use Rattle.model.specs.Matrix.{view, vec};
+ghost use Rattle.kernels.specs.Rules.{pick};
 ghost use Rattle.several.specs.Several.{runsBy, fourLessTwo, twoLessThree, columnsBy, fourColumns, twoColumns};
-ghost use Rattle.several.specs.Several.{RunsPre, ColumnsPre};
+ghost use Rattle.several.specs.Several.{FourRunsPre, TwoRunsPre, ColumnsPre};
 
-// Four runs of n numbers, from q on and each p after the one before it: each less the slice's first n numbers, then
-// less the n from p on, times its own multipliers, a to d in turn. The loop vectorises: no branch, no call.
+// Where four runs begin, each past the one before it.
+struct FourRuns(usize, usize, usize, usize);
+
+// Four runs of n numbers, which begin where `to` says: each less the slice's first n numbers, then less the n from p on,
+// times its own multipliers, a to d in turn. The loop vectorises: no branch, no call.
 fn four_less_two(
     x: &mut [f64],
     p: usize,
-    q: usize,
+    to: FourRuns,
     n: usize,
     a: TwoMultipliers,
     b: TwoMultipliers,
     c: TwoMultipliers,
     d: TwoMultipliers,
 )
-    requires { ⌜ RunsPre n p p q (q + p + p + p) (length (now x)) ⌝ }
+    requires { ⌜ FourRunsPre n p (to .0) (to .1) (to .2) (to .3) (length (now x)) ⌝ }
     ensures { λ _. ⌜ vec (now (x .exit))
-        ≡ runsBy (vec (now (x .entry))) p q n
-        (fourLessTwo (vec (now (x .entry))) p q (a .0) (a .1) (b .0) (b .1) (c .0) (c .1) (d .0) (d .1)) 4 ⌝ }
+        ≡ runsBy (vec (now (x .entry))) (pick (to .0) (to .1) (to .2) (to .3)) n
+        (fourLessTwo (vec (now (x .entry))) p (pick (to .0) (to .1) (to .2) (to .3))
+        (a .0) (a .1) (b .0) (b .1) (c .0) (c .1) (d .0) (d .1)) 4 ⌝ }
 {
-    let y = q + p;
-    let z = y + p;
-    let w = z + p;
+    let q = to.0;
+    let y = to.1;
+    let z = to.2;
+    let w = to.3;
     for i in 0..n {
         let s = x[i];
         let t = x[p + i];
@@ -41,23 +50,23 @@ fn four_less_two(
     }
 }
 
-// Two runs of n numbers, from q on and p after it: each less the slice's first n numbers, then less the n from p on,
-// then less the n from 2p on, times its own multipliers, a and b. The loop vectorises in the same way.
+// Two runs of n numbers, from q and from y on: each less the slice's first n numbers, then less the n from p on, then
+// less the n from r on, times its own multipliers, a and b. The loop vectorises in the same way.
 fn two_less_three(
     x: &mut [f64],
     p: usize,
+    r: usize,
     q: usize,
+    y: usize,
     n: usize,
     a: ThreeMultipliers,
     b: ThreeMultipliers,
 )
-    requires { ⌜ RunsPre n p (p + p) q (q + p) (length (now x)) ⌝ }
+    requires { ⌜ TwoRunsPre n p r q y (length (now x)) ⌝ }
     ensures { λ _. ⌜ vec (now (x .exit))
-        ≡ runsBy (vec (now (x .entry))) p q n
-        (twoLessThree (vec (now (x .entry))) p q (a .0) (a .1) (a .2) (b .0) (b .1) (b .2)) 2 ⌝ }
+        ≡ runsBy (vec (now (x .entry))) (pick q y y y) n
+        (twoLessThree (vec (now (x .entry))) p r (pick q y y y) (a .0) (a .1) (a .2) (b .0) (b .1) (b .2)) 2 ⌝ }
 {
-    let r = p + p;
-    let y = q + p;
     for i in 0..n {
         let s = x[i];
         let t = x[p + i];
@@ -80,12 +89,17 @@ pub fn less_two_of_four(
     d: TwoMultipliers,
 )
     requires { ⌜ ColumnsPre nrow rows 1 j (j + 3) (length (now part)) ⌝ }
+    requires { ⌜ Fits w64 (j + 3) ⌝ }
     ensures { λ _. ⌜ view nrow (now (part .exit))
         ≡ columnsBy (view nrow (now (part .entry))) j 0 rows
         (fourColumns (view nrow (now (part .entry))) j (a .0) (a .1) (b .0) (b .1) (c .0) (c .1) (d .0) (d .1)) 4 ⌝ }
 {
-    let start = column_start(nrow, j);
-    four_less_two(part, nrow, start, rows, a, b, c, d);
+    let p = column_start(nrow, 1);
+    let q = column_start(nrow, j);
+    let y = column_start(nrow, j + 1);
+    let z = column_start(nrow, j + 2);
+    let w = column_start(nrow, j + 3);
+    four_less_two(part, p, FourRuns(q, y, z, w), rows, a, b, c, d);
 }
 
 // The first `rows` rows of columns j and j + 1 lose those of columns 0, 1 and 2 in turn, times their own multipliers.
@@ -98,10 +112,14 @@ pub fn less_three_of_two(
     b: ThreeMultipliers,
 )
     requires { ⌜ ColumnsPre nrow rows 2 j (j + 1) (length (now part)) ⌝ }
+    requires { ⌜ Fits w64 (j + 1) ⌝ }
     ensures { λ _. ⌜ view nrow (now (part .exit))
         ≡ columnsBy (view nrow (now (part .entry))) j 0 rows
         (twoColumns (view nrow (now (part .entry))) j (a .0) (a .1) (a .2) (b .0) (b .1) (b .2)) 2 ⌝ }
 {
-    let start = column_start(nrow, j);
-    two_less_three(part, nrow, start, rows, a, b);
+    let p = column_start(nrow, 1);
+    let r = column_start(nrow, 2);
+    let q = column_start(nrow, j);
+    let y = column_start(nrow, j + 1);
+    two_less_three(part, p, r, q, y, rows, a, b);
 }

@@ -6,26 +6,31 @@ use native.Mathlib.Omega.{arith}
 use lib.ListN.{length, length-set}
 use borrow.Author.Needs.{needs}
 use Rattle.model.specs.Matrix.{vec}
+use Rattle.kernels.specs.Rules.{pick}
 use Rattle.several.specs.Several.{runsBy, fourLessTwo}
 use Rattle.several.proofs.Runs.{runs-none, four-step, runs-end}
 use Rattle.several.proofs.four_less_two.Statement.{statement}
 use Rattle.several.proofs.four_less_two.Tie as tie
 
 abbrev Inv-loop : tie.InvT-loop
-Inv-loop x₀ p q n a b c d y z w i₀ x i =
-    (i ≤ n) × (length x ≡ length x₀) × (vec x ≡ runsBy (vec x₀) p q i (fourLessTwo (vec x₀) p q (a .0) (a .1) (b .0) (b .1) (c .0) (c .1) (d .0) (d .1)) 4)
+Inv-loop x₀ p n a b c d q y z w i₀ x i =
+    (i ≤ n) × (length x ≡ length x₀)
+    × (vec x ≡ runsBy (vec x₀) (pick q y z w) i (fourLessTwo (vec x₀) p (pick q y z w) (a .0) (a .1) (b .0) (b .1) (c .0) (c .1) (d .0) (d .1)) 4)
 
 abbrev μ-loop : tie.MeasureT-loop
-μ-loop x₀ p q n a b c d y z w i₀ x i = n - i
+μ-loop x₀ p n a b c d q y z w i₀ x i = n - i
 
 loop-again : tie.Need-loop-again Inv-loop μ-loop
 loop-again c =
-    let turn = c .before .before .before .before .before .before .before .before .before .before .before .before .before .before .before in
-    let given = turn .before .args in (
+    let within : tie.In-loop Inv-loop μ-loop = search in
+    let turn = within .before in
+    let start = turn .before in
+    let g = start .args in
+    let l = within .loop-test .taken in (
       search needs,
       search needs,
-      four-step _ (turn .loop .x) (given .p) (given .q) (turn .loop .i) (given .n) (length (given .x .now)) _ _ _ _ _ _ _ _
-          (search needs) (search needs) (search needs) (search needs) (search needs) (search needs) _ _ _ refl refl refl,
+      four-step _ (turn .loop .x) (g .p) (g .to .0) (g .to .1) (g .to .2) (g .to .3) (turn .loop .i) (g .n) (length (g .x .now)) _ _ _ _ _ _ _ _
+          l (start .pre) (turn .loop .inv .1) (turn .loop .inv .2) _ _ _ refl refl refl,
     )
 
 pub four-less-two-spec : {M : Type 1} → statement M
@@ -34,7 +39,6 @@ four-less-two-spec =
     (tie.spec
     Inv-loop
     μ-loop
-    (λ c. search needs) (λ c. search needs) (λ c. search needs)
     (λ c. search (needs, runs-none))
     (λ c. search needs) (λ c. search needs) (λ c. search needs) (λ c. search needs) (λ c. search needs) (λ c. search needs) (λ c. search needs)
     (λ c. search needs) (λ c. search needs) (λ c. search needs) (λ c. search needs) (λ c. search needs) (λ c. search needs)

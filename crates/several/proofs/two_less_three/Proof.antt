@@ -6,17 +6,19 @@ use native.Mathlib.Omega.{arith}
 use lib.ListN.{length, length-set}
 use borrow.Author.Needs.{needs}
 use Rattle.model.specs.Matrix.{vec}
+use Rattle.kernels.specs.Rules.{pick}
 use Rattle.several.specs.Several.{runsBy, twoLessThree}
 use Rattle.several.proofs.Runs.{runs-none, two-step, runs-end}
 use Rattle.several.proofs.two_less_three.Statement.{statement}
 use Rattle.several.proofs.two_less_three.Tie as tie
 
 abbrev Inv-loop : tie.InvT-loop
-Inv-loop x₀ p q n a b r y i₀ x i =
-    (i ≤ n) × (length x ≡ length x₀) × (vec x ≡ runsBy (vec x₀) p q i (twoLessThree (vec x₀) p q (a .0) (a .1) (a .2) (b .0) (b .1) (b .2)) 2)
+Inv-loop x₀ p r q y n a b i₀ x i =
+    (i ≤ n) × (length x ≡ length x₀)
+    × (vec x ≡ runsBy (vec x₀) (pick q y y y) i (twoLessThree (vec x₀) p r (pick q y y y) (a .0) (a .1) (a .2) (b .0) (b .1) (b .2)) 2)
 
 abbrev μ-loop : tie.MeasureT-loop
-μ-loop x₀ p q n a b r y i₀ x i = n - i
+μ-loop x₀ p r q y n a b i₀ x i = n - i
 
 loop-again : tie.Need-loop-again Inv-loop μ-loop
 loop-again c = (search needs, search needs, search (needs, two-step))
@@ -27,7 +29,6 @@ two-less-three-spec =
     (tie.spec
     Inv-loop
     μ-loop
-    (λ c. search needs) (λ c. search needs)
     (λ c. search (needs, runs-none))
     (λ c. search needs) (λ c. search needs) (λ c. search needs) (λ c. search needs) (λ c. search needs) (λ c. search needs) (λ c. search needs)
     (λ c. search needs) (λ c. search needs) (λ c. search needs) (λ c. search needs) (λ c. search needs) (λ c. search needs) (λ c. search needs)
