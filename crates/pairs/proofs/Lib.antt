@@ -2,4 +2,5 @@
 pub mod Column
 pub mod Sweeps
 pub mod Several
+pub mod Steps
 pub mod Rows

@@ -8,48 +8,49 @@ use Rattle.pairs.proofs.block_single_two.Tie as tie
 
 multiplier-before-requires : tie.Need-multiplier-before-requires
 multiplier-before-requires c κs =
-    let start = c .before .before in
+    let start : tie.Start = search in
     let at = start .pre .1 in
     both-kept (start .pre .0) _ (omega arith) (omega arith)
 
 multiplier-before-requires-2 : tie.Need-multiplier-before-requires-2
 multiplier-before-requires-2 c κs =
-    let start = c .before .before .before in
+    let start : tie.Start = search in
     let at = start .pre .1 in
     both-kept-next (start .pre .0) _ (omega arith) (omega arith)
 
 get-requires : tie.Need-get-requires
 get-requires c κs =
-    let start = c .before .before .before .before in
+    let start : tie.Start = search in
     let at = start .pre .1 in
     second-kept (start .pre .0) _ (omega arith) (omega arith)
 
 multiplier-before-requires-3 : tie.Need-multiplier-before-requires-3
 multiplier-before-requires-3 c κs =
-    let start = c .before .before .before .before .before in
+    let start : tie.Start = search in
     let at = start .pre .1 in
     both-kept (start .pre .0) _ (omega arith) (omega arith)
 
 multiplier-before-requires-4 : tie.Need-multiplier-before-requires-4
 multiplier-before-requires-4 c κs =
-    let start = c .before .before .before .before .before .before in
+    let start : tie.Start = search in
     let at = start .pre .1 in
     both-kept-next (start .pre .0) _ (omega arith) (omega arith)
 
 get-requires-2 : tie.Need-get-requires-2
 get-requires-2 c κs =
-    let start = c .before .before .before .before .before .before .before in
+    let start : tie.Start = search in
     let at = start .pre .1 in
     second-kept (start .pre .0) _ (omega arith) (omega arith)
 
 less-three-of-two-requires : tie.Need-less-three-of-two-requires
 less-three-of-two-requires c κs =
-    let start = c .before .before .before .before .before .before .before .before .before .before .before in
-    block-single-columns (start .pre .0) (start .pre .1 .0) (start .pre .1 .1)
+    let start : tie.Start = search in
+    let at = start .pre .1 in
+    (block-single-columns (start .pre .0) (at .0) (at .1), search needs)
 
 add-result : tie.Need-add-result
 add-result c =
-    let start = c .before .before .before .before .before .before .before .before .before .before .before .before .before .before in
+    let start : tie.Start = search in
     let at = start .pre .1 in
     search needs
 
@@ -68,7 +69,7 @@ returns c =
 
 returns-2 : tie.Need-returns-2
 returns-2 c =
-    let start = c .before .before .before .before .before .before .before .before .before .before in
+    let start : tie.Start = search in
     let at = start .pre .1 in
     (both-none _ _ _ _ _ _ _ _ _ _ _, (omega arith, omega arith))
 

@@ -8,60 +8,61 @@ use Rattle.pairs.proofs.single_block_two.Tie as tie
 
 multiplier-before-requires : tie.Need-multiplier-before-requires
 multiplier-before-requires c κs =
-    let start = c .before .before in
+    let start : tie.Start = search in
     let at = start .pre .1 in
     both-kept (start .pre .0) _ (omega arith) (omega arith)
 
 get-requires : tie.Need-get-requires
 get-requires c κs =
-    let start = c .before .before .before in
+    let start : tie.Start = search in
     let at = start .pre .1 in
     second-kept (start .pre .0) _ (omega arith) (omega arith)
 
 add-get : tie.Need-add-get
 add-get c =
-    let start = c .before .before .before .before in
+    let start : tie.Start = search in
     let at = placed (start .pre .0) in
     search needs
 
 get-requires-2 : tie.Need-get-requires-2
 get-requires-2 c κs =
-    let start = c .before .before .before .before in
+    let start : tie.Start = search in
     let at = start .pre .1 in
     second-kept-next (start .pre .0) _ (omega arith) (omega arith)
 
 multiplier-before-requires-2 : tie.Need-multiplier-before-requires-2
 multiplier-before-requires-2 c κs =
-    let start = c .before .before .before .before .before in
+    let start : tie.Start = search in
     let at = start .pre .1 in
     both-kept (start .pre .0) _ (omega arith) (omega arith)
 
 get-requires-3 : tie.Need-get-requires-3
 get-requires-3 c κs =
-    let start = c .before .before .before .before .before .before in
+    let start : tie.Start = search in
     let at = start .pre .1 in
     second-kept (start .pre .0) _ (omega arith) (omega arith)
 
 add-get-4 : tie.Need-add-get-4
 add-get-4 c =
-    let start = c .before .before .before .before .before .before .before in
+    let start : tie.Start = search in
     let at = placed (start .pre .0) in
     search needs
 
 get-requires-4 : tie.Need-get-requires-4
 get-requires-4 c κs =
-    let start = c .before .before .before .before .before .before .before in
+    let start : tie.Start = search in
     let at = start .pre .1 in
     second-kept-next (start .pre .0) _ (omega arith) (omega arith)
 
 less-three-of-two-requires : tie.Need-less-three-of-two-requires
 less-three-of-two-requires c κs =
-    let start = c .before .before .before .before .before .before .before .before .before .before .before in
-    single-block-columns (start .pre .0) (start .pre .1 .0) (start .pre .1 .1)
+    let start : tie.Start = search in
+    let at = start .pre .1 in
+    (single-block-columns (start .pre .0) (at .0) (at .1), search needs)
 
 add-result : tie.Need-add-result
 add-result c =
-    let start = c .before .before .before .before .before .before .before .before .before .before .before .before .before .before in
+    let start : tie.Start = search in
     let at = start .pre .1 in
     search needs
 
@@ -80,7 +81,7 @@ returns c =
 
 returns-2 : tie.Need-returns-2
 returns-2 c =
-    let start = c .before .before .before .before .before .before .before .before .before .before in
+    let start : tie.Start = search in
     let at = start .pre .1 in
     (both-none _ _ _ _ _ _ _ _ _ _ _, (omega arith, omega arith))
 
