@@ -1,9 +1,10 @@
 // The steps of a finished panel on the rows below it: one pivot, or two one after the other, where each later column is
 // passed once for both, and several columns in one pass where no multiplier of a 1x1 is zero. Of two pivots the second
 // one's exchange is made first, and the first one's multipliers are then those of the rows as they stood.
-// What is lent begins with the first pivot's column in the first row below the panel: row i of column j stands at
-// i + j·nrow, and the multiplier of row j in column c at j + c·nb. A reader may rely on the contracts of below_step and
-// below_pair: they cite the model's steps, and leave every other number of the part alone.
+// What is lent begins with the first pivot's column in the first row below the panel: row i of column j stands i past
+// where grid's column_start says that column j of nrow rows begins, and the multiplier of row j in column c in the same
+// way in columns of nb rows. A reader may rely on the contracts of below_step and below_pair: they cite the model's
+// steps, and leave every other number of the part alone.
 use diagonal::is_block;
 use grid::columns;
 use kernels::FourMultipliers;
@@ -29,7 +30,7 @@ ghost use Rattle.pairs.specs.Pairs.{neitherZero, SweepPre, StepPre, Pair
 mod less;
 
 // What is lent of a panel and of its multipliers: `columns` columns, from the first pivot's to the panel's last, and
-// `rows` rows of each. A column begins nrow numbers after the one before it, a column of multipliers nb after.
+// `rows` rows of each, of columns of nrow rows; a column of multipliers has nb.
 pub struct Part {
     pub nrow: usize,
     pub rows: usize,

@@ -57,12 +57,13 @@ add-result c =
 returns : tie.Need-returns
 returns c =
     let tested = c .before .before .before .before in
-    let read = tested .before .before in
-    let start = read .before .before .before .before .before .before .before .before in (
+    let other = tested .before .before in
+    let one = other .before .before .before in
+    let start : tie.Start = search in (
       block-single-done _ _ _ _ _ _ _ _ _ (start .pre .0 .next) (start .pre .0 .last) (start .pre .1 .0)
-          (read .before .before .before .before .before .multiplier-before .ensures) (read .before .before .before .before .multiplier-before2 .ensures)
-          (read .before .before .before .get .ensures) (read .before .before .multiplier-before3 .ensures)
-          (read .before .multiplier-before4 .ensures) (read .get2 .ensures) (tested .before .neither-zero .ensures) (tested .if1 .taken)
+          (one .before .before .multiplier-before .ensures) (one .before .multiplier-before2 .ensures) (one .get .ensures)
+          (other .before .before .multiplier-before3 .ensures) (other .before .multiplier-before4 .ensures) (other .get2 .ensures)
+          (tested .before .neither-zero .ensures) (tested .if1 .taken)
           (c .before .before .less-three-of-two .ensures),
       (omega arith, start .pre .1 .1),
     )

@@ -5,7 +5,7 @@ use Rattle.pairs.proofs.column_both.Statement.{statement}
 use Rattle.pairs.proofs.column_both.Tie as tie
 
 add-get : tie.Need-add-get
-add-get c = let at = placed (c .before .before .before .before .before .pre .0) in search needs
+add-get c = let start : tie.Start = search in let at = placed (start .pre .0) in search needs
 
 pub column-both-spec : {M : Type 1} → statement M
 column-both-spec =

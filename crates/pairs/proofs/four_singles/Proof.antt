@@ -70,14 +70,14 @@ returns : tie.Need-returns
 returns c =
     let tested = c .before .before .before .before in
     let d = tested .before in
-    let read = tested .before .before .before .before .before in
-    let start = read .before .before .before .before .before .before .before .before .before .before in (
+    let fourth = d .before .before .before .before in
+    let third = fourth .before .before in
+    let second = third .before .before in
+    let first = second .before .before in
+    let start = first .before .before .before .before in (
       four-done _ _ _ _ _ _ _ _ _ (start .pre .0 .next) (start .pre .0 .last) (start .pre .1 .0)
-          (read .before .before .before .before .before .before .before .multiplier-before .ensures)
-          (read .before .before .before .before .before .before .get .ensures)
-          (read .before .before .before .before .before .multiplier-before2 .ensures) (read .before .before .before .before .get2 .ensures)
-          (read .before .before .before .multiplier-before3 .ensures) (read .before .before .get3 .ensures)
-          (read .before .multiplier-before4 .ensures) (read .get4 .ensures)
+          (first .before .multiplier-before .ensures) (first .get .ensures) (second .before .multiplier-before2 .ensures) (second .get2 .ensures)
+          (third .before .multiplier-before3 .ensures) (third .get3 .ensures) (fourth .before .multiplier-before4 .ensures) (fourth .get4 .ensures)
           (d .before .before .before .neither-zero .ensures) (d .before .before .neither-zero2 .ensures) (d .before .neither-zero3 .ensures)
           (d .neither-zero4 .ensures) (tested .if1 .taken) (c .before .before .less-two-of-four .ensures),
       (omega arith, start .pre .1 .1),

@@ -69,12 +69,13 @@ add-result c =
 returns : tie.Need-returns
 returns c =
     let tested = c .before .before .before .before in
-    let read = tested .before .before in
-    let start = read .before .before .before .before .before .before .before .before in (
+    let other = tested .before .before in
+    let one = other .before .before .before in
+    let start : tie.Start = search in (
       single-block-done _ _ _ _ _ _ _ _ _ (start .pre .0 .next) (start .pre .0 .last) (start .pre .1 .0)
-          (read .before .before .before .before .before .multiplier-before .ensures) (read .before .before .before .before .get .ensures)
-          (read .before .before .before .get2 .ensures) (read .before .before .multiplier-before2 .ensures)
-          (read .before .get3 .ensures) (read .get4 .ensures) (tested .before .neither-zero .ensures) (tested .if1 .taken)
+          (one .before .before .multiplier-before .ensures) (one .before .get .ensures) (one .get2 .ensures)
+          (other .before .before .multiplier-before2 .ensures) (other .before .get3 .ensures) (other .get4 .ensures)
+          (tested .before .neither-zero .ensures) (tested .if1 .taken)
           (c .before .before .less-three-of-two .ensures),
       (omega arith, start .pre .1 .1),
     )

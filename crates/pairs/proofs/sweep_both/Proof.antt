@@ -26,7 +26,8 @@ loop-again : tie.Need-loop-again Inv-loop μ-loop
 loop-again c =
     let turn = c .before .before in
     let inv = turn .before .before .before .before .loop .inv in
-    let pre = turn .before .before .before .before .before .before .before .pre in
+    let start : tie.Start Inv-loop μ-loop = search in
+    let pre = start .pre in
     let at = placed pre in (
       search needs,
       search needs,
