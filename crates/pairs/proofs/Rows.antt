@@ -168,7 +168,8 @@ module _ (M D E P Q S T I : Mat) (x y : Diagonal) (k kp l kq e f end lo hi : ℕ
         let z = exchangedPlace f kq j in
         ap (λ (X : Mat). X i j) eq ∙ strip-in P (f + 1) end lo hi _ i j (omega arith) o h g
         ∙ ap (lessAt (isBlock y) (P i) l (I j l) (I j (l + 1)))
-        (less-same (isBlock x) (P i) (E i) k _ _ _ (λ a u v. swept-left a (omega arith)) ∙ ap (lessAt (isBlock x) (E i) k (I z k) (I z (k + 1))) (swept-right j v)
+        (less-same (isBlock x) (P i) (E i) k _ _ _ (λ a u v. swept-left a (omega arith))
+        ∙ ap (lessAt (isBlock x) (E i) k (I z k) (I z (k + 1))) (swept-right j v)
         ∙ first-part j u o)
         ∙ less-same (isBlock y) (P i) between l _ _ _ (λ a u v. second a u (omega arith)) ∙ sym (step-later l kq end _ _ between j y (omega arith) o)
 

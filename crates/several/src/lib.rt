@@ -18,8 +18,8 @@ ghost use Rattle.several.specs.Several.{FourRunsPre, TwoRunsPre, Columns
 // Where four runs begin, each past the one before it.
 struct FourRuns(usize, usize, usize, usize);
 
-// Four runs of n numbers, which begin where `to` says: each less the slice's first n numbers, then less the n from p on,
-// times its own multipliers, a to d in turn. The loop vectorises: no branch, no call.
+// Four runs of n numbers, which begin where `to` says: each less the slice's first n numbers, then less the n from p
+// on, times its own multipliers, a to d in turn. The loop vectorises: no branch, no call.
 fn four_less_two(
     x: &mut [f64],
     p: usize,
