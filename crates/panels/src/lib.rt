@@ -137,7 +137,7 @@ fn later_columns(
 }
 
 // One panel: its steps, the rows below it, the later columns.
-fn turn(
+fn one_panel(
     panel: &mut [f64],
     work: &mut [f64],
     d: &mut [f64],
@@ -232,7 +232,7 @@ pub fn panels(
             kb,
             ke,
         };
-        let ran = turn(
+        let ran = one_panel(
             panel,
             work,
             d,

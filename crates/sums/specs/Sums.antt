@@ -1,4 +1,4 @@
--- The sums over a panel's columns, and what their steps ask of their callers. From document 01, 'll_cdiv_emit'. g holds L·D: column t for the panel's
+-- The sums over a panel's columns, and what their steps ask of their callers. From docs/SCOPE.md, "The later columns". g holds L·D: column t for the panel's
 -- column kb + t. Definitions only. Assumes nothing.
 use Prim.Native.Nat.{ℕ, _+_, _*_, _<_, _≤_}
 use Rattle.model.specs.Scalar.{_⊗_}

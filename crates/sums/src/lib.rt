@@ -10,8 +10,8 @@ ghost use Rattle.model.specs.Matrix.{columnStart, view, vec, withPart};
 ghost use Rattle.model.specs.Kept.{ahead};
 ghost use Rattle.kernels.specs.Rules.{zeroed, plusFour};
 ghost use Rattle.sums.specs.Sums.{laterRow, rowsFrom, gathered, FourPre, TermsPre, GatherPre};
-use kernels::FourMultipliers;
 use grid::column_start;
+use kernels::FourMultipliers;
 
 // What is summed, in a panel of nrow rows: for the n rows from lo on, the terms of the panel's w columns from kb on, in
 // the sums of the later columns c and e.

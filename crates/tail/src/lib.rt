@@ -186,7 +186,7 @@ fn tail_pair(
 
 // The step at k on the rows from ke down, together with the one after it unless there is none or it makes an exchange
 // before its own: the panel from row ke of column k on is lent to them. The answer is the column after them.
-fn turn(
+fn one_or_two_steps(
     panel: &mut [f64],
     mult: &[f64],
     d: &[f64],
@@ -258,6 +258,6 @@ pub fn apply_bk_panel_trailing(
     let ke = at.ke;
     let mut k = at.kb;
     while k < ke {
-        k = turn(panel, mult, d, sub, blocks, partners, at, Elim(k));
+        k = one_or_two_steps(panel, mult, d, sub, blocks, partners, at, Elim(k));
     }
 }

@@ -44,18 +44,18 @@ abbrev μ-loop : tie.MeasureT-loop
 abbrev entry : tie.At-loop Inv-loop μ-loop → tie.Start Inv-loop μ-loop
 entry c = search
 
--- from `panel_end` to the loop's head, and from `turn` to `panel_end`
+-- from `panel_end` to the loop's head, and from `one_panel` to `panel_end`
 abbrev looped : tie.After-panel-end Inv-loop μ-loop → tie.At-loop Inv-loop μ-loop
 looped c = c .before .before
 
-abbrev bounded : tie.After-turn Inv-loop μ-loop → tie.After-panel-end Inv-loop μ-loop
+abbrev bounded : tie.After-one-panel Inv-loop μ-loop → tie.After-panel-end Inv-loop μ-loop
 bounded c = search
 
--- from the return of a refusal, and from the rounds of a panel that did not stop, to `turn`
-abbrev refused : tie.After-enum-told Inv-loop μ-loop → tie.After-turn Inv-loop μ-loop
+-- from the return of a refusal, and from the rounds of a panel that did not stop, to `one_panel`
+abbrev refused : tie.After-enum-told Inv-loop μ-loop → tie.After-one-panel Inv-loop μ-loop
 refused c = search
 
-abbrev turned : tie.After-ran Inv-loop μ-loop → tie.After-turn Inv-loop μ-loop
+abbrev turned : tie.After-ran Inv-loop μ-loop → tie.After-one-panel Inv-loop μ-loop
 turned c = search
 
 -- ---- what the buffers hold
@@ -77,20 +77,20 @@ held c =
     between (entry c .args .c .nrow) (l .panel)
     (pivotsOf (l .d) (l .sub) (l .blocks) (l .partners) (l .lifts) (l .amounts) (l .order)) (l .rounds)
 
--- after `turn`, by the rounds
-abbrev left : tie.After-turn Inv-loop μ-loop → ℕ → State
+-- after `one_panel`, by the rounds
+abbrev left : tie.After-one-panel Inv-loop μ-loop → ℕ → State
 left c =
-    let l = c .turn .last in
+    let l = c .one-panel .last in
     between (entry (looped (bounded c)) .args .c .nrow) (l .0)
     (pivotsOf (l .1 .1 .0) (l .1 .1 .1 .0) (l .1 .1 .1 .1 .0) (l .1 .1 .1 .1 .1 .0) (l .1 .1 .1 .1 .1 .1 .0) (l .1 .1 .1 .1 .1 .1 .1 .0)
     (l .1 .1 .1 .1 .1 .1 .1 .1 .0))
 
 -- its block bytes and exchange partners
-abbrev blocks-left : tie.After-turn Inv-loop μ-loop → ℕ → ℕ
-blocks-left c = bytes (c .turn .last .1 .1 .1 .1 .0)
+abbrev blocks-left : tie.After-one-panel Inv-loop μ-loop → ℕ → ℕ
+blocks-left c = bytes (c .one-panel .last .1 .1 .1 .1 .0)
 
-abbrev partners-left : tie.After-turn Inv-loop μ-loop → ℕ → ℕ
-partners-left c = bytes (c .turn .last .1 .1 .1 .1 .1 .0)
+abbrev partners-left : tie.After-one-panel Inv-loop μ-loop → ℕ → ℕ
+partners-left c = bytes (c .one-panel .last .1 .1 .1 .1 .1 .0)
 
 -- ---- the needs
 
@@ -112,8 +112,8 @@ loop-holds c =
       start .pre .1 .1,
     )
 
-turn-requires : tie.Need-turn-requires Inv-loop μ-loop
-turn-requires c κs =
+one-panel-requires : tie.Need-one-panel-requires Inv-loop μ-loop
+one-panel-requires c κs =
     let p : tie.After-panel-end Inv-loop μ-loop = search in
     let test = p .before .loop-test .taken in
     let inv = looped p .loop .inv in
@@ -133,7 +133,7 @@ returns c =
     let start = entry (looped p) in
     let a = start .args in
     run-stop (pivotingOf (a .c)) (a .c .nrow) (a .c .ncol) (a .c .nb) (start .pre .0 .some) (l .kb) (p .panel-end .result) (held (looped p)) (left t)
-    (left t) (t .turn .result) _ (whole start) (l .inv .10) (p .before .loop-test .taken) (p .panel-end .ensures) (t .turn .ensures .0)
+    (left t) (t .one-panel .result) _ (whole start) (l .inv .10) (p .before .loop-test .taken) (p .panel-end .ensures) (t .one-panel .ensures .0)
     (c .enum-told .given .1)
 
 loop-less : tie.Need-loop-less Inv-loop μ-loop
@@ -149,7 +149,7 @@ loop-again c =
     let start = entry (looped p) in
     let a = start .args in
     let inv = l .inv in
-    let kept = t .turn .kept in
+    let kept = t .one-panel .kept in
     let told = c .before .ran .given .1 in (
       inside _ _ _ _ (p .panel-end .ensures),
       kept .0 ∙ inv .1,
@@ -162,8 +162,8 @@ loop-again c =
       kept .1 .1 .1 .1 .1 .1 .1 .0 ∙ inv .8,
       kept .1 .1 .1 .1 .1 .1 .1 .1 .0 ∙ inv .9,
       run-more (pivotingOf (a .c)) (a .c .nrow) (a .c .ncol) (a .c .nb) (start .pre .0 .some) (l .kb) (p .panel-end .result) _ (held (looped p)) (left t)
-          (t .turn .result) (whole start) (inv .10) (p .before .loop-test .taken) (p .panel-end .ensures) (t .turn .ensures .0) told,
-      done-leaves (l .kb) (p .panel-end .result) _ (t .turn .result) (blocks-left t) (partners-left t) (t .turn .ensures .1) told,
+          (t .one-panel .result) (whole start) (inv .10) (p .before .loop-test .taken) (p .panel-end .ensures) (t .one-panel .ensures .0) told,
+      done-leaves (l .kb) (p .panel-end .result) _ (t .one-panel .result) (blocks-left t) (partners-left t) (t .one-panel .ensures .1) told,
     )
 
 returns-2 : tie.Need-returns-2 Inv-loop μ-loop
@@ -182,7 +182,7 @@ panels-spec =
     μ-loop
     loop-holds
     (λ c κs. search needs)
-    turn-requires
+    one-panel-requires
     (λ c. search needs) (λ c. search needs) (λ c. search needs) (λ c. search needs) (λ c. search needs) (λ c. search needs) (λ c. search needs)
     (λ c. search needs) (λ c. search needs) (λ c. search needs) (λ c. search needs)
     returns

@@ -28,8 +28,8 @@ loop-holds c =
     let start : tie.Start Inv-loop μ-loop = search in
     (search needs, start .pre .1 .start, refl, refl)
 
-turn-requires : tie.Need-turn-requires Inv-loop μ-loop
-turn-requires c κs =
+one-or-two-steps-requires : tie.Need-one-or-two-steps-requires Inv-loop μ-loop
+one-or-two-steps-requires c κs =
     let turn = c .before in
     let start : tie.Start Inv-loop μ-loop = search in
     let inv = turn .before .loop .inv in
@@ -39,14 +39,14 @@ loop-less : tie.Need-loop-less Inv-loop μ-loop
 loop-less c =
     let called = c .before .before in
     let turn = called .before .before in
-    turn-less _ _ _ (turn .loop-test .taken) (called .turn .ensures .1 .0)
+    turn-less _ _ _ (turn .loop-test .taken) (called .one-or-two-steps .ensures .1 .0)
 
 loop-again : tie.Need-loop-again Inv-loop μ-loop
 loop-again c =
     let called = c .before .before in
     let turn = called .before .before in
     let inv = turn .before .loop .inv in
-    (turn-from _ _ _ (inv .0) (called .turn .ensures .1 .0), called .turn .ensures .1 .1, search needs, called .turn .ensures .0 ∙ inv .3)
+    (turn-from _ _ _ (inv .0) (called .one-or-two-steps .ensures .1 .0), called .one-or-two-steps .ensures .1 .1, search needs, called .one-or-two-steps .ensures .0 ∙ inv .3)
 
 pub apply-bk-panel-trailing-spec : {M : Type 1} → statement M
 apply-bk-panel-trailing-spec =
@@ -55,7 +55,7 @@ apply-bk-panel-trailing-spec =
     Inv-loop
     μ-loop
     loop-holds
-    turn-requires
+    one-or-two-steps-requires
     loop-less
     loop-again
     (λ c. search needs)

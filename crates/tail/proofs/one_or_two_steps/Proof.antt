@@ -1,4 +1,4 @@
--- `tail::turn` meets its contract: what a step or two make of the part that is lent is made of the panel, and they are taken off the steps that are left. Assumes nothing.
+-- `tail::one_or_two_steps` meets its contract: what a step or two make of the part that is lent is made of the panel, and they are taken off the steps that are left. Assumes nothing.
 use mathlib.Core.Path.{refl}
 use native.Mathlib.Omega.{arith}
 use borrow.Author.Needs.{needs}
@@ -8,8 +8,8 @@ use Rattle.tail.specs.Tail.{HerePre}
 use Rattle.tail.proofs.Asked.{here-pre, starts-past, lent-start, lent-place, lent-pre, read-pre, past-later, still-first}
 use Rattle.tail.proofs.Lent.{part-count, lent-rows}
 use Rattle.tail.proofs.Laws.{stepped-since, both-since, turned-step, turned-both}
-use Rattle.tail.proofs.turn.Statement.{statement}
-use Rattle.tail.proofs.turn.Tie as tie
+use Rattle.tail.proofs.one_or_two_steps.Statement.{statement}
+use Rattle.tail.proofs.one_or_two_steps.Tie as tie
 
 -- ---- the calls that a need looks back to
 
@@ -141,8 +141,8 @@ returns-2 c =
       (omega arith, starts p),
     )
 
-pub turn-spec : {M : Type 1} → statement M
-turn-spec =
+pub one-or-two-steps-spec : {M : Type 1} → statement M
+one-or-two-steps-spec =
     tie.close
     (tie.spec
     place-requires

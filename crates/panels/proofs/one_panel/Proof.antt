@@ -1,4 +1,4 @@
--- `panels::turn` meets its contract: a panel that stops leaves its refusal; else the rows below and the later columns follow. Assumes nothing.
+-- `panels::one_panel` meets its contract: a panel that stops leaves its refusal; else the rows below and the later columns follow. Assumes nothing.
 use mathlib.Core.Path.{_≡_, _∙_}
 use mathlib.Core.List.{List}
 use Prim.Native.Nat.{ℕ, _*_}
@@ -14,8 +14,8 @@ use Rattle.panels.specs.Turn.{between, turnOf}
 use Rattle.panels.specs.Run.{TurnPre, DiagonalsHold}
 use Rattle.panels.proofs.Multipliers.{turn-any}
 use Rattle.panels.proofs.Work.{sizes-kept, diagonals-kept, steps-pre, turn-stopped, turn-done, leaves-done}
-use Rattle.panels.proofs.turn.Statement.{statement}
-use Rattle.panels.proofs.turn.Tie as tie
+use Rattle.panels.proofs.one_panel.Statement.{statement}
+use Rattle.panels.proofs.one_panel.Tie as tie
 
 -- ---- the calls that a need looks back to
 
@@ -156,8 +156,8 @@ returns-2 c =
       leaves-done (a .at .kb) (a .at .ke) _ (s .steps .result) (bytes (blocks-left s)) (bytes (partners-left s)) (s .steps .ensures .1) told,
     )
 
-pub turn-spec : {M : Type 1} → statement M
-turn-spec =
+pub one-panel-spec : {M : Type 1} → statement M
+one-panel-spec =
     tie.close
     (tie.spec
     (λ c κs. search needs) (λ c. search needs) (λ c. search needs) (λ c. search needs) (λ c. search needs) (λ c. search needs) (λ c. search needs)
