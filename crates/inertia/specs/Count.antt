@@ -1,12 +1,9 @@
 -- A pivot of D as it is counted, and what the counting functions ask of their callers. Definitions only. Assumes nothing.
 use mathlib.Core.Path.{_≡_}
-use mathlib.Core.Bool.{cond}
 use mathlib.Core.List.{List}
 use Prim.Native.Nat.{ℕ, _+_, _<_, _^_}
 use lib.ListN.{length}
 use lib.Ieee.{Float}
-use Rattle.model.specs.Matrix.{Row, bytes}
-use Rattle.model.specs.Step.{begins, blockAt}
 use Rattle.model.specs.Inertia.{oneCounted, twoCounted, checkBytes}
 use Rattle.model.specs.declared.Tally.{Tally}
 use Rattle.model.specs.declared.Check.the-variants.{Sound}

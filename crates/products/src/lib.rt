@@ -1,5 +1,5 @@
-// L·D of a panel's columns, formed before the later columns meet them: column t of g for the panel's column kb + t, rows
-// from ke on. A reader may rely on the contract of products.
+// L·D of a panel's columns, formed before the later columns lose their sums: column t of g for the panel's column
+// kb + t, rows from ke on. A reader may rely on the contract of products.
 ghost use mathlib.Core.Path.{_≡_};
 ghost use Prim.Native.Nat.{_+_, _-_};
 ghost use lib.ListN.{length};

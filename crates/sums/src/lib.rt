@@ -55,8 +55,8 @@ fn four_multipliers(panel: &[f64], nrow: usize, r: usize, k: usize) -> FourMulti
     FourMultipliers(l0, l1, l2, l3)
 }
 
-// (((x + g0·l0) + g1·l1) + g2·l2) + g3·l3, and the same of y with m; the n numbers of g0 to g3 begin where `at` says. The
-// loop vectorises: no branch, no call.
+// (((x + g0·l0) + g1·l1) + g2·l2) + g3·l3, and the same of y with m; the n numbers of g0 to g3 begin where `at` says.
+// The loop vectorises: no branch, no call.
 fn plus_four(
     x: &mut [f64],
     y: &mut [f64],

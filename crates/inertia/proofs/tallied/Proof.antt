@@ -42,7 +42,8 @@ use Rattle.model.proofs.Tally.Laws as T′
 use Rattle.inertia.specs.Count.{countedOf, CountPre}
 use Rattle.model.specs.declared.Diagonal.{Diagonal}
 use Rattle.model.proofs.Diagonal as E
-use Rattle.inertia.proofs.Machine.{tallyVal, pivotVal, tallyVals, pivotVals, tally-tells, pivot-tells, tally-typed, pivot-typed, tally-makes, pivot-makes, has, lies, taken}
+use Rattle.inertia.proofs.Machine.{tallyVal, pivotVal, tallyVals, pivotVals, tally-tells, pivot-tells}
+use Rattle.inertia.proofs.Machine.{tally-typed, pivot-typed, tally-makes, pivot-makes, has, lies, taken}
 use Rattle.inertia.proofs.count as count
 use Rattle.inertia.proofs.count.Symbol as count-def
 use Rattle.inertia.proofs.count.Met as count-thm
