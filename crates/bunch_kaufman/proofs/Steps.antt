@@ -19,7 +19,7 @@ use Rattle.model.specs.declared.Pivot.{Pivot}
 use Rattle.model.specs.declared.Refusal.{Refusal}
 use Rattle.model.proofs.Bounds.{GoodPivot}
 use Rattle.model.proofs.Recorded.{last-from as last-ge, Reached, panel-reached, noted-recorded, noted-starts, end-starts}
-use Rattle.kernels.proofs.Laws.{test}
+use Rattle.model.proofs.Cases.{test}
 use Rattle.whole.proofs.Steps.{Went, PivotsInside, panel-inside}
 use Rattle.step.specs.Answers.{tried}
 use Rattle.step.specs.Terms.{PivotIn, TakenIn, PanelPre, StepPre}

@@ -7,7 +7,6 @@ use native.Mathlib.Omega.{arith}
 use borrow.Author.Tests.{lt-ltb, le-ltb, le-leb, lt-leb, eq-eqb, ne-eqb, eqb-true, eqb-false, ltb-true, ltb-false, leb-true}
 use lib.Dec.{ltb, leb, eqb}
 use Rattle.model.specs.Matrix.{Mat, exchanged, exchangedPlace}
-use Rattle.kernels.proofs.Laws.{test, cmp, no}
 use Rattle.grid.specs.Rules.{columnsExchanged}
 use Rattle.model.proofs.Cases.{test, cmp, no, and-left, and-right}
 use Rattle.model.proofs.Exchanged.{exchanged-in, exchanged-up, exchanged-past}

@@ -15,7 +15,8 @@ use Rattle.model.specs.Step.{pivotsOf}
 use Rattle.model.specs.Head.{State, blank}
 use Rattle.model.specs.Factor.{Buffers, start, zeros}
 use Rattle.model.proofs.Tabulated.{length-tabulateFrom, getD-tabulate, is-tabulate}
-use Rattle.kernels.proofs.Laws.{test, vec-part}
+use Rattle.kernels.proofs.Laws.{vec-part}
+use Rattle.model.proofs.Cases.{test}
 use Rattle.kernels.proofs.Parts.{part-lent}
 use Rattle.finish.specs.Buffers.{buffersOf, inOrder, Begun}
 

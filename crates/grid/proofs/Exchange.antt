@@ -10,7 +10,7 @@ use lib.Dec.{ltb, leb, eqb}
 use lib.ListN.{length, getD, set, length-set}
 use lib.Ieee.{Float, nan}
 use Rattle.model.specs.Matrix.{Mat, columnStart, view, putAt}
-use Rattle.kernels.proofs.Laws.{test, no}
+use Rattle.model.proofs.Cases.{test, no}
 use Rattle.grid.specs.Rules.{columnsExchanged}
 use Rattle.grid.proofs.Laws.{view-set, view-at}
 

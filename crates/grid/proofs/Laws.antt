@@ -13,7 +13,7 @@ use lib.Ieee.{Float, nan}
 use mir.Syntax.{w64}
 use mir.Val.{Fits}
 use Rattle.model.specs.Matrix.{Mat, columnStart, view, putAt, withColumn}
-use Rattle.kernels.proofs.Laws.{test}
+use Rattle.model.proofs.Cases.{test}
 use Rattle.grid.specs.Grid.{In}
 
 -- ---- offsets

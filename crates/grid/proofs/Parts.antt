@@ -13,7 +13,8 @@ use lib.Ieee.{Float, nan, eq, ne}
 use Rattle.model.specs.Scalar.{zeroF}
 use Rattle.model.specs.Matrix.{Row, Mat, columnStart, view, vec, withColumn, withPart}
 use Rattle.kernels.specs.Rules.{behind, ahead, lessAll, lessRuns, plusTimes, times, combined, MoreAheadPre}
-use Rattle.kernels.proofs.Laws.{test, cmp, no, vec-put, vec-part}
+use Rattle.kernels.proofs.Laws.{vec-put, vec-part}
+use Rattle.model.proofs.Cases.{test, cmp, no}
 use Rattle.kernels.proofs.Rules.{all-same}
 use Rattle.kernels.proofs.Parts.{part, back, mid-count, back-at, part-lent, part-bounds, run-back, runs-back, runs-same}
 use Rattle.grid.specs.Rules.{columnOf, lessTimes, lessTimesIf, LaterPre, RowsPre}

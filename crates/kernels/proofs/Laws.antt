@@ -1,4 +1,4 @@
--- Laws of tests, of a list seen as a row of places, and of parts of it. Assumes nothing.
+-- Laws of a list seen as a row of places, and of parts of it. Assumes nothing.
 use Prim.Native.Nat.{ℕ, _+_, _-_, _<_, _≤_}
 use mathlib.Core.Path.{_≡_, refl, _∙_, ap, fun-ext}
 use mathlib.Core.Bool.{Bool, true, false, _&&_, cond}
@@ -12,22 +12,7 @@ use lib.Seq.{getD-set-same, getD-set-other, getD-take, getD-drop, getD-append-ad
 use borrow.Rule.Slice.PartMut.{midOf, putMid}
 use lib.Ieee.{Float, nan}
 use Rattle.model.specs.Matrix.{vec, put, withPart}
-
--- ---- cases
-
--- a test, taken apart with its equation
-pub test : {P : Type 0} (b : Bool) → (b ≡ true → P) → (b ≡ false → P) → P
-test true t f = t refl
-test false t f = f refl
-
--- three ways for two numbers to stand
-pub cmp : {P : Type 0} (a b : ℕ) → (a < b → P) → (a ≡ b → P) → (b < a → P) → P
-cmp a b l e g = test (ltb a b) (λ x. l (ltb-true a b x)) (λ x. test (eqb a b) (λ y. e (eqb-true a b y)) (λ y. g (omega
-    (arith, ltb-false a b x, eqb-false a b y))))
-
-pub no : (b : Bool) → b && false ≡ false
-no true = refl
-no false = refl
+use Rattle.model.proofs.Cases.{test, no}
 
 -- ---- vectors
 

@@ -12,7 +12,8 @@ use lib.Ieee.{Float, nan}
 use Rattle.model.specs.Scalar.{zeroF}
 use Rattle.model.specs.Matrix.{Row, vec, withPart}
 use Rattle.kernels.specs.Rules.{behind, zeroed}
-use Rattle.kernels.proofs.Laws.{test, no, vec-put, vec-part}
+use Rattle.kernels.proofs.Laws.{vec-put, vec-part}
+use Rattle.model.proofs.Cases.{test, no}
 
 -- places lo up to hi as they are lent, and the slice with them back as ys
 abbrev pub part : List Float → ℕ → ℕ → List Float

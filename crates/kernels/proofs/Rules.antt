@@ -11,7 +11,8 @@ use lib.ListN.{length, getD, set, drop, replicate, drop-of-length-le, length-set
 use lib.Ieee.{Float, nan, binary64, add, sub, mul}
 use Rattle.model.specs.Matrix.{Row, vec, put, withPart}
 use Rattle.kernels.specs.Rules.{pick, behind, ahead, lessAll, lessRuns, lessEach, plusTimes, plusFour, times, combined, blended}
-use Rattle.kernels.proofs.Laws.{test, vec-set, withPart-none, withPart-past, withPart-before, withPart-step}
+use Rattle.kernels.proofs.Laws.{vec-set, withPart-none, withPart-past, withPart-before, withPart-step}
+use Rattle.model.proofs.Cases.{test}
 
 -- ---- any rule
 

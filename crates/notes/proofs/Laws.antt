@@ -13,7 +13,8 @@ use Rattle.model.specs.Matrix.{Row, vec, bytes, places, put, swapped}
 use Rattle.model.specs.Step.{Pivots, isBlock, firstNumber, lastNumber, underNumber}
 use Rattle.model.specs.Head.{lastOf, byteOf, noted}
 use Rattle.model.specs.declared.Pivot.{Pivot}
-use Rattle.kernels.proofs.Laws.{test, vec-set}
+use Rattle.kernels.proofs.Laws.{vec-set}
+use Rattle.model.proofs.Cases.{test}
 
 -- ---- stores
 

@@ -12,7 +12,6 @@ use Rattle.model.specs.Choice.{greatest, noneYet, columnGreatest, rowGreatest}
 use Rattle.model.specs.declared.Greatest.{Greatest}
 use Rattle.model.proofs.Cases.{test, one-left, none-left}
 use borrow.Author.Tests.{lt-ltb, le-ltb}
-use Rattle.kernels.proofs.Laws.{test}
 use Rattle.grid.specs.Grid.{In}
 use Rattle.grid.proofs.Laws.{view-read, col-in, in-col}
 use Rattle.scan.specs.Greatest.{better, greatestDown, greatestAlong, across, FoundIn, DownPre, AlongPre, ColumnPre, RowPre, AcrossPre}

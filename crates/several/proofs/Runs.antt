@@ -10,7 +10,8 @@ use lib.ListN.{length, getD, set, length-set}
 use lib.Ieee.{Float, nan, binary64, sub, mul}
 use Rattle.model.specs.Matrix.{Row, vec, put, withPart}
 use Rattle.kernels.specs.Rules.{pick, lessAll, lessRuns}
-use Rattle.kernels.proofs.Laws.{test, cmp, vec-set, withPart-none, withPart-before, withPart-past, withPart-more}
+use Rattle.kernels.proofs.Laws.{vec-set, withPart-none, withPart-before, withPart-past, withPart-more}
+use Rattle.model.proofs.Cases.{test, cmp}
 use Rattle.kernels.proofs.Rules.{all-same, pick-each}
 use Rattle.several.specs.Several.{runsBy, fourLessTwo, twoLessThree, FourRunsPre, TwoRunsPre}
 

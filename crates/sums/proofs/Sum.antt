@@ -16,8 +16,7 @@ use Rattle.model.specs.Matrix.{Row, Mat, columnStart, view, vec, withPart}
 use Rattle.model.specs.Panel.{sumFrom}
 use Rattle.model.proofs.Cases.{test}
 use Rattle.model.proofs.Summed.{sum-append}
-use Rattle.model.specs.Kept.{ahead}
-use Rattle.kernels.specs.Rules.{zeroed, plusTimes, plusFour}
+use Rattle.kernels.specs.Rules.{ahead, zeroed, plusTimes, plusFour}
 use Rattle.kernels.proofs.Laws.{vec-part}
 use Rattle.kernels.proofs.Rules.{plus-four-step}
 use Rattle.sums.specs.declared.Terms.{Terms}

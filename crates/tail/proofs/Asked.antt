@@ -15,7 +15,7 @@ use Rattle.model.specs.Head.{lastOf}
 use Rattle.model.specs.Kept.{Paired, Starts}
 use Rattle.model.specs.declared.Diagonal.{Diagonal}
 use Rattle.diagonal.specs.Diagonal.{PivotPre}
-use Rattle.kernels.proofs.Laws.{test}
+use Rattle.model.proofs.Cases.{test}
 use Rattle.grid.specs.Rules.{ExchangePre}
 use Rattle.grid.proofs.Laws.{off-lt}
 use Rattle.pairs.specs.Pairs.{PartPre, StepPre, PairPre}

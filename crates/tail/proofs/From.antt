@@ -10,7 +10,7 @@ use Rattle.model.specs.Step.{isBlock, eliminated, rowAfterStep}
 use Rattle.model.specs.Head.{lastOf}
 use Rattle.model.specs.declared.Diagonal.{Diagonal}
 use Rattle.model.specs.declared.Diagonal.the-variants.{One, Two}
-use Rattle.kernels.proofs.Laws.{test}
+use Rattle.model.proofs.Cases.{test}
 use Rattle.whole.proofs.Masked.{one-alike, two-alike}
 use Rattle.pairs.specs.Pairs.{stepOf}
 use Rattle.pairs.proofs.Sweeps.{place-from}

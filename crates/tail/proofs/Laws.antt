@@ -10,7 +10,7 @@ use lib.Ieee.{Float}
 use Rattle.model.specs.Matrix.{Row, Mat, vec, bytes, within, exchangedPlace}
 use Rattle.model.specs.Step.{Diagonals, diagonalsOf, begins, isBlock, diagonalAt, pastOf, stepAt, firstOf, arrived, rowStepped, rowAfterStep, rowAfterSteps}
 use Rattle.model.specs.declared.Diagonal.{Diagonal}
-use Rattle.kernels.proofs.Laws.{test}
+use Rattle.model.proofs.Cases.{test}
 use Rattle.grid.specs.Rules.{columnOf, columnsExchanged}
 use Rattle.whole.specs.Whole.{below}
 use Rattle.pairs.specs.Pairs.{stepOf, rowAfterBoth}

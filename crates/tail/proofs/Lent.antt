@@ -12,7 +12,8 @@ use lib.ListN.{length, getD, drop, length-drop}
 use lib.Seq.{getD-drop, take-all}
 use lib.Ieee.{Float, nan}
 use Rattle.model.specs.Matrix.{Row, Mat, view, vec, withPart}
-use Rattle.kernels.proofs.Laws.{test, vec-put}
+use Rattle.kernels.proofs.Laws.{vec-put}
+use Rattle.model.proofs.Cases.{test}
 use Rattle.grid.proofs.Laws.{view-at, view-out}
 use Rattle.whole.specs.Whole.{below}
 use Rattle.whole.proofs.Masked.{within-in, within-before, within-past}

@@ -5,8 +5,7 @@ use mathlib.Core.Path.{_≡_}
 use lib.ListN.{length}
 use borrow.Author.Needs.{needs}
 use Rattle.model.specs.Matrix.{vec, withPart}
-use Rattle.model.specs.Kept.{ahead}
-use Rattle.kernels.specs.Rules.{plusFour}
+use Rattle.kernels.specs.Rules.{ahead, plusFour}
 use Rattle.kernels.proofs.Laws.{withPart-end}
 use Rattle.kernels.proofs.Rules.{rule-none}
 use Rattle.sums.proofs.Sum.{four-step}
