@@ -14,12 +14,10 @@ use mir.Syntax.{w64}
 use mir.Val.{Fits}
 use Rattle.model.specs.Matrix.{Mat, columnStart, view, putAt, withColumn}
 use Rattle.model.proofs.Cases.{test}
+use Rattle.model.proofs.Tabulated.{off-lt}
 use Rattle.grid.specs.Grid.{In}
 
 -- ---- offsets
-
-pub off-lt : (n c i j : ℕ) → i < n → j < c → i + j * n < n * c
-off-lt n c i j hi hj = omega (arith, mul-le-mul-right n hj, suc-mul j n, mul-comm n c)
 
 pub off-row : (n a b i j : ℕ) → a < n → i < n → a + b * n ≡ i + j * n → a ≡ i
 off-row n a b i j ha hi e =

@@ -123,7 +123,7 @@ combine-step f xs zs ws i n len p q r l h o e = store f xs i n len _ _ l h o e r
 both-none : (f N O : Row) (p : ℕ) → f ≡ withPart (withPart f 0 0 N) p (p + 0) O
 both-none f N O p = rule-none f N 0 ∙ from-none (withPart f 0 0 N) O p
 
-put-before : (f : Row) (i : ℕ) (v : Float) (lo hi : ℕ) (O : Row) → i < lo → put (withPart f lo hi O) i v ≡ withPart (put f i v) lo hi O
+pub put-before : (f : Row) (i : ℕ) (v : Float) (lo hi : ℕ) (O : Row) → i < lo → put (withPart f lo hi O) i v ≡ withPart (put f i v) lo hi O
 unfolding put withPart
 put-before f i v lo hi O h =
     fun-ext λ a. test (eqb a i) (λ p. rw (p, lt-leb lo a (omega (arith, eqb-true a i p)))) (λ p. rw p)

@@ -14,26 +14,19 @@ use Rattle.model.specs.declared.Pivot.{Pivot}
 use Rattle.model.proofs.Cases.{test, cmp}
 use Rattle.model.proofs.Bounds.{Good, GoodPivot, try-good}
 
--- a pivot's last column is not before its first
-pub last-from : (k : ℕ) (two : Bool) → k ≤ lastOf k two
+-- a pivot's last column is not before its first; a block's, and a 1x1's
+pub last-from : (k : ℕ) (block : Bool) → k ≤ lastOf k block
 unfolding lastOf
 last-from k true = omega arith
 last-from k false = omega arith
 
--- a block's
-pub last-block : (k : ℕ) → lastOf k true ≡ k + 1
+pub last-block : (k : ℕ) (block : Bool) → block ≡ true → lastOf k block ≡ k + 1
 unfolding lastOf
-last-block k = refl
+last-block k block e = rw e
 
--- where a test says so
-pub last-wide : (k : ℕ) (two : Bool) → two ≡ true → lastOf k two ≡ k + 1
+pub last-single : (k : ℕ) (block : Bool) → block ≡ false → lastOf k block ≡ k
 unfolding lastOf
-last-wide k two e = rw e
-
--- a 1x1's
-pub last-single : (k : ℕ) → lastOf k false ≡ k
-unfolding lastOf
-last-single k = refl
+last-single k block e = rw e
 
 -- ---- block bytes
 
@@ -146,8 +139,8 @@ step-ahead f q k two p kp w hp hk c h s = cmp c k before (λ e. subst (Ahead (st
     after-it g = by two refl
       where
         by : (b : Bool) → two ≡ b → ⊥
-        by true e = s k (omega (arith, ap (lastOf k) e, last-block k)) (bytes-at f k two ∙ ap byteOf e)
-        by false e = omega (arith, ap (lastOf k) e, last-single k)
+        by true e = s k (omega (arith, ap (lastOf k) e, last-block k true refl)) (bytes-at f k two ∙ ap byteOf e)
+        by false e = omega (arith, ap (lastOf k) e, last-single k false refl)
 
 -- ---- a step
 
@@ -167,15 +160,9 @@ none-recorded f q = record {
   ahead = λ c h s. absurd (omega arith);
 }
 
--- a pivot begins where the record ends, and right after each pivot
+-- a pivot begins where the record ends
 pub end-starts : (n : ℕ) (f q : ℕ → ℕ) → Recorded n f q → Starts f n
 end-starts n f q w c e b = omega (arith, w .paired .room c (omega arith) b)
-
-pub past-starts : (n k : ℕ) (f q : ℕ → ℕ) → Recorded n f q → k < n → Starts f (pastOf f k)
-unfolding pastOf
-past-starts n k f q w h = test (eqb (f k) 1)
-    (λ t. rw t (λ c e b. let x : c ≡ k + 1 = omega arith in omega (arith, ap f x, w .paired .apart k h (eqb-true (f k) 1 t))))
-    (λ t. rw t (λ c e b. let x : c ≡ k = omega arith in eqb-false (f k) 1 t (ap f (sym x) ∙ b)))
 
 -- a step at k or later leaves the start at kb
 pub noted-starts : (kb k e : ℕ) (p : Pivots) (v : Pivot) → kb ≤ k → k ≤ e → Starts (p .diagonals .blocks) kb → Starts (noted p k e v .diagonals .blocks) kb

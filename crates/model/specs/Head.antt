@@ -9,7 +9,7 @@ use Rattle.model.specs.Scalar.{_⊕_, _⊖_, _⊗_, zeroF, reciprocalOf,
 use Rattle.model.specs.Root.{sqrtOf}
 use Rattle.model.specs.Matrix.{Row, Mat, put, swapped, exchanged, withColumn}
 use Rattle.model.specs.Choice.{chooseOf}
-use Rattle.model.specs.Step.{one, two, Diagonals, Notes, Pivots, blockOf, isBlock, firstNumber, lastNumber, underNumber, firstMultiplier, secondMultiplier, eliminated, rowAfterSteps}
+use Rattle.model.specs.Step.{one, two, Diagonals, Notes, Pivots, blockOf, blockIn, isBlock, firstNumber, lastNumber, underNumber, firstMultiplier, secondMultiplier, eliminated, rowAfterSteps}
 use Rattle.model.specs.Panel.{Panel, rowAfterPanel}
 use Rattle.model.specs.declared.Mode.{Mode}
 use Rattle.model.specs.declared.Mode.the-variants.{Fail, Lift}
@@ -124,7 +124,7 @@ module _ (ke : ℕ) (a₀ mult : Mat) where
   abbrev pub tryBlock : Mode → ℕ → ℕ → ℕ → ℕ → Tried
   tryBlock mode limit k p kp =
       let a = exchanged (k + 1) kp ke a₀ in
-      afterTwo k p kp (settledTwo mode limit (blockOf (a k k) (a (k + 1) k) (a (k + 1) (k + 1))))
+      afterTwo k p kp (settledTwo mode limit (blockIn a k))
 
 -- the chosen 1x1 stands at row kp; a block's first exchange comes before all else; a zero column is refused in Fail and a 1x1 in Lift
 abbrev pub tryBy : ℕ → Mat → Mat → Mode → ℕ → ℕ → Choice → Tried

@@ -21,6 +21,10 @@ pub data Step : Type 0 where
 abbrev pub blockOf : Float → Float → Float → Block
 blockOf d11 d21 d22 = record { d11 = d11; d21 = d21; d22 = d22; det = d11 ⊗ d22 ⊖ d21 ⊗ d21 }
 
+-- the block at k and k + 1 of a matrix
+abbrev pub blockIn : Mat → ℕ → Block
+blockIn a k = blockOf (a k k) (a (k + 1) k) (a (k + 1) (k + 1))
+
 -- ---- a pivot's numbers as d and the subdiagonal hold them
 
 abbrev pub isBlock : Diagonal → Bool

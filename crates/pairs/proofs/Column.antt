@@ -7,23 +7,11 @@ use lib.Ieee.{Float, eq}
 use Rattle.model.specs.Scalar.{zeroF}
 use Rattle.model.specs.Matrix.{Row, Mat, withColumn}
 use Rattle.model.specs.Head.{lastOf}
+use Rattle.model.proofs.Recorded.{last-from, last-block, last-single}
 use Rattle.grid.specs.Rules.{columnOf, lessTimes, lessTimesIf, lessTwo, lessThree, lessFour, LaterPre}
 use Rattle.pairs.specs.Pairs.{lessAt, stepped, steppedTwice}
 
 -- ---- where a pivot's columns stand
-
-pub last-from : (k : ℕ) (block : Bool) → k ≤ lastOf k block
-unfolding lastOf
-last-from k true = omega arith
-last-from k false = omega arith
-
-pub block-last : (k : ℕ) (block : Bool) → block ≡ true → lastOf k block ≡ k + 1
-unfolding lastOf
-block-last k block e = rw e
-
-pub single-last : (k : ℕ) (block : Bool) → block ≡ false → lastOf k block ≡ k
-unfolding lastOf
-single-last k block e = rw e
 
 -- what the grid asks, from what is asked by kind
 later-at : (n k k′ j lo hi len : ℕ) → LaterPre n k j lo hi len → k′ ≤ k → LaterPre n k′ j lo hi len
@@ -50,7 +38,7 @@ three-times f s t u m1 m2 m3 = refl
 -- ---- one pivot
 
 pub block-pre : (n j lo hi len : ℕ) (block : Bool) → LaterPre n (lastOf 0 block) j lo hi len → block ≡ true → LaterPre n 1 j lo hi len
-block-pre n j lo hi len block h e = later-at n (lastOf 0 block) 1 j lo hi len h (omega (arith, block-last 0 block e))
+block-pre n j lo hi len block h e = later-at n (lastOf 0 block) 1 j lo hi len h (omega (arith, last-block 0 block e))
 
 pub single-pre : (n j lo hi len : ℕ) (block : Bool) → LaterPre n (lastOf 0 block) j lo hi len → block ≡ false → LaterPre n 0 j lo hi len
 single-pre n j lo hi len block h e = later-at n (lastOf 0 block) 0 j lo hi len h (omega arith)
@@ -99,19 +87,19 @@ module _ (M Q : Mat) (f s t : Row) (j lo hi : ℕ) (m1 m2 : Float) where
 
 module _ (block1 block2 : Bool) (l : ℕ) (next : l ≡ lastOf 0 block1 + 1) where
   blocks-at : block1 ≡ true → l ≡ 2
-  blocks-at e = omega (arith, block-last 0 block1 e)
+  blocks-at e = omega (arith, last-block 0 block1 e)
 
   singles-at : block1 ≡ false → l ≡ 1
-  singles-at e = omega (arith, single-last 0 block1 e)
+  singles-at e = omega (arith, last-single 0 block1 e)
 
   pub blocks-pre : (n j lo hi len : ℕ) → LaterPre n (lastOf l block2) j lo hi len → block1 ≡ true → block2 ≡ true → LaterPre n 3 j lo hi len
-  blocks-pre n j lo hi len h e g = later-at n (lastOf l block2) 3 j lo hi len h (omega (arith, blocks-at e, block-last l block2 g))
+  blocks-pre n j lo hi len h e g = later-at n (lastOf l block2) 3 j lo hi len h (omega (arith, blocks-at e, last-block l block2 g))
 
   pub block-single-pre : (n j lo hi len : ℕ) → LaterPre n (lastOf l block2) j lo hi len → block1 ≡ true → LaterPre n 2 j lo hi len
   block-single-pre n j lo hi len h e = later-at n (lastOf l block2) 2 j lo hi len h (omega (arith, blocks-at e, last-from l block2))
 
   pub single-block-pre : (n j lo hi len : ℕ) → LaterPre n (lastOf l block2) j lo hi len → block1 ≡ false → block2 ≡ true → LaterPre n 2 j lo hi len
-  single-block-pre n j lo hi len h e g = later-at n (lastOf l block2) 2 j lo hi len h (omega (arith, singles-at e, block-last l block2 g))
+  single-block-pre n j lo hi len h e g = later-at n (lastOf l block2) 2 j lo hi len h (omega (arith, singles-at e, last-block l block2 g))
 
   pub singles-pre : (n j lo hi len : ℕ) → LaterPre n (lastOf l block2) j lo hi len → block1 ≡ false → LaterPre n 1 j lo hi len
   singles-pre n j lo hi len h e = later-at n (lastOf l block2) 1 j lo hi len h (omega (arith, singles-at e, last-from l block2))

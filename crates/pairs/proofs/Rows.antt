@@ -16,8 +16,9 @@ use Rattle.grid.specs.Rules.{columnOf, columnsExchanged}
 use Rattle.whole.specs.Whole.{below}
 use Rattle.whole.proofs.Masked.{ranged}
 use Rattle.pairs.specs.Pairs.{stepOf, rowAfterBoth, lessAt, sweptFirst, sweptBoth, ownBy}
-use Rattle.pairs.proofs.Column.{last-from}
-use Rattle.pairs.proofs.Sweeps.{place-other, place-same, place-from, place-under, less-same}
+use Rattle.model.proofs.Recorded.{last-from}
+use Rattle.model.proofs.Exchanged.{place-same, place-under}
+use Rattle.pairs.proofs.Sweeps.{place-other, place-from, less-same}
 use Rattle.pairs.proofs.Steps.{own-same, step-own, step-later, step-before, step-past, strip-in, strip-left, strip-right, strip-out}
 use Rattle.pairs.proofs.Steps.{own-in, own-left, own-right, own-out}
 
@@ -152,7 +153,7 @@ module _ (M D E P Q S T I : Mat) (x y : Diagonal) (k kp l kq e f end lo hi : ℕ
     first-part j u v =
         let z = exchangedPlace f kq j in
         let low : l ≤ z = place-from l f kq j (pivots-in .1) (omega (arith, pivots-in .1)) u in
-        let high : z < end = place-under end f kq j (omega arith) row v in
+        let high : z < end = place-under f kq end j (omega arith) row v in
         less-same (isBlock x) (E i) (D i) k _ _ _ (λ a u v. before a (omega arith)) ∙ ap (lessAt (isBlock x) (D i) k (I z k) (I z (k + 1))) (moved j)
         ∙ sym (step-later k kp end _ _ (D i) z x (omega arith) high)
 

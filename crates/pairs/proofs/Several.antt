@@ -15,7 +15,7 @@ use Rattle.grid.proofs.Laws.{withColumn-other}
 use Rattle.several.specs.Several.{columnsBy, fourColumns, twoColumns, ColumnsPre}
 use Rattle.pairs.specs.Pairs.{lessAt, steppedTwice, strip, sweptBoth, neitherZero, PairPre}
 use Rattle.pairs.specs.declared.Part.{Part}
-use Rattle.pairs.proofs.Column.{last-from, block-last, single-last}
+use Rattle.model.proofs.Recorded.{last-from, last-block, last-single}
 use Rattle.pairs.proofs.Sweeps.{placed, column-in, less-same, strip-before, both-none, both-step, both-end}
 
 -- ---- columns from j on
@@ -158,7 +158,7 @@ module _ (M I : Mat) (f kq l j : ℕ) where
   singles-rule : (b : ℕ) (m1 m3 : Float) → l ≡ lastOf 0 false + 1 → m1 ≡ I (exchangedPlace f kq b) 0 → m3 ≡ I b l → neitherZero m1 m3 ≡ true
       → lessTwo (columnOf M b) (columnOf M 0) (columnOf M 1) m1 m3 ≡ bothAt false false M I f kq 0 l b
   singles-rule b m1 m3 e e1 e3 z =
-      singles-at M l b m1 (I (exchangedPlace f kq b) 1) m3 (I b (l + 1)) (omega (arith, single-last 0 false refl)) (neither-first m1 m3 z)
+      singles-at M l b m1 (I (exchangedPlace f kq b) 1) m3 (I b (l + 1)) (omega (arith, last-single 0 false refl)) (neither-first m1 m3 z)
       (neither-second m1 m3 z)
       ∙ rw (e1, e3)
 
@@ -181,10 +181,10 @@ module _ (M I : Mat) (f kq l j : ℕ) where
   unfolding twoColumns pick
   single-block-rules a1 a2 a3 b1 b2 b3 e ea1 ea2 ea3 eb1 eb2 eb3 z zero h =
       let at : j + 0 ≡ j = omega arith in
-      rw at (single-block-at M l j a1 (I (exchangedPlace f kq j) 1) a2 a3 (omega (arith, single-last 0 false refl)) (neither-first a1 b1 z)
+      rw at (single-block-at M l j a1 (I (exchangedPlace f kq j) 1) a2 a3 (omega (arith, last-single 0 false refl)) (neither-first a1 b1 z)
       ∙ rw (ea1, ea2, ea3))
   single-block-rules a1 a2 a3 b1 b2 b3 e ea1 ea2 ea3 eb1 eb2 eb3 z (suc zero) h =
-      single-block-at M l (j + 1) b1 (I (exchangedPlace f kq (j + 1)) 1) b2 b3 (omega (arith, single-last 0 false refl)) (neither-second a1 b1 z)
+      single-block-at M l (j + 1) b1 (I (exchangedPlace f kq (j + 1)) 1) b2 b3 (omega (arith, last-single 0 false refl)) (neither-second a1 b1 z)
       ∙ rw (eb1, eb2, eb3)
   single-block-rules a1 a2 a3 b1 b2 b3 e ea1 ea2 ea3 eb1 eb2 eb3 z (suc (suc u)) h = absurd (omega arith)
 
@@ -195,9 +195,9 @@ module _ (M I : Mat) (f kq l j : ℕ) where
   unfolding twoColumns pick
   block-single-rules a1 a2 a3 b1 b2 b3 e ea1 ea2 ea3 eb1 eb2 eb3 z zero h =
       let at : j + 0 ≡ j = omega arith in
-      rw at (block-single-at M l j a1 a2 a3 (I j (l + 1)) (omega (arith, block-last 0 true refl)) (neither-first a3 b3 z) ∙ rw (ea1, ea2, ea3))
+      rw at (block-single-at M l j a1 a2 a3 (I j (l + 1)) (omega (arith, last-block 0 true refl)) (neither-first a3 b3 z) ∙ rw (ea1, ea2, ea3))
   block-single-rules a1 a2 a3 b1 b2 b3 e ea1 ea2 ea3 eb1 eb2 eb3 z (suc zero) h =
-      block-single-at M l (j + 1) b1 b2 b3 (I (j + 1) (l + 1)) (omega (arith, block-last 0 true refl)) (neither-second a3 b3 z) ∙ rw (eb1, eb2, eb3)
+      block-single-at M l (j + 1) b1 b2 b3 (I (j + 1) (l + 1)) (omega (arith, last-block 0 true refl)) (neither-second a3 b3 z) ∙ rw (eb1, eb2, eb3)
   block-single-rules a1 a2 a3 b1 b2 b3 e ea1 ea2 ea3 eb1 eb2 eb3 z (suc (suc u)) h = absurd (omega arith)
 
 module _ (M Q I : Mat) (f kq l j lo hi : ℕ) where
@@ -244,9 +244,9 @@ module _ {at : Part} {l f kq j len lenM : ℕ} where
   pub single-block-columns : PairPre false true at l f kq len lenM → f < j → j + 2 ≤ at .columns → ColumnsPre (at .nrow) (at .rows) 2 j (j + 1) len
   single-block-columns pre h g =
       let p = placed pre in
-      columns-pre false true 2 1 pre (omega (arith, pre .last, block-last l true refl)) h (omega arith)
+      columns-pre false true 2 1 pre (omega (arith, pre .last, last-block l true refl)) h (omega arith)
 
   pub block-single-columns : PairPre true false at l f kq len lenM → f < j → j + 2 ≤ at .columns → ColumnsPre (at .nrow) (at .rows) 2 j (j + 1) len
   block-single-columns pre h g =
       let p = placed pre in
-      columns-pre true false 2 1 pre (omega (arith, pre .next, block-last 0 true refl)) h (omega arith)
+      columns-pre true false 2 1 pre (omega (arith, pre .next, last-block 0 true refl)) h (omega arith)

@@ -16,13 +16,14 @@ use Rattle.model.specs.Head.{lastOf}
 use Rattle.model.specs.declared.Block.{Block}
 use Rattle.model.specs.declared.Diagonal.{Diagonal}
 use Rattle.model.specs.declared.Diagonal.the-variants.{One, Two}
+use Rattle.model.proofs.Exchanged.{place-under}
 use Rattle.model.proofs.Cases.{test, cmp}
 use Rattle.kernels.specs.Rules.{times, combined}
 use Rattle.grid.specs.Grid.{In}
 use Rattle.grid.specs.Rules.{columnOf, LaterPre, RowsPre, ExchangePre}
 use Rattle.pairs.specs.Pairs.{lessAt, stepped, steppedTwice, strip, sweptFirst, sweptBoth, ownBy, PartPre, SweepPre, StepPre, PairPre}
 use Rattle.pairs.specs.declared.Part.{Part}
-use Rattle.pairs.proofs.Column.{last-from}
+use Rattle.model.proofs.Recorded.{last-from}
 
 -- ---- the exchange of places
 
@@ -35,15 +36,9 @@ place-second f kq j h e = rw (ne-eqb j f h, eq-eqb j kq e)
 pub place-other : (f kq j : ℕ) → (j ≡ f → ⊥) → (j ≡ kq → ⊥) → j ≡ exchangedPlace f kq j
 place-other f kq j h g = rw (ne-eqb j f h, ne-eqb j kq g)
 
-pub place-same : (f j : ℕ) → exchangedPlace f f j ≡ j
-place-same f j = test (eqb j f) (λ e. rw e (sym (eqb-true j f e))) (λ e. rw e)
-
--- of places from lo on and before hi, it is one of them
+-- of places from lo on, it is one of them
 pub place-from : (lo f kq j : ℕ) → lo ≤ f → lo ≤ kq → lo ≤ j → lo ≤ exchangedPlace f kq j
 place-from lo f kq j hf hq hj = test (eqb j f) (λ e. rw e hq) (λ e. rw e (test (eqb j kq) (λ g. rw g hf) (λ g. rw g hj)))
-
-pub place-under : (hi f kq j : ℕ) → f < hi → kq < hi → j < hi → exchangedPlace f kq j < hi
-place-under hi f kq j hf hq hj = test (eqb j f) (λ e. rw e hq) (λ e. rw e (test (eqb j kq) (λ g. rw g hf) (λ g. rw g hj)))
 
 -- ---- what is lent
 
@@ -71,7 +66,7 @@ module _ {at : Part} {len lenM : ℕ} (frame : PartPre at len lenM) where
 
 module _ (block : Bool) (at : Part) (j f kq len lenM : ℕ) (pre : SweepPre block at j (j + 1) f kq len lenM) where
   moved-in : exchangedPlace f kq j < at .columns
-  moved-in = place-under (at .columns) f kq j (pre .one) (pre .other) (omega (arith, pre .end))
+  moved-in = place-under f kq (at .columns) j (pre .one) (pre .other) (omega (arith, pre .end))
 
   pub first-kept : In (at .nb) (exchangedPlace f kq j) 0 lenM
   first-kept = multiplier-in (pre .frame) (exchangedPlace f kq j) 0 moved-in (omega (arith, pre .end))
@@ -135,12 +130,12 @@ module _ {block1 block2 : Bool} {at : Part} {l f kq len lenM : ℕ} (pre : PairP
   -- what reading a multiplier asks, past both pivots: of the first, and of the second
   pub both-kept : (j : ℕ) → f < j → j < at .columns → In (at .nb) (exchangedPlace f kq j) 0 lenM
   both-kept j h g =
-      multiplier-in (pre .frame) (exchangedPlace f kq j) 0 (place-under (at .columns) f kq j (placed .last) (pre .row) g) (omega arith)
+      multiplier-in (pre .frame) (exchangedPlace f kq j) 0 (place-under f kq (at .columns) j (placed .last) (pre .row) g) (omega arith)
 
   pub both-kept-next : (j : ℕ) → f < j → j < at .columns → In (at .nb) (exchangedPlace f kq j) 1 lenM
   both-kept-next j h g =
       let p = placed in
-      multiplier-in (pre .frame) (exchangedPlace f kq j) 1 (place-under (at .columns) f kq j (placed .last) (pre .row) g) (omega arith)
+      multiplier-in (pre .frame) (exchangedPlace f kq j) 1 (place-under f kq (at .columns) j (placed .last) (pre .row) g) (omega arith)
 
   pub second-kept : (j : ℕ) → f < j → j < at .columns → In (at .nb) j l lenM
   second-kept j h g = let p = placed in multiplier-in (pre .frame) j l g (omega arith)

@@ -12,7 +12,7 @@ use Rattle.model.specs.Matrix.{Row, vec, put, withPart}
 use Rattle.kernels.specs.Rules.{pick, lessAll, lessRuns}
 use Rattle.kernels.proofs.Laws.{vec-set, withPart-none, withPart-before, withPart-past, withPart-more}
 use Rattle.model.proofs.Cases.{test, cmp}
-use Rattle.kernels.proofs.Rules.{all-same, pick-each}
+use Rattle.kernels.proofs.Rules.{put-before, all-same, pick-each}
 use Rattle.several.specs.Several.{runsBy, fourLessTwo, twoLessThree, FourRunsPre, TwoRunsPre}
 
 -- ---- runs that do not overlap: each of c ends before a later one begins
@@ -61,10 +61,6 @@ runs-next f to n i R d (suc c) u h l g o =
 
 -- ---- one place more in each run
 
-put-before : (f N : Row) (u v t : ℕ) (y : Float) → t < u → put (withPart f u v N) t y ≡ withPart (put f t y) u v N
-unfolding put withPart
-put-before f N u v t y h = fun-ext λ a. test (eqb a t) (λ b. rw (b, eqb-true a t b, lt-leb u t h)) (λ b. rw b)
-
 -- the place i of each of c runs, the u-th by Y u
 unfoldable putsBy : Row → (ℕ → ℕ) → ℕ → (ℕ → Float) → ℕ → Row
 putsBy f to i Y zero = f
@@ -76,7 +72,7 @@ unfolding putsBy
 puts-before f N to i Y zero u v h = refl
 puts-before f N to i Y (suc c) u v h =
     ap (λ (g : Row). put g (to c + i) (Y c)) (puts-before f N to i Y c u v (λ w l. h w (omega arith)))
-    ∙ put-before (putsBy f to i Y c) N u v (to c + i) (Y c) (h c (omega arith))
+    ∙ put-before (putsBy f to i Y c) (to c + i) (Y c) u v N (h c (omega arith))
 
 -- a place past all that are put
 puts-past : (f : Row) (to : ℕ → ℕ) (i : ℕ) (Y : ℕ → Float) (c t : ℕ) → ((w : ℕ) → w < c → to w + i < t) → putsBy f to i Y c t ≡ f t

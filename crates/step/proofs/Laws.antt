@@ -7,7 +7,7 @@ use lib.Ieee.{Float}
 use Rattle.model.specs.Sizes.{mostRounds}
 use Rattle.model.specs.Matrix.{Mat, exchanged}
 use Rattle.model.specs.Choice.{chooseOf}
-use Rattle.model.specs.Step.{blockOf}
+use Rattle.model.specs.Step.{blockOf, blockIn}
 use Rattle.model.specs.Head.{settledOne, settledTwo, headOne, headTwo, keptOne, keptTwo, Tried, afterOne, afterTwo, tryBlock, tryBy, tryOf}
 use Rattle.model.specs.declared.Mode.{Mode}
 use Rattle.model.specs.declared.Pivoting.{Pivoting}
@@ -28,7 +28,6 @@ use Rattle.grid.proofs.Laws.{in-panel}
 use Rattle.scan.specs.Greatest.{Within}
 use Rattle.eliminate.specs.Eliminate.{TwoPre}
 use Rattle.rule.specs.Chosen.{ChosenWithin}
-use Rattle.step.specs.Answers.{blockIn}
 use Rattle.step.specs.Answers.{tried, byMode, singleOf, twoOf}
 use Rattle.step.specs.Terms.{TakenIn, LimitPre, PanelPre, StepPre, PivotPre, BlockPre}
 use Rattle.step.specs.declared.Taken.{Taken}

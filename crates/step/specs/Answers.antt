@@ -1,9 +1,7 @@
 -- The cases of a step and its declared answer in the model's words. Definitions only. Assumes nothing.
 use Prim.Native.Nat.{ℕ, _+_}
 use Rattle.model.specs.Matrix.{Mat}
-use Rattle.model.specs.Step.{blockOf}
 use Rattle.model.specs.Head.{settledOne, Tried, refusedBy, took, afterOne, tryBlock}
-use Rattle.model.specs.declared.Block as numbers
 use Rattle.model.specs.declared.Elim.{Elim}
 use Rattle.model.specs.declared.Mode.{Mode}
 use Rattle.model.specs.declared.Mode.the-variants.{Fail, Lift}
@@ -11,10 +9,6 @@ use Rattle.model.specs.declared.Choice.{Choice}
 use Rattle.model.specs.declared.Choice.the-variants.{ZeroColumn, Single, Block}
 use Rattle.step.specs.declared.Taken.{Taken}
 use Rattle.step.specs.declared.Taken.the-variants.{Refused, Took}
-
--- the block at k and k + 1
-abbrev pub blockIn : Mat → ℕ → numbers.Block
-blockIn a k = blockOf (a k k) (a (k + 1) k) (a (k + 1) (k + 1))
 
 -- ---- the cases of a step
 

@@ -17,7 +17,7 @@ use Rattle.model.specs.declared.Diagonal.{Diagonal}
 use Rattle.diagonal.specs.Diagonal.{PivotPre}
 use Rattle.model.proofs.Cases.{test}
 use Rattle.grid.specs.Rules.{ExchangePre}
-use Rattle.grid.proofs.Laws.{off-lt}
+use Rattle.model.proofs.Tabulated.{off-lt}
 use Rattle.pairs.specs.Pairs.{PartPre, StepPre, PairPre}
 use Rattle.tail.specs.Tail.{TailPre, StepsPre, HerePre, LentPre, ReadPre}
 

@@ -9,7 +9,7 @@ use borrow.Author.Tests.{eqb-true, ltb-true}
 use lib.Dec.{ltb, eqb}
 use Rattle.model.specs.Matrix.{Mat, put, exchanged}
 use Rattle.model.specs.Choice.{chooseOf}
-use Rattle.model.specs.Step.{Pivots, isBlock}
+use Rattle.model.specs.Step.{Pivots, isBlock, blockIn}
 use Rattle.model.specs.Head.{settledOne, settledTwo, afterOne, afterTwo, tryBlock, tryBy, tryOf}
 use Rattle.model.specs.Head.{State, Tried, refusedBy, took, lastOf, byteOf, noted, Progress, stopped, going, after, panelOf}
 use Rattle.model.specs.Factor.{start}
@@ -26,10 +26,10 @@ use Rattle.model.specs.declared.TwoSettled.the-variants.{Low, OutOfRounds, Numb
 use Rattle.model.proofs.Bounds.{GoodPivot, Good, try-good}
 use Rattle.model.proofs.Cases.{test}
 use Rattle.model.proofs.Exchanged.{exchanged-up, exchanged-past}
-use Rattle.model.proofs.Recorded.{last-wide}
+use Rattle.model.proofs.Recorded.{last-block}
 use Rattle.whole.specs.Whole.{cutState, cutTried, cutProgress}
 use Rattle.whole.proofs.Masked.{headOne-up, headOne-past, headTwo-up, headTwo-past}
-use Rattle.whole.proofs.Tried.{blockIn, try-masked}
+use Rattle.whole.proofs.Tried.{try-masked}
 
 -- the state after a pivot at k
 abbrev pub stepped : State → ℕ → Pivot → Mat → Mat → State
@@ -170,7 +170,7 @@ noted-inside ke limit k p v g w =
       partner = λ j. test (eqb j k) (λ t. rw t (g .row))
           (λ t. rw t (test (eqb j (lastOf k (isBlock (v .diagonal)))) (λ u. rw u (g .first)) (λ u. rw u (w .partner j))));
       pair = λ j. test (eqb j k)
-          (λ t. rw t (λ e. omega (arith, eqb-true j k t, last-wide k (isBlock (v .diagonal)) (wide (isBlock (v .diagonal)) e), g .last)))
+          (λ t. rw t (λ e. omega (arith, eqb-true j k t, last-block k (isBlock (v .diagonal)) (wide (isBlock (v .diagonal)) e), g .last)))
           (λ t. rw t (test (eqb j (lastOf k (isBlock (v .diagonal))))
           (λ u. rw u (λ e. let z : _≡_ {A = ℕ} 0 1 = e in omega arith))
           (λ u. rw u (w .pair j))));

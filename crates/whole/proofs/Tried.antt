@@ -4,12 +4,11 @@ use mathlib.Core.Path.{_≡_, refl, _∙_, ap}
 use native.Mathlib.Omega.{arith}
 use Rattle.model.specs.Matrix.{Row, Mat, headOf, exchanged}
 use Rattle.model.specs.Choice.{greatest, columnGreatest, rowGreatest, noneYet, chooseOf}
-use Rattle.model.specs.Step.{blockOf}
+use Rattle.model.specs.Step.{blockIn}
 use Rattle.model.specs.Head.{settledOne, settledTwo, afterOne, afterTwo, tryBlock, tryBy, tryOf}
 use Rattle.model.specs.declared.Mode.{Mode}
 use Rattle.model.specs.declared.Pivoting.{Pivoting}
 use Rattle.model.specs.declared.Mode.the-variants.{Fail, Lift}
-use Rattle.model.specs.declared.Block.{Block}
 use Rattle.model.specs.declared.Greatest.{Greatest}
 use Rattle.model.specs.declared.Choice.{Choice}
 use Rattle.model.specs.declared.Choice.the-variants as choice
@@ -49,10 +48,6 @@ module _ (c : ℕ) (a : Mat) (k ke : ℕ) (hk : k < ke) (hc : ke ≤ c) where
       rw (column-masked, row-masked r (b .0) (b .1), head-at c a k k (omega arith) (omega arith), head-at c a r r (omega arith) (omega (arith, b .1)))
 
 -- ---- the step
-
--- the block at k and k + 1
-abbrev pub blockIn : Mat → ℕ → Block
-blockIn x k = blockOf (x k k) (x (k + 1) k) (x (k + 1) (k + 1))
 
 module _ (c ke : ℕ) (a m : Mat) (hc : ke ≤ c) where
   one-tried : (k kp : ℕ) (s : OneSettled) → k < ke → kp < ke → afterOne ke (headOf c a) m k kp s ≡ cutTried c (afterOne ke a m k kp s)
