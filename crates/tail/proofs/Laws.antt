@@ -14,7 +14,7 @@ use Rattle.model.proofs.Cases.{test}
 use Rattle.grid.specs.Rules.{columnOf, columnsExchanged}
 use Rattle.whole.specs.Whole.{below}
 use Rattle.pairs.specs.Pairs.{stepOf, rowAfterBoth}
-use Rattle.pairs.proofs.Column.{last-from}
+use Rattle.model.proofs.Recorded.{last-from}
 use Rattle.model.proofs.Exchanged.{place-same}
 use Rattle.tail.specs.Tail.{fromColumn, rowSteppedTwice, TailPre, HerePre}
 use Rattle.tail.proofs.From.{Since, since-then, since-later, since-exchange, from-exchange, from-then, step-since, from-step, step-same}
