@@ -183,13 +183,12 @@ module _ (t : Target) (k : Descendant) (len : ℕ) (w : ListsPre t k len) where
         (λ i j h x. ap (λ (a : Mat). a i j) v ∙ entry-is (view (t .nrow) panel) i j h x)
 
     pub apply-pre : length places ≡ mostRows
-        → ApplyPre (t .ncol) (t .nrow) (k .nk) (k .mk) (k .blocks) places start len (length (k .panel)) (length (k .d)) (length (k .sub)) (length (k .rows))
+        → ApplyPre (t .ncol) (t .nrow) (k .nk) (k .mk) (k .blocks) places start len (length (k .panel)) (length (k .d)) (length (k .sub))
     apply-pre r = record {
       few = w .sizes .columns;
       area = w .sizes .area;
       numbers = numbers-pre;
       check = w .check;
-      descendant = w .sizes .descendant;
       room = omega (arith, w .sizes .all);
       inside = λ c l h. omega (arith, w .sizes .target, d .inside c l (omega (arith, w .sizes .descendant)));
     }

@@ -34,8 +34,10 @@ update-rows-requires c κs =
     let told = c .before .before .before .before .before in
     let located = told .before .before .before in
     let landing = located .before .before in
-    apply-pre _ _ _ (entered landing .pre) _ (landing .first-landing .ensures) _ (located .locate .ensures .1 (told .enum-told .given .1))
-    (search needs)
+    let pre = entered landing .pre in (
+      apply-pre _ _ _ pre _ (landing .first-landing .ensures) _ (located .locate .ensures .1 (told .enum-told .given .1)) (search needs),
+      pre .sizes .descendant,
+    )
 
 returns-3 : tie.Need-returns-3
 unfolding descendantSound

@@ -1,37 +1,30 @@
 -- `update::apply::sum` meets its contract. The invariant: the rows' numbers are their sums over the first s columns. The measure is what is left of the
 -- columns. Assumes nothing.
-use mathlib.Core.Path.{_≡_, refl}
+use mathlib.Core.Path.{_≡_}
 use Prim.Native.Nat.{_-_, _≤_}
 use lib.ListN.{length}
 use borrow.Author.Needs.{needs}
-use Rattle.model.specs.Matrix.{view, vec, withPart}
-use Rattle.update.specs.Apply.{sums}
-use Rattle.update.proofs.Numbers.{sums-none, sums-step, sums-end, sum-column}
+use Rattle.model.specs.Matrix.{vec, withPart}
+use Rattle.update.specs.Apply.{accOf, fromRow}
+use Rattle.update.proofs.Numbers.{sum-weight, sum-rows, sums-none, sums-step, sums-end}
 use Rattle.update.proofs.apply.sum.Statement.{statement}
 use Rattle.update.proofs.apply.sum.Tie as tie
 
 abbrev Inv-loop : tie.InvT-loop
-Inv-loop acc₀ kpanel all row v nk s₀ acc s =
-    (s ≤ nk) × (length acc ≡ length acc₀) × (vec acc ≡ withPart (vec acc₀) (row .0) all (sums (view all kpanel) (vec v) s))
+Inv-loop acc₀ kpanel all row kd ksub kblocks nk lo hi s₀ acc s =
+    (s ≤ nk) × (length acc ≡ length acc₀) × (vec acc ≡ withPart (vec acc₀) 0 (hi - lo) (fromRow (accOf all s kpanel kd ksub kblocks (row .0)) lo))
 
 abbrev μ-loop : tie.MeasureT-loop
-μ-loop acc₀ kpanel all row v nk s₀ acc s = nk - s
+μ-loop acc₀ kpanel all row kd ksub kblocks nk lo hi s₀ acc s = nk - s
 
-plus-requires : tie.Need-plus-requires Inv-loop μ-loop
-plus-requires c κs =
-    let at = c .before .before in
-    let start = at .before .before .before .before .before .before .before .before .before in
-    sum-column _ _ _ _ _ _ _ _ (start .pre) (at .loop-test .taken) (search needs)
+loop-holds : tie.Need-loop-holds Inv-loop μ-loop
+loop-holds c = (search needs, search needs, search sums-none)
+
+add-column-requires : tie.Need-add-column-requires Inv-loop μ-loop
+add-column-requires c κs = (search sum-rows, search needs)
 
 loop-again : tie.Need-loop-again Inv-loop μ-loop
-unfolding vec
-loop-again c =
-    let at = c .before .before .before .before .before in
-    (search needs, search needs, sums-step _ _ _ _ _ _ _ _ _ refl (at .before .loop .inv .2) (c .before .before .plus .ensures))
-
-returns : tie.Need-returns Inv-loop μ-loop
-returns c =
-    sums-end _ _ _ _ _ _ _ _ _ (c .loop-test .left) (c .before .loop .inv .0) (c .before .before .before .before .zero .ensures) (c .before .loop .inv .2)
+loop-again c = (search needs, search needs, search sums-step)
 
 pub sum-spec : {M : Type 1} → statement M
 sum-spec =
@@ -39,11 +32,11 @@ sum-spec =
     (tie.spec
     Inv-loop
     μ-loop
-    (λ c κs. search needs)
-    (λ c. (search needs, search needs, search sums-none))
-    (λ c. search needs) (λ c. search needs)
-    plus-requires
+    (λ c. search needs) (λ c κs. search needs)
+    loop-holds
+    (λ c κs. search sum-weight)
+    add-column-requires
     (λ c. search needs) (λ c. search needs)
     loop-again
     (λ c. search needs)
-    returns)
+    (λ c. search sums-end))
