@@ -1,5 +1,5 @@
 -- Laws of the update's numbers as the loops take them: v, the sums of a part of the rows, and what a column loses. Assumes nothing.
-use mathlib.Core.Path.{_≡_, sym, _∙_, ap, fun-ext}
+use mathlib.Core.Path.{_≡_, refl, sym, _∙_, ap, fun-ext}
 use mathlib.Core.Bool.{true}
 use mathlib.Core.List.{List}
 use Prim.Native.Nat.{ℕ, zero, suc, _+_, _-_, _≤_, _<_}
@@ -15,10 +15,10 @@ use Rattle.model.specs.Panel.{timesD, sumFrom}
 use Rattle.model.proofs.Cases.{test, and-left, and-right}
 use Rattle.grid.specs.Grid.{In}
 use Rattle.grid.specs.Rules.{columnOf, zeroed, plusTimes, RowsPre}
-use Rattle.grid.proofs.Laws.{in-col, col-in, own-set}
+use Rattle.grid.proofs.Laws.{in-col, col-in, own-set, view-read, vec-set, withPart-past, withPart-step}
 use Rattle.grid.proofs.Parts.{column-at}
 use Rattle.checks.proofs.Bytes.{bytes-paired}
-use Rattle.update.specs.Apply.{weighed, accOf, fromRow, lessAt, lessFrom, WeightPre, SumPre, SubtractPre}
+use Rattle.update.specs.Apply.{weighed, accOf, fromRow, twoAdded, lessAt, lessFrom, WeightPre, SumPre, SubtractPre}
 
 -- ---- v at one column: l is the row's number there
 
@@ -107,6 +107,39 @@ pub add-lent : (n : ℕ) (f g : Row) (panel : List Float) (s at lo hi : ℕ) (x 
 unfolding plusTimes columnOf fromRow
 add-lent n f g panel s at lo hi x b u e = e ∙ part-same f 0 (hi - lo) _ _ (λ t z l. rw (column-at n panel s at lo hi t b u l))
 
+-- the same of two columns, of which the loop knows where in the list they begin
+vec-at : (xs : List Float) (i : ℕ) → vec xs i ≡ getD xs i nan
+unfolding vec
+vec-at xs i = refl
+
+pub two-step : (panel : List Float) (a b : ℕ) (v w : Float) (f : Row) (xs : List Float) (i n len : ℕ) → i < n → n ≤ len → length xs ≡ len
+    → vec xs ≡ withPart f 0 i (plusTimes (plusTimes f (fromRow (vec panel) a) v) (fromRow (vec panel) b) w)
+    → vec (set xs i (getD xs i nan ⊕ getD panel (a + i) nan ⊗ v ⊕ getD panel (b + i) nan ⊗ w))
+    ≡ withPart f 0 (i + 1) (plusTimes (plusTimes f (fromRow (vec panel) a) v) (fromRow (vec panel) b) w)
+unfolding plusTimes fromRow
+two-step panel a b v w f xs i n len h m r e =
+    let own : getD xs i nan ≡ f i = sym (vec-at xs i) ∙ ap (λ (g : Row). g i) e ∙ withPart-past f 0 i _ i (omega arith) in
+    withPart-step f (vec xs) _ 0 i _ _ (omega arith) e (rw (own, vec-at panel (a + i), vec-at panel (b + i))) (vec-set xs i _ (omega arith))
+
+two-at : (n : ℕ) (panel : List Float) (j at lo hi i : ℕ) → at ≡ columnStart n j → hi ≤ n → i < hi - lo → vec panel (lo + at + i) ≡ view n panel (lo + i) j
+two-at n panel j at lo hi i b u l =
+    vec-at panel (lo + at + i) ∙ ap (λ (k : ℕ). getD panel k nan) {x = lo + at + i} {y = lo + i + at} (omega arith)
+    ∙ view-read n panel (lo + i) j at b (omega arith)
+
+pub two-end : (n : ℕ) (panel : List Float) (s at bt lo hi i : ℕ) (v w : Float) (f g : Row) → at ≡ columnStart n s → bt ≡ columnStart n (s + 1) → hi ≤ n
+    → i ≤ hi - lo → hi - lo ≤ i → g ≡ withPart f 0 i (plusTimes (plusTimes f (fromRow (vec panel) (lo + at)) v) (fromRow (vec panel) (lo + bt)) w)
+    → g ≡ withPart f 0 (hi - lo) (twoAdded f (view n panel) s lo v w)
+unfolding twoAdded plusTimes fromRow columnOf
+two-end n panel s at bt lo hi i v w f g b c u l m e =
+    let z : i ≡ hi - lo = omega arith in
+    rw z at e ∙ part-same f 0 (hi - lo) _ _ (λ t _ h. rw (two-at n panel s at lo hi t b u h, two-at n panel (s + 1) bt lo hi t c u h))
+
+-- adding two is adding one after the other
+two-parts : (g : Row) (m : ℕ) (a b : Row) (x y : Float) → withPart g 0 m (plusTimes (plusTimes g a x) b y)
+    ≡ withPart (withPart g 0 m (plusTimes g a x)) 0 m (plusTimes (withPart g 0 m (plusTimes g a x)) b y)
+unfolding withPart plusTimes
+two-parts g m a b x y = fun-ext λ i. test (within 0 m i) (λ t. rw t) (λ t. rw t)
+
 -- rows lo up to hi of the panel, acc's number 0 for row lo
 module _ (n : ℕ) (panel d sub : List Float) (bs : List ℕ) (i lo hi : ℕ) where
   pub sums-none : (f g : Row) → g ≡ withPart f 0 (hi - lo) zeroed → g ≡ withPart g 0 (hi - lo) (fromRow (accOf n 0 panel d sub bs i) lo)
@@ -125,11 +158,32 @@ module _ (n : ℕ) (panel d sub : List Float) (bs : List ℕ) (i lo hi : ℕ) wh
       (ap (λ (q : Row). q t) e ∙ part-at f 0 (hi - lo) (λ r. accOf n s panel d sub bs i (lo + r)) t z l)))
       ∙ rw e (part-over f 0 (hi - lo) _ _)
 
-  pub sums-end : (f g h : Row) (s nk : ℕ) → nk ≤ s → s ≤ nk → g ≡ withPart f 0 (hi - lo) zeroed
-      → h ≡ withPart g 0 (hi - lo) (fromRow (accOf n s panel d sub bs i) lo) → h ≡ withPart f 0 (hi - lo) (fromRow (accOf n nk panel d sub bs i) lo)
-  sums-end f g h s nk l m e p =
-      let z : s ≡ nk = omega arith in
-      p ∙ rw (e, z) (part-over f 0 (hi - lo) zeroed _)
+  pub sums-two : (f g h : Row) (s : ℕ) (x y : Float) → x ≡ weighed d sub bs (view n panel i) s → y ≡ weighed d sub bs (view n panel i) (s + 1)
+      → g ≡ withPart f 0 (hi - lo) (fromRow (accOf n s panel d sub bs i) lo)
+      → h ≡ withPart g 0 (hi - lo) (twoAdded g (view n panel) s lo x y)
+      → h ≡ withPart f 0 (hi - lo) (fromRow (accOf n (s + 2) panel d sub bs i) lo)
+  unfolding twoAdded
+  sums-two f g h s x y v w e p =
+      let z : s + 1 + 1 ≡ s + 2 = omega arith in
+      rw z at (sums-step f _ h (s + 1) y w (sums-step f g _ s x v e refl) (p ∙ two-parts g (hi - lo) _ _ x y))
+
+  -- from what was zeroed
+  pub sums-from : (f g h : Row) (s : ℕ) → g ≡ withPart f 0 (hi - lo) zeroed
+      → h ≡ withPart g 0 (hi - lo) (fromRow (accOf n s panel d sub bs i) lo) → h ≡ withPart f 0 (hi - lo) (fromRow (accOf n s panel d sub bs i) lo)
+  sums-from f g h s e p = p ∙ rw e (part-over f 0 (hi - lo) zeroed _)
+
+  -- all columns were summed; or one was left
+  pub sums-all : (f g : Row) (s nk : ℕ) → nk ≤ s → s ≤ nk → g ≡ withPart f 0 (hi - lo) (fromRow (accOf n s panel d sub bs i) lo)
+      → g ≡ withPart f 0 (hi - lo) (fromRow (accOf n nk panel d sub bs i) lo)
+  sums-all f g s nk l m p = let e : s ≡ nk = omega arith in rw e at p
+
+  pub sums-last : (f g h : Row) (s nk : ℕ) (x : Float) → s < nk → nk ≤ s + 1 → x ≡ weighed d sub bs (view n panel i) s
+      → g ≡ withPart f 0 (hi - lo) (fromRow (accOf n s panel d sub bs i) lo)
+      → h ≡ withPart g 0 (hi - lo) (plusTimes g (fromRow (columnOf (view n panel) s) lo) x)
+      → h ≡ withPart f 0 (hi - lo) (fromRow (accOf n nk panel d sub bs i) lo)
+  sums-last f g h s nk x l m w e p =
+      let k : s + 1 ≡ nk = omega arith in
+      rw k at (sums-step f g h s x w e p)
 
 -- ---- what a column loses
 

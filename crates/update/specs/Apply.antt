@@ -16,6 +16,7 @@ use Rattle.model.specs.Inertia.{checkBytes}
 use Rattle.model.specs.Update.{Descendant, updateAcc}
 use Rattle.model.specs.declared.Check.the-variants.{Sound}
 use Rattle.grid.specs.Grid.{In}
+use Rattle.grid.specs.Rules.{columnOf, plusTimes}
 use Rattle.update.specs.Rows.{landsOn}
 use Rattle.update.specs.Call.{descendantOf, NumbersPre}
 
@@ -27,10 +28,15 @@ weighed d sub blocks = timesD (diagonalsOf d sub blocks)
 unfoldable pub accOf : (n m : ℕ) → (panel d sub : List Float) → (blocks : List ℕ) → (i : ℕ) → Row
 accOf n m panel d sub blocks i = λ r. sumFrom (λ s. view n panel r s ⊗ weighed d sub blocks (view n panel i) s) 0 m zeroF
 
--- f from n on; acc of the landing row c, by the descendant's rows
+-- f from n on
 unfoldable pub fromRow : Row → ℕ → Row
 fromRow f n = λ r. f (n + r)
 
+-- numbers for the rows from lo on, with column s of a times v added, then the next column times w
+unfoldable pub twoAdded : Row → Mat → (s lo : ℕ) → (v w : Float) → Row
+twoAdded f a s lo v w = plusTimes (plusTimes f (fromRow (columnOf a s) lo) v) (fromRow (columnOf a (s + 1)) lo) w
+
+-- acc of the landing row c, by the descendant's rows
 unfoldable pub landingAcc : Descendant → ℕ → Row
 landingAcc k c = λ r. updateAcc k r c
 
