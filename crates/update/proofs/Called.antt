@@ -13,7 +13,8 @@ use Rattle.model.specs.Sizes.{mostRows}
 use Rattle.model.specs.Matrix.{Mat, view, bytes, columnMajor}
 use Rattle.model.specs.Inertia.{checkBytes}
 use Rattle.model.specs.Assembly.{firstNot, Panelled}
-use Rattle.model.specs.Update.{Target, Descendant, updateSound, rising, beginsAt, placeFrom, absentFrom, descendantSound, numberAt, updateCheck, updated, updateOf}
+use Rattle.model.specs.Update.{Target, Descendant, updateSound, rising, beginsAt, placeFrom, absentFrom}
+use Rattle.model.specs.Update.{descendantSound, numberAt, updateCheck, updated, updateOf}
 use Rattle.model.specs.Answer.{orElse, refuseIf}
 use Rattle.model.specs.declared.Refusal.{Refusal}
 use Rattle.model.specs.declared.Refusal.the-variants.{UpdateLength, TargetRows, DescendantRows, AbsentRow}

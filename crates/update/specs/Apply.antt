@@ -18,7 +18,7 @@ use Rattle.model.specs.declared.Check.the-variants.{Sound}
 use Rattle.grid.specs.Grid.{In}
 use Rattle.grid.specs.Rules.{columnOf, plusTimes}
 use Rattle.update.specs.Rows.{landsOn}
-use Rattle.update.specs.Call.{descendantOf, NumbersPre}
+use Rattle.update.specs.Call.{NumbersPre}
 
 -- 'each landing row c forms v': D times a row; of the descendant only d, subdiagonal and block bytes play a part
 unfoldable pub weighed : List Float → List Float → List ℕ → Row → Row

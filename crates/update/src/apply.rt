@@ -10,8 +10,8 @@ ghost use Rattle.model.specs.Matrix.{view, vec, bytes, withPart};
 ghost use Rattle.grid.specs.Grid.{In};
 ghost use Rattle.grid.specs.Rules.{behind, columnOf, plusTimes, RowsPre};
 ghost use Rattle.update.specs.Call.{descendantOf};
-ghost use Rattle.update.specs.Apply.{weighed, fromRow, accOf, twoAdded, lessAt, lessFrom, rowApplied, rowsApplied};
-ghost use Rattle.update.specs.Apply.{WeightPre, SumPre, SubtractPre, ApplyPre, PartPre};
+ghost use Rattle.update.specs.Apply.{weighed, fromRow, accOf, twoAdded, lessAt, lessFrom};
+ghost use Rattle.update.specs.Apply.{rowApplied, rowsApplied, WeightPre, SumPre, SubtractPre, ApplyPre, PartPre};
 use super::Shapes;
 use super::rows;
 use grid::column_start;
@@ -100,8 +100,8 @@ fn add_two(
     }
 }
 
-// acc of rows lo up to hi of the panel, of the landing row `row`, over so many columns as the answer says: two at a time,
-// so that one may be left.
+// acc of rows lo up to hi of the panel, of the landing row `row`, over so many columns as the answer says: all, or all
+// but the last, since it takes two at a time.
 fn sum_pairs(
     acc: &mut [f64],
     kpanel: &[f64],
