@@ -7,9 +7,8 @@ use native.Mathlib.Omega.{arith}
 use borrow.Author.Tests.{lt-ltb, le-ltb}
 use lib.ListN.{length, getD}
 use lib.Ieee.{Float, nan, binary64, toBits}
-use Rattle.model.specs.Matrix.{vec, bytes}
+use Rattle.model.specs.Matrix.{view, vec, bytes}
 use Rattle.model.specs.declared.Tally.{Tally}
-use Rattle.grid.proofs.Laws.{view-at}
 use Rattle.text.specs.Text.{word, decimalOf, hexOf, Writes}
 use Rattle.text.proofs.Laws.{writes-none, writes-then}
 use Rattle.answer.specs.Lines.{field, number, three, newline, each, refusedLine, acceptedLine, inertiaLine}
@@ -97,10 +96,10 @@ module _ {xs ys : List ℕ} {at r : ℕ} where
     unfolding pivotAt vec bytes
     pivots-step d sub amounts blocks lifts k v w = each-step (pivotAt d sub blocks lifts amounts) k v w
 
-    pub entries-step : (nrow : ℕ) (panel : List Float) (i j : ℕ) → i < nrow → Writes xs at (each (entryField nrow panel i) j) ys r
-        → Writes ys r (number (getD panel (i + j * nrow) nan)) zs s → Writes xs at (each (entryField nrow panel i) (j + 1)) zs s
+    pub entries-step : (nrow : ℕ) (panel : List Float) (i j : ℕ) (x : Float) → x ≡ view nrow panel i j → Writes xs at (each (entryField nrow panel i) j) ys r
+        → Writes ys r (number x) zs s → Writes xs at (each (entryField nrow panel i) (j + 1)) zs s
     unfolding entryField
-    entries-step nrow panel i j h v w = each-step (entryField nrow panel i) j v (rw (view-at nrow panel i j h) w)
+    entries-step nrow panel i j x e v w = each-step (entryField nrow panel i) j v (rw (← e) w)
 
 -- ---- marks
 

@@ -185,7 +185,8 @@ fn put_entries(
 {
     let mut end = at;
     for j in 0..ncol {
-        end = put_number(panel[i + j * nrow], out, end);
+        let x = grid::get(panel, nrow, i, j);
+        end = put_number(x, out, end);
     }
     end
 }

@@ -16,7 +16,7 @@ use Rattle.model.specs.declared.Check.{Check}
 use Rattle.model.specs.declared.Check.the-variants.{Sound, Refused}
 use Rattle.model.specs.declared.Applied.{Applied}
 use Rattle.model.specs.declared.Applied.the-variants.{Done}
-use Rattle.model.proofs.Cases.{test, and-left, and-right}
+use Rattle.model.proofs.Cases.{and-left, and-right}
 use Rattle.model.proofs.Entry.{first-sound, second-sound, not-refused}
 use Rattle.model.proofs.Tabulated.{is-columnMajor}
 use Rattle.grid.specs.Grid.{In}

@@ -1,2 +1,2 @@
--- Laws of the C interface's numbers.
+-- Laws of what the C interface's calls answer and leave.
 pub mod Laws

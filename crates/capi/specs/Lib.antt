@@ -1,2 +1,2 @@
--- What the C interface answers, by the definitions of model.
-pub mod Numbers
+-- What the C interface's calls answer and leave, by the definitions of model.
+pub mod Left

@@ -5,37 +5,16 @@
 ghost use mathlib.Core.Path.{_≡_};
 ghost use Rattle.model.specs.Scalar.{isFinite, magnitudeOf, squareOf, maximumOf, reciprocalOf, liftOf};
 ghost use Rattle.model.specs.Root.{sqrtOf};
-ghost use Rattle.model.specs.Answer.{factoredSays, countedSays, appliedSays};
 ghost use Rattle.model.specs.Factor.{factorOf};
 ghost use Rattle.model.specs.Inertia.{inertiaOf};
 ghost use Rattle.model.specs.Assembly.{assemblyOf};
 ghost use Rattle.model.specs.Update.{updateOf};
 ghost use Rattle.assembly.specs.Call.{entriesOf};
 ghost use Rattle.update.specs.Call.{targetOf, descendantOf};
-ghost use Rattle.capi.specs.Numbers.{modeOf, settingsOf, refusedAs, reportedAs};
-ghost use Rattle.capi.specs.Numbers.{factorNumbers, inertiaNumbers, panelNumbers};
-ghost use Rattle.capi.specs.Numbers.{FactorLeft, factorLeft, PanelLeft, panelLeft};
-use model::Applied;
-use model::Counted;
-use model::Factored;
-use model::Mode;
+ghost use Rattle.outcome.specs.Numbers.{inertiaNumbers};
+ghost use Rattle.capi.specs.Left.{settingsOf, FactorLeft, factorLeft, PanelLeft, panelLeft};
 use model::Settings;
-use model::Tally;
-use refusal::NumberAndPlace;
-
-// What a call answers. Number 0 is acceptance: a factor call has the rounds of all block lifts and the inertia, an
-// inertia call the inertia, an assembly or an update neither. Any other is the refusal's, with its place a, b. What a
-// call does not have is 0.
-#[repr(C)]
-pub struct Outcome {
-    pub number: usize,
-    pub a: usize,
-    pub b: usize,
-    pub rounds: usize,
-    pub positive: usize,
-    pub negative: usize,
-    pub zero: usize,
-}
+use outcome::Outcome;
 
 // ---- leaves
 
@@ -95,78 +74,6 @@ pub extern "C" fn misuktaan_sqrt(x: f64) -> f64
     scalar::sqrt(x)
 }
 
-// ---- answers and modes as numbers
-
-// A refusal, and nothing counted.
-fn refused_as(w: NumberAndPlace) -> Outcome
-    ensures { λ r. ⌜ r ≡ refusedAs (w .number) (w .a) (w .b) ⌝ }
-{
-    Outcome {
-        number: w.number,
-        a: w.a,
-        b: w.b,
-        rounds: 0,
-        positive: 0,
-        negative: 0,
-        zero: 0,
-    }
-}
-
-// Acceptance, with rounds and counts.
-fn reported_as(rounds: usize, t: Tally) -> Outcome
-    ensures { λ r. ⌜ r ≡ reportedAs rounds t ⌝ }
-{
-    Outcome {
-        number: 0,
-        a: 0,
-        b: 0,
-        rounds,
-        positive: t.positive,
-        negative: t.negative,
-        zero: t.zero,
-    }
-}
-
-fn factor_outcome(answer: Factored) -> Outcome
-    ensures { λ r. ⌜ r ≡ factorNumbers (factoredSays answer) ⌝ }
-{
-    match answer {
-        Factored::Accepted(report) => reported_as(report.rounds, report.inertia),
-        Factored::Refused(why) => refused_as(refusal::numbered(why)),
-    }
-}
-
-fn inertia_outcome(answer: Counted) -> Outcome
-    ensures { λ r. ⌜ r ≡ inertiaNumbers (countedSays answer) ⌝ }
-{
-    match answer {
-        Counted::Counts(t) => reported_as(0, t),
-        Counted::Refused(why) => refused_as(refusal::numbered(why)),
-    }
-}
-
-fn panel_outcome(answer: Applied) -> Outcome
-    ensures { λ r. ⌜ r ≡ panelNumbers (appliedSays answer) ⌝ }
-{
-    match answer {
-        Applied::Done => reported_as(
-            0,
-            Tally {
-                positive: 0,
-                negative: 0,
-                zero: 0,
-            },
-        ),
-        Applied::Refused(why) => refused_as(refusal::numbered(why)),
-    }
-}
-
-fn mode_of(lifts: bool, floor: f64) -> Mode
-    ensures { λ r. ⌜ r ≡ modeOf lifts floor ⌝ }
-{
-    if lifts { Mode::Lift(floor) } else { Mode::Fail }
-}
-
 // ---- the calls
 
 // One node factored. Lift with this floor where `lifts`, else Fail. The definition decides all of it: the answer, and
@@ -218,7 +125,7 @@ pub extern "C" fn misuktaan_factor(
           work = now (work .entry);
         }))) ⌝ }
 {
-    let mode = mode_of(lifts, floor);
+    let mode = outcome::mode_of(lifts, floor);
     let c = Settings {
         ncol,
         nrow,
@@ -226,7 +133,7 @@ pub extern "C" fn misuktaan_factor(
         mode,
         limit,
     };
-    factor_outcome(factor::factor(
+    outcome::of_factor(factor::factor(
         c,
         input,
         panel,
@@ -247,7 +154,7 @@ pub extern "C" fn misuktaan_factor(
 pub extern "C" fn misuktaan_inertia(d: &[f64], sub: &[f64], blocks: &[u8]) -> Outcome
     ensures { λ r. ⌜ r ≡ inertiaNumbers (inertiaOf (now (d .entry)) (now (sub .entry)) (now (blocks .entry))) ⌝ }
 {
-    inertia_outcome(inertia::inertia(d, sub, blocks))
+    outcome::of_inertia(inertia::inertia(d, sub, blocks))
 }
 
 // Entries added to a node's panel as they are listed, or refusal 10, 11 or 12 and nothing written.
@@ -265,7 +172,7 @@ pub extern "C" fn misuktaan_assemble(
         (panelLeft (assemblyOf ncol nrow
         (entriesOf (now (rows .entry)) (now (cols .entry)) (now (numbers .entry))) (now (panel .entry)))) ⌝ }
 {
-    panel_outcome(assembly::assemble(ncol, nrow, rows, cols, numbers, panel))
+    outcome::of_panel(assembly::assemble(ncol, nrow, rows, cols, numbers, panel))
 }
 
 // A factored descendant's update of a target node, or a refusal of 13 to 18 and nothing written.
@@ -291,7 +198,7 @@ pub extern "C" fn misuktaan_update(
         (descendantOf nk mk (now (kpanel .entry)) (now (kd .entry)) (now (ksub .entry)) (now (kblocks .entry))
         (now (krows .entry))) (now (panel .entry)))) ⌝ }
 {
-    panel_outcome(update::update(
+    outcome::of_panel(update::update(
         ncol,
         nrow,
         first,

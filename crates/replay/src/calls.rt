@@ -3,13 +3,11 @@
 // port answers, so that the next case begins where it should. The room of a list x is of_x.
 ghost use mathlib.Core.Path.{_≡_};
 ghost use lib.ListN.{length};
-use crate::answer;
-use crate::answer::Answer;
 use crate::file;
 use crate::file::Left;
 use model::Applied;
-use model::Mode;
 use model::Settings;
+use outcome::Outcome;
 
 // Room for the lists of a case: of pivots or entries; of rows; of the numbers of a panel or a working buffer.
 const COLUMNS: usize = 130;
@@ -23,10 +21,10 @@ fn room(x: f64) -> [f64; 30000]
 }
 
 // The recorded answer, with which every case begins.
-fn read_answer(fd: i32) -> Answer {
+fn read_answer(fd: i32) -> Outcome {
     let mut n = [0usize; 7];
     file::counts(fd, 7, &mut n);
-    Answer {
+    Outcome {
         number: n[0],
         a: n[1],
         b: n[2],
@@ -37,22 +35,21 @@ fn read_answer(fd: i32) -> Answer {
     }
 }
 
-// ---- factor
-
-fn mode_of(lift: usize, floor: f64) -> Mode {
-    if lift == 1 {
-        Mode::Lift(floor)
-    } else {
-        Mode::Fail
-    }
+// Whether two outcomes are the same in every number.
+fn same(x: Outcome, y: Outcome) -> bool {
+    let place = (x.number == y.number) & ((x.a == y.a) & (x.b == y.b));
+    let counts = (x.positive == y.positive) & ((x.negative == y.negative) & (x.zero == y.zero));
+    place & ((x.rounds == y.rounds) & counts)
 }
+
+// ---- factor
 
 fn read_settings(fd: i32) -> Settings {
     let mut n = [0usize; 5];
     let mut floor = [0.0; 1];
     file::counts(fd, 5, &mut n);
     file::numbers(fd, 1, &mut floor);
-    let mode = mode_of(n[4], floor[0]);
+    let mode = outcome::mode_of(n[4] == 1, floor[0]);
     Settings {
         ncol: n[0],
         nrow: n[1],
@@ -106,7 +103,7 @@ fn factor_left(
 
 fn factor_same(
     fd: i32,
-    recorded: Answer,
+    recorded: Outcome,
     c: Settings,
     input: &[f64],
     panel: &mut [f64],
@@ -145,7 +142,7 @@ fn factor_same(
         marks,
         work,
     );
-    answer::same(answer::of_factor(factored), recorded) & left
+    same(outcome::of_factor(factored), recorded) & left
 }
 
 pub(crate) fn factor_case(fd: i32) -> bool {
@@ -193,17 +190,17 @@ pub(crate) fn inertia_case(fd: i32) -> bool {
     let d = file::numbers(fd, n[0], &mut of_d);
     let sub = file::numbers(fd, n[1], &mut of_sub);
     let blocks = file::bytes(fd, n[2], &mut of_blocks);
-    answer::same(
-        answer::of_inertia(inertia::inertia(d, sub, blocks)),
+    same(
+        outcome::of_inertia(inertia::inertia(d, sub, blocks)),
         recorded,
     )
 }
 
 // ---- assembly and update
 
-fn panel_same(fd: i32, recorded: Answer, applied: Applied, panel: &[f64]) -> bool {
+fn panel_same(fd: i32, recorded: Outcome, applied: Applied, panel: &[f64]) -> bool {
     let left = file::numbers_left(fd, Left::Recorded, panel);
-    answer::same(answer::of_panel(applied), recorded) & left
+    same(outcome::of_panel(applied), recorded) & left
 }
 
 pub(crate) fn assembly_case(fd: i32) -> bool {

@@ -3,9 +3,8 @@
 // what made them, what they meet and how they are written.
 // Proved is that the program is safe and ends. What stands in a file no contract can say: the run is the test.
 // Nothing of it is public: what one module has of another is the crate's own, pub(crate).
-// file.rt reads lists and holds buffers to them, answer.rt has answers as numbers, calls.rt one function a call, sum.rt
-// the checksum by which a damaged or short file is noticed.
-mod answer;
+// file.rt reads lists and holds buffers to them, calls.rt has one function a call, sum.rt the checksum by which a
+// damaged or short file is noticed.
 mod calls;
 mod file;
 mod sum;

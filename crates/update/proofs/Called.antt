@@ -13,7 +13,8 @@ use Rattle.model.specs.Sizes.{mostRows}
 use Rattle.model.specs.Matrix.{Mat, view, bytes, columnMajor}
 use Rattle.model.specs.Inertia.{checkBytes}
 use Rattle.model.specs.Assembly.{firstNot, Panelled}
-use Rattle.model.specs.Update.{Target, Descendant, updateSound, rising, beginsAt, placeFrom, absentFrom, descendantSound, numberAt, updateCheck, updated, updateOf}
+use Rattle.model.specs.Update.{Target, Descendant, updateSound, rising, beginsAt, placeFrom, absentFrom}
+use Rattle.model.specs.Update.{descendantSound, numberAt, updateCheck, updated, updateOf}
 use Rattle.model.specs.Answer.{orElse, refuseIf}
 use Rattle.model.specs.declared.Refusal.{Refusal}
 use Rattle.model.specs.declared.Refusal.the-variants.{UpdateLength, TargetRows, DescendantRows, AbsentRow}
@@ -141,23 +142,20 @@ module _ (t : Target) (k : Descendant) (len : ℕ) (w : ListsPre t k len) where
           (d .same (at p) l (omega (arith, w .sizes .descendant)) ∙ found p m);
     }
 
+    first : First (landsAt (t .first) (t .ncol) (bytes (k .rows))) 0 (0 + length (k .rows)) start
+    first = rw e (first-is (landsAt (t .first) (t .ncol) (bytes (k .rows))) (length (k .rows)) 0)
+
     -- a column whose row is one of the descendant's is not before the first landing
     from-start : (j : ℕ) → j < t .ncol → at j < k .mk → start ≤ at j
     unfolding landsAt
     from-start j h m =
-        let f : First (landsAt (t .first) (t .ncol) (bytes (k .rows))) 0 (0 + length (k .rows)) start
-        = rw e (first-is (landsAt (t .first) (t .ncol) (bytes (k .rows))) (length (k .rows)) 0) in
         test (ltb (at j) start)
-        (λ x. absurd (let y : true ≡ false = sym (column-lands (at j) j h (found j m) .0) ∙ f .before (at j) (omega arith) (ltb-true (at j) start x) in
+        (λ x. absurd (let y : true ≡ false = sym (column-lands (at j) j h (found j m) .0) ∙ first .before (at j) (omega arith) (ltb-true (at j) start x) in
         let z : _≡_ {A = ℕ} 0 1 = cc in omega arith))
         (λ x. ltb-false (at j) start x)
 
     start-within : start ≤ k .mk
-    start-within = omega (
-      arith,
-      w .sizes .descendant,
-      (rw (← e) at (first-is (landsAt (t .first) (t .ncol) (bytes (k .rows))) (length (k .rows)) 0)) .high,
-    )
+    start-within = omega (arith, w .sizes .descendant, first .high)
 
     entry-is : (a : Mat) (i j : ℕ) → i < t .nrow → j < t .ncol
         → rowsApplied (t .first) (t .ncol) k (bytes places) (k .mk - start) start a i j ≡ updated t k a i j
@@ -183,13 +181,12 @@ module _ (t : Target) (k : Descendant) (len : ℕ) (w : ListsPre t k len) where
         (λ i j h x. ap (λ (a : Mat). a i j) v ∙ entry-is (view (t .nrow) panel) i j h x)
 
     pub apply-pre : length places ≡ mostRows
-        → ApplyPre (t .ncol) (t .nrow) (k .nk) (k .mk) (k .blocks) places start len (length (k .panel)) (length (k .d)) (length (k .sub)) (length (k .rows))
+        → ApplyPre (t .ncol) (t .nrow) (k .nk) (k .mk) (k .blocks) places start len (length (k .panel)) (length (k .d)) (length (k .sub))
     apply-pre r = record {
       few = w .sizes .columns;
       area = w .sizes .area;
       numbers = numbers-pre;
       check = w .check;
-      descendant = w .sizes .descendant;
       room = omega (arith, w .sizes .all);
       inside = λ c l h. omega (arith, w .sizes .target, d .inside c l (omega (arith, w .sizes .descendant)));
     }

@@ -9,28 +9,35 @@ use lib.ListN.{length}
 use lib.Ieee.{Float}
 use Rattle.model.specs.Sizes.{mostColumns}
 use Rattle.model.specs.Scalar.{_⊖_, _⊗_, zeroF}
-use Rattle.model.specs.Matrix.{Row, Mat, bytes}
+use Rattle.model.specs.Matrix.{Row, Mat, view, bytes}
 use Rattle.model.specs.Step.{diagonalsOf}
 use Rattle.model.specs.Panel.{timesD, sumFrom}
 use Rattle.model.specs.Inertia.{checkBytes}
 use Rattle.model.specs.Update.{Descendant, updateAcc}
 use Rattle.model.specs.declared.Check.the-variants.{Sound}
 use Rattle.grid.specs.Grid.{In}
+use Rattle.grid.specs.Rules.{columnOf}
+use Rattle.kernels.specs.Rules.{plusTimes}
 use Rattle.update.specs.Rows.{landsOn}
-use Rattle.update.specs.Call.{descendantOf, NumbersPre}
+use Rattle.update.specs.Call.{NumbersPre}
 
 -- 'v' of a landing row: the row times D; of the descendant only d, subdiagonal and block bytes play a part
 unfoldable pub weighed : List Float → List Float → List ℕ → Row → Row
 weighed d sub blocks = timesD (diagonalsOf d sub blocks)
 
--- 'acc' of each row of a: from +0.0 on, over n columns in their order
-unfoldable pub sums : Mat → Row → ℕ → Row
-sums a v n = λ i. sumFrom (λ s. a i s ⊗ v s) 0 n zeroF
+-- acc of row i of a panel of n rows, by the panel's rows: from +0.0 on, over m columns in their order
+unfoldable pub accOf : (n m : ℕ) → (panel d sub : List Float) → (blocks : List ℕ) → (i : ℕ) → Row
+accOf n m panel d sub blocks i = λ r. sumFrom (λ s. view n panel r s ⊗ weighed d sub blocks (view n panel i) s) 0 m zeroF
 
--- f from n on; acc of the landing row c, by the descendant's rows
+-- f from n on
 unfoldable pub fromRow : Row → ℕ → Row
 fromRow f n = λ r. f (n + r)
 
+-- numbers for the rows from lo on, with column s of a times v added, then the next column times w
+unfoldable pub twoAdded : Row → Mat → (s lo : ℕ) → (v w : Float) → Row
+twoAdded f a s lo v w = plusTimes (plusTimes f (fromRow (columnOf a s) lo) v) (fromRow (columnOf a (s + 1)) lo) w
+
+-- acc of the landing row c, by the descendant's rows
 unfoldable pub landingAcc : Descendant → ℕ → Row
 landingAcc k c = λ r. updateAcc k r c
 
@@ -65,42 +72,39 @@ pub record WeightPre (n i : ℕ) (bs : List ℕ) (s panel d sub : ℕ) : Type 0 
   pub byte : s < length bs
   pub next : bytes bs s ≡ 1 → n + (s + 1) * n ≤ panel
 
--- row i of a panel of n rows and nk columns, with its pivots, and room for v
-pub record WeighPre (nk n i : ℕ) (bs : List ℕ) (panel d sub room : ℕ) : Type 0 where
+-- rows lo up to hi of a panel of n rows and nk columns, with row i, the pivots, and room for acc
+pub record SumPre (nk n i lo hi : ℕ) (bs : List ℕ) (room panel d sub : ℕ) : Type 0 where
   pub row : i < n
+  pub up : lo ≤ hi
+  pub rows : hi ≤ n
+  pub fits : hi - lo ≤ room
   pub area : panel ≡ n * nk
   pub pivots : d ≡ nk
   pub subdiagonal : sub ≡ nk
   pub blocks : length bs ≡ nk
   pub check : checkBytes bs ≡ Sound
-  pub fits : nk ≤ room
 
--- the rows from i on of a panel of n rows and nk columns, with v, and room for acc
-pub record SumPre (nk n i room panel v : ℕ) : Type 0 where
-  pub row : i ≤ n
-  pub fits : n ≤ room
-  pub area : panel ≡ n * nk
-  pub weights : nk ≤ v
-
--- rows lo up to hi of the descendant have their places in column j, and their acc from nk on
-pub record SubtractPre (n j : ℕ) (places : List ℕ) (nk lo hi panel acc : ℕ) : Type 0 where
+-- rows lo up to hi of the descendant have their places in column j, and their acc, which begins with row lo's
+pub record SubtractPre (n j : ℕ) (places : List ℕ) (lo hi panel acc : ℕ) : Type 0 where
   pub up : lo ≤ hi
   pub there : hi ≤ length places
-  pub sums : nk + hi ≤ acc
+  pub sums : hi - lo ≤ acc
   pub inside : (r : ℕ) → lo ≤ r → r < hi → In n (bytes places r) j panel
 
 -- target and descendant, with the places of the descendant's rows from lo on
-pub record ApplyPre (ncol nrow nk mk : ℕ) (bs places : List ℕ) (lo panel kpanel d sub rows : ℕ) : Type 0 where
+pub record ApplyPre (ncol nrow nk mk : ℕ) (bs places : List ℕ) (lo panel kpanel d sub : ℕ) : Type 0 where
   pub few : ncol ≤ mostColumns
   pub area : panel ≡ nrow * ncol
   pub numbers : NumbersPre nk mk kpanel d sub (length bs)
   pub check : checkBytes bs ≡ Sound
-  pub descendant : rows ≡ mk
   pub room : mk ≤ length places
   pub inside : (r : ℕ) → lo ≤ r → r < mk → bytes places r < nrow
 
--- one of the descendant's rows, and room for v and acc
-pub record RowPre (nk mk c v acc : ℕ) : Type 0 where
+-- rows lo up to hi of the descendant, at or past the row c that lands on column j, and room for their acc
+pub record PartPre (ncol mk c j lo hi room : ℕ) : Type 0 where
+  pub lands : j < ncol
+  pub past : c ≤ lo
+  pub up : lo ≤ hi
+  pub there : hi ≤ mk
   pub here : c < mk
-  pub weights : nk ≤ v
-  pub sums : nk + mk ≤ acc
+  pub fits : hi - lo ≤ room

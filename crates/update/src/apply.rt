@@ -1,22 +1,28 @@
-// The numbers of the update. A landing row c forms v = D·(row c of L); acc = L·v is summed from +0.0 in column order,
-// a column of the descendant's rows from c on at a time; then each of these rows of the target's column loses its acc.
+// The numbers of the update. With v = D·(row c of L) of a landing row c, the descendant's rows from c on go in parts:
+// acc = L·v of a part is summed from +0.0 in column order, two columns a pass, and each of its rows of the target's
+// column then loses its acc once.
 ghost use mathlib.Core.Path.{_≡_};
-ghost use Prim.Native.Nat.{_-_};
+ghost use Prim.Native.Nat.{_+_, _-_, _<_, _≤_, min};
 ghost use lib.ListN.{length};
+ghost use mir.Syntax.{w64};
+ghost use mir.Val.{Fits};
 ghost use Rattle.model.specs.Matrix.{view, vec, bytes, withPart};
 ghost use Rattle.grid.specs.Grid.{In};
+ghost use Rattle.kernels.specs.Rules.{behind, plusTimes};
+ghost use Rattle.grid.specs.Rules.{columnOf, RowsPre};
 ghost use Rattle.update.specs.Call.{descendantOf};
-ghost use Rattle.update.specs.Apply.{weighed, sums, fromRow, lessAt, lessFrom, rowApplied, rowsApplied};
-ghost use Rattle.update.specs.Apply.{WeightPre, WeighPre, SumPre, SubtractPre, ApplyPre, RowPre};
+ghost use Rattle.update.specs.Apply.{weighed, fromRow, accOf, twoAdded, lessAt, lessFrom};
+ghost use Rattle.update.specs.Apply.{rowApplied, rowsApplied, WeightPre, SumPre, SubtractPre, ApplyPre, PartPre};
 use super::Shapes;
 use super::rows;
 use grid::column_start;
 use grid::columns;
-use model::COLUMNS_MAX;
 use model::Elim;
 use model::GlobalRow;
 use model::LocalRow;
-use model::ROWS_MAX;
+
+// How many of the descendant's rows are worked at a time: their acc is a local array, whatever the most rows are.
+const PART: usize = 256;
 
 // v at a column: l·d; a·d11 + b·d21 in a block's first column, a·d21 + b·d22 in its second.
 fn weight(
@@ -47,8 +53,57 @@ fn weight(
     l * kd[s]
 }
 
-// v, of a row of the descendant's panel.
-fn weigh(
+// acc of rows lo up to hi of the panel gains those rows of a column times v; acc's number 0 is row lo's.
+fn add_column(
+    acc: &mut [f64],
+    kpanel: &[f64],
+    all: usize,
+    column: Elim,
+    lo: usize,
+    hi: usize,
+    v: f64,
+)
+    requires { ⌜ RowsPre all (column .0) lo hi (length (now kpanel)) ⌝ }
+    requires { ⌜ hi - lo ≤ length (now acc) ⌝ }
+    ensures { λ _. ⌜ vec (now (acc .exit)) ≡ withPart (vec (now (acc .entry))) 0 (hi - lo)
+        (plusTimes (vec (now (acc .entry))) (fromRow (columnOf (view all (now (kpanel .entry))) (column .0)) lo) v) ⌝ }
+{
+    let start = column_start(all, column.0);
+    let a = lo + start;
+    let b = hi + start;
+    kernels::plus(acc, &kpanel[a..b], hi - lo, v);
+}
+
+// It gains those rows of the column times v, then those of the next times w. The loop vectorises: no branch, no call.
+fn add_two(
+    acc: &mut [f64],
+    kpanel: &[f64],
+    all: usize,
+    column: Elim,
+    lo: usize,
+    hi: usize,
+    v: f64,
+    w: f64,
+)
+    requires { ⌜ RowsPre all (column .0) lo hi (length (now kpanel)) ⌝ }
+    requires { ⌜ RowsPre all (column .0 + 1) lo hi (length (now kpanel)) ⌝ }
+    requires { ⌜ (hi - lo ≤ length (now acc)) × Fits w64 (column .0 + 1) ⌝ }
+    ensures { λ _. ⌜ vec (now (acc .exit)) ≡ withPart (vec (now (acc .entry))) 0 (hi - lo)
+        (twoAdded (vec (now (acc .entry))) (view all (now (kpanel .entry))) (column .0) lo v w) ⌝ }
+{
+    let first = column_start(all, column.0);
+    let second = column_start(all, column.0 + 1);
+    let a = lo + first;
+    let b = lo + second;
+    for i in 0..hi - lo {
+        acc[i] = acc[i] + kpanel[a + i] * v + kpanel[b + i] * w;
+    }
+}
+
+// acc of rows lo up to hi of the panel, of the landing row `row`, over so many columns as the answer says: all, or all
+// but the last, since it takes two at a time.
+fn sum_pairs(
+    acc: &mut [f64],
     kpanel: &[f64],
     all: usize,
     row: LocalRow,
@@ -56,33 +111,52 @@ fn weigh(
     ksub: &[f64],
     kblocks: &[u8],
     nk: usize,
-    v: &mut [f64],
-)
-    requires { ⌜ WeighPre nk all (row .0) (now kblocks) (length (now kpanel)) (length (now kd)) (length (now ksub))
-        (length (now v)) ⌝ }
-    ensures { λ _. ⌜ vec (now (v .exit)) ≡ withPart (vec (now (v .entry))) 0 nk
-        (weighed (now (kd .entry)) (now (ksub .entry)) (now (kblocks .entry))
-        (view all (now (kpanel .entry)) (row .0))) ⌝ }
+    lo: usize,
+    hi: usize,
+) -> usize
+    requires { ⌜ SumPre nk all (row .0) lo hi (now kblocks) (length (now acc)) (length (now kpanel))
+        (length (now kd)) (length (now ksub)) ⌝ }
+    ensures { λ r. ⌜ vec (now (acc .exit)) ≡ withPart (vec (now (acc .entry))) 0 (hi - lo)
+        (fromRow (accOf all r (now (kpanel .entry)) (now (kd .entry)) (now (ksub .entry)) (now (kblocks .entry))
+        (row .0)) lo) ⌝ }
+    ensures { λ r. ⌜ (r ≤ nk) × (nk ≤ r + 1) ⌝ }
 {
+    columns::zero(acc, 0, hi - lo);
     let mut s = 0;
-    while s < nk {
-        v[s] = weight(kpanel, all, row, kd, ksub, kblocks, Elim(s));
-        s += 1;
+    while s + 1 < nk {
+        let v = weight(kpanel, all, row, kd, ksub, kblocks, Elim(s));
+        let w = weight(kpanel, all, row, kd, ksub, kblocks, Elim(s + 1));
+        add_two(acc, kpanel, all, Elim(s), lo, hi, v, w);
+        s += 2;
     }
+    s
 }
 
-// acc of the panel's rows from `row` on.
-fn sum(acc: &mut [f64], kpanel: &[f64], all: usize, row: LocalRow, v: &[f64], nk: usize)
-    requires { ⌜ SumPre nk all (row .0) (length (now acc)) (length (now kpanel)) (length (now v)) ⌝ }
-    ensures { λ _. ⌜ vec (now (acc .exit)) ≡ withPart (vec (now (acc .entry))) (row .0) all
-        (sums (view all (now (kpanel .entry))) (vec (now (v .entry))) nk) ⌝ }
+// Over all columns.
+fn sum(
+    acc: &mut [f64],
+    kpanel: &[f64],
+    all: usize,
+    row: LocalRow,
+    kd: &[f64],
+    ksub: &[f64],
+    kblocks: &[u8],
+    nk: usize,
+    lo: usize,
+    hi: usize,
+)
+    requires { ⌜ SumPre nk all (row .0) lo hi (now kblocks) (length (now acc)) (length (now kpanel))
+        (length (now kd)) (length (now ksub)) ⌝ }
+    ensures { λ _. ⌜ vec (now (acc .exit)) ≡ withPart (vec (now (acc .entry))) 0 (hi - lo)
+        (fromRow (accOf all nk (now (kpanel .entry)) (now (kd .entry)) (now (ksub .entry)) (now (kblocks .entry))
+        (row .0)) lo) ⌝ }
 {
-    columns::zero(acc, row.0, all);
-    let mut s = 0;
-    while s < nk {
-        columns::plus(acc, kpanel, all, s, row.0, all, v[s]);
-        s += 1;
+    let s = sum_pairs(acc, kpanel, all, row, kd, ksub, kblocks, nk, lo, hi);
+    if nk <= s {
+        return;
     }
+    let v = weight(kpanel, all, row, kd, ksub, kblocks, Elim(s));
+    add_column(acc, kpanel, all, Elim(s), lo, hi, v);
 }
 
 // x is subtracted at a row and a column.
@@ -102,13 +176,12 @@ fn subtract(
     column: Elim,
     places: &[u16],
     acc: &[f64],
-    nk: usize,
     lo: usize,
     hi: usize,
 )
-    requires { ⌜ SubtractPre nrow (column .0) (now places) nk lo hi (length (now panel)) (length (now acc)) ⌝ }
+    requires { ⌜ SubtractPre nrow (column .0) (now places) lo hi (length (now panel)) (length (now acc)) ⌝ }
     ensures { λ _. ⌜ view nrow (now (panel .exit)) ≡ lessFrom (bytes (now (places .entry)))
-        (fromRow (vec (now (acc .entry))) nk) (column .0) (hi - lo) lo (view nrow (now (panel .entry))) ⌝ }
+        (behind lo (vec (now (acc .entry)))) (column .0) (hi - lo) lo (view nrow (now (panel .entry))) ⌝ }
 {
     let mut r = lo;
     while r < hi {
@@ -117,13 +190,66 @@ fn subtract(
             nrow,
             LocalRow(places[r] as usize),
             column,
-            acc[nk + r],
+            acc[r - lo],
         );
         r += 1;
     }
 }
 
-// Row c of the descendant, if it lands. v and acc are scratch: any on entry.
+// The landing row c's part in a column of the target, at rows lo up to hi of the descendant.
+// work: acc, a number for each of these rows, any on entry.
+fn update_part(
+    s: Shapes,
+    panel: &mut [f64],
+    kpanel: &[f64],
+    kd: &[f64],
+    ksub: &[f64],
+    kblocks: &[u8],
+    places: &[u16],
+    acc: &mut [f64],
+    c: usize,
+    column: Elim,
+    lo: usize,
+    hi: usize,
+)
+    requires { ⌜ ApplyPre (s .ncol) (s .nrow) (s .nk) (s .mk) (now kblocks) (now places) c (length (now panel))
+        (length (now kpanel)) (length (now kd)) (length (now ksub)) ⌝ }
+    requires { ⌜ PartPre (s .ncol) (s .mk) c (column .0) lo hi (length (now acc)) ⌝ }
+    ensures { λ _. ⌜ view (s .nrow) (now (panel .exit)) ≡ lessFrom (bytes (now (places .entry)))
+        (fromRow (accOf (s .nk + s .mk) (s .nk) (now (kpanel .entry)) (now (kd .entry)) (now (ksub .entry))
+        (now (kblocks .entry)) (s .nk + c)) (s .nk)) (column .0) (hi - lo) lo
+        (view (s .nrow) (now (panel .entry))) ⌝ }
+{
+    let nk = s.nk;
+    let all = nk + s.mk;
+    sum(
+        acc,
+        kpanel,
+        all,
+        LocalRow(nk + c),
+        kd,
+        ksub,
+        kblocks,
+        nk,
+        nk + lo,
+        nk + hi,
+    );
+    subtract(panel, s.nrow, column, places, acc, lo, hi);
+}
+
+// Where the part of the rows that begins at lo ends.
+fn part_end(lo: usize, end: usize) -> usize
+    requires { ⌜ lo ≤ end ⌝ }
+    ensures { λ r. ⌜ r ≡ lo + min 256 (end - lo) ⌝ }
+{
+    if end - lo < PART {
+        return end;
+    }
+    lo + PART
+}
+
+// Row c of the descendant, if it lands.
+// work: acc, PART numbers, any on entry.
 fn update_row(
     s: Shapes,
     panel: &mut [f64],
@@ -133,13 +259,12 @@ fn update_row(
     kblocks: &[u8],
     krows: &[u32],
     places: &[u16],
-    c: usize,
-    v: &mut [f64],
     acc: &mut [f64],
+    c: usize,
 )
     requires { ⌜ ApplyPre (s .ncol) (s .nrow) (s .nk) (s .mk) (now kblocks) (now places) c (length (now panel))
-        (length (now kpanel)) (length (now kd)) (length (now ksub)) (length (now krows)) ⌝ }
-    requires { ⌜ RowPre (s .nk) (s .mk) c (length (now v)) (length (now acc)) ⌝ }
+        (length (now kpanel)) (length (now kd)) (length (now ksub)) ⌝ }
+    requires { ⌜ (length (now krows) ≡ s .mk) × (c < s .mk) × (length (now acc) ≡ 256) ⌝ }
     ensures { λ _. ⌜ view (s .nrow) (now (panel .exit)) ≡ rowApplied (s .first .0) (s .ncol)
         (descendantOf (s .nk) (s .mk) (now (kpanel .entry)) (now (kd .entry)) (now (ksub .entry))
         (now (kblocks .entry)) (now (krows .entry))) (bytes (now (places .entry))) c
@@ -149,13 +274,27 @@ fn update_row(
     if !rows::lands(s.first, s.ncol, g) {
         return;
     }
-    let nk = s.nk;
-    let all = nk + s.mk;
-    let row = LocalRow(nk + c);
-    weigh(kpanel, all, row, kd, ksub, kblocks, nk, v);
-    sum(acc, kpanel, all, row, v, nk);
     let column = rows::column_of(s.first, g);
-    subtract(panel, s.nrow, column, places, acc, nk, c, s.mk);
+    let mk = s.mk;
+    let mut lo = c;
+    while lo < mk {
+        let hi = part_end(lo, mk);
+        update_part(
+            s,
+            panel,
+            kpanel,
+            kd,
+            ksub,
+            kblocks,
+            places,
+            acc,
+            c,
+            column,
+            lo,
+            hi,
+        );
+        lo = hi;
+    }
 }
 
 // The descendant's rows from `start` on, each if it lands.
@@ -171,16 +310,17 @@ pub fn update_rows(
     start: usize,
 )
     requires { ⌜ ApplyPre (s .ncol) (s .nrow) (s .nk) (s .mk) (now kblocks) (now places) start (length (now panel))
-        (length (now kpanel)) (length (now kd)) (length (now ksub)) (length (now krows)) ⌝ }
+        (length (now kpanel)) (length (now kd)) (length (now ksub)) ⌝ }
+    requires { ⌜ length (now krows) ≡ s .mk ⌝ }
     ensures { λ _. ⌜ view (s .nrow) (now (panel .exit)) ≡ rowsApplied (s .first .0) (s .ncol)
         (descendantOf (s .nk) (s .mk) (now (kpanel .entry)) (now (kd .entry)) (now (ksub .entry))
         (now (kblocks .entry)) (now (krows .entry))) (bytes (now (places .entry))) (s .mk - start) start
         (view (s .nrow) (now (panel .entry))) ⌝ }
 {
-    let mut v = [0.0; COLUMNS_MAX];
-    let mut acc = [0.0; ROWS_MAX];
+    let mut acc = [0.0; PART];
+    let mk = s.mk;
     let mut c = start;
-    while c < s.mk {
+    while c < mk {
         update_row(
             s,
             panel,
@@ -190,9 +330,8 @@ pub fn update_rows(
             kblocks,
             krows,
             places,
-            c,
-            &mut v,
             &mut acc,
+            c,
         );
         c += 1;
     }

@@ -46,6 +46,7 @@ fn update_columns(
         (now (kblocks .entry)) (now (krows .entry))) (now (panel .entry)) ⌝ }
 {
     let start = rows::first_landing(s.first, s.ncol, krows);
+    // the walk's one list of a limit's length: where each of the descendant's rows stands among the target's
     let mut places = [0u16; ROWS_MAX];
     let located = rows::locate(rows, krows, start, &mut places);
     let Check::Sound = located else {

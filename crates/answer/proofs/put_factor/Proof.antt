@@ -8,12 +8,12 @@ use Rattle.answer.proofs.put_factor.Tie as tie
 
 returns : tie.Need-returns
 returns c =
+    let start : tie.Start = search in
     let rows = c .before .before in
     let counts = rows .before .before .before .before in
     let pivots = counts .before .before .before .before in
     let ordered = pivots .before .before .before .before in
     let accepted = ordered .before .before .before .before in
-    let start = accepted .before .before .before .before .before .before .before .before .before .before .before in
     let a = start .args in
     let left =
     buffersOf (a .panel .now) (a .d .now) (a .sub .now) (a .blocks .now) (a .lifts .now) (a .amounts .now) (a .order .now) (a .marks .now) [] in

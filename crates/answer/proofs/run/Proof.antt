@@ -4,21 +4,28 @@ use Rattle.answer.proofs.Calls.{lines-kept, run-is}
 use Rattle.answer.proofs.run.Statement.{statement}
 use Rattle.answer.proofs.run.Tie as tie
 
+-- the function's entry
+abbrev entered : tie.After-factor → tie.Start
+entered c = search
+
 put-said-requires : tie.Need-put-said-requires
 put-said-requires c κs =
-    let returned = c .before .before .before .before .before .before .before .before .before .before .before .before .before in
-    let called = returned .before .before .before .before .before .before .before .before .before .before .before .before .before .before in
-    let lent = called .before .before .before .before .before .before .before .before .before .before in
-    let start = lent .before .before .before .before .before .before .before .before .before .before .before in
-    let kept = called .factor .kept .1 .1 in
-    let later = kept .1 .1 .1 .1 in
-    lines-kept (start .pre) (kept .0) (kept .1 .0) (kept .1 .1 .0) (kept .1 .1 .1 .0) (later .0) (later .1 .0) (later .1 .1 .0) (later .1 .1 .1 .0)
+    let called : tie.After-factor = search in
+    let start = entered called in
+    let panel = called .factor .kept .1 .1 in
+    let d = panel .1 in
+    let sub = d .1 in
+    let blocks = sub .1 in
+    let lifts = blocks .1 in
+    let amounts = lifts .1 in
+    let order = amounts .1 in
+    let marks = order .1 in
+    lines-kept (start .pre) (panel .0) (d .0) (sub .0) (blocks .0) (lifts .0) (amounts .0) (order .0) (marks .0)
 
 returns : tie.Need-returns
 returns c =
-    let printed = c .before .before in
-    let returned = printed .before .before .before .before .before .before .before .before .before .before .before .before .before .before in
-    let called = returned .before .before .before .before .before .before .before .before .before .before .before .before .before .before in
+    let called : tie.After-factor = search in
+    let printed : tie.After-put-said = search in
     run-is _ (called .factor .result) _ _ _ _ _ _ _ _ _ _ (called .factor .ensures) (printed .put-said .ensures)
 
 pub run-spec : {M : Type 1} → statement M

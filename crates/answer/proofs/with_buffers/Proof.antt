@@ -9,8 +9,8 @@ use Rattle.answer.proofs.with_buffers.Tie as tie
 
 run-requires : tie.Need-run-requires
 run-requires c κs =
-    let sized = c .before .before .before .before .before .before .before .before .before .before in
-    let start = sized .before .before .before .before .before in
+    let start : tie.Start = search in
+    let sized : tie.After-work-size = search in
     let few = start .pre .columns in
     let rows = sized .before .tail-size .ensures in
     record {
@@ -29,9 +29,9 @@ run-requires c κs =
 
 returns : tie.Need-returns
 returns c =
-    let called = c .before .before .before .before .before .before .before .before .before .before .before in
-    let sized = called .before .before .before .before .before .before .before .before .before .before .before in
-    let start = sized .before .before .before .before .before in
+    let start : tie.Start = search in
+    let called : tie.After-run = search in
+    let sized : tie.After-work-size = search in
     let few = start .pre .columns in
     let rows = sized .before .tail-size .ensures in
     let numbers = sized .before .before .panel-size .ensures in

@@ -22,14 +22,14 @@ abbrev μ-loop : tie.MeasureT-loop
 add-at-requires : tie.Need-add-at-requires Inv-loop μ-loop
 unfolding bytes
 add-at-requires c κs =
+    let start : tie.Start Inv-loop μ-loop = search in
     let at = c .before .before .before .before in
-    let start = at .before .before .before .before .before .before in
     place-in _ _ _ _ _ _ _ (start .pre) (at .loop-test .taken) (at .before .loop .inv .1)
 
 loop-again : tie.Need-loop-again Inv-loop μ-loop
 unfolding bytes vec
 loop-again c =
-    let at = c .before .before .before .before .before .before .before in
+    let at : tie.In-loop Inv-loop μ-loop = search in
     (search needs, search needs, entries-step _ _ _ _ _ _ _ _ (at .loop-test .taken) (c .before .before .add-at .ensures) (at .before .loop .inv .2))
 
 pub add-entries-spec : {M : Type 1} → statement M

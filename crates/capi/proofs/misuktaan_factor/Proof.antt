@@ -6,10 +6,9 @@ use Rattle.capi.proofs.misuktaan_factor.Tie as tie
 
 returns : tie.Need-returns
 returns c =
-    let ended = c .before .before .before .before .before .before .before .before .before in
-    let called = ended .before .before .before .before .before .before .before .before .before .before in
-    let moded = called .before .before .before .before .before .before .before .before .before .before in
-    factor-left (c .factor-outcome .ensures) (rw (moded .mode-of .ensures) at (called .factor .ensures))
+    let called : tie.After-factor = search in
+    let moded : tie.After-mode-of = search in
+    factor-left (c .of-factor .ensures) (rw (moded .mode-of .ensures) at (called .factor .ensures))
 
 pub misuktaan-factor-spec : {M : Type 1} → statement M
 misuktaan-factor-spec =

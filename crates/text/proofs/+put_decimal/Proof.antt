@@ -23,21 +23,25 @@ put-decimal-at t = and 1 put-decimal-kinds.ps (is 1 put-decimal-kinds.ps μ-put-
 abbrev put-decimal-below : ℕ → In 1 put-decimal-kinds.ps
 put-decimal-below t = and 1 put-decimal-kinds.ps (falls 1 put-decimal-kinds.ps _<_ μ-put-decimal t) put-decimal.Pre
 
+-- what is known of the calls: of itself only below t
+abbrev claims : ℕ → put-decimal-lts.Claims
+claims t = (digit-reads.Asked, digit-reads.Learnt, put-byte-reads.Asked, put-byte-reads.Learnt, put-decimal-below t, put-decimal.Post)
+
 -- in the order of the code: one digit; the front, then the last digit
 pub +put-decimal-spec : {M : Type 1} → statement M
 +put-decimal-spec = close μ-put-decimal λ t. put-decimal-lts.spec
-    (digit-reads.Asked, digit-reads.Learnt, put-byte-reads.Asked, put-byte-reads.Learnt, put-decimal-below t, put-decimal.Post)
+    (claims t)
     (put-decimal-at t)
     put-decimal.Post
     (λ c κs. search needs) (λ c κs. search needs) (λ c. search needs)
     (λ c. (search (needs, decimal-one), search (needs, decimal-one, decimal-end)))
     (λ c κs. search needs) (λ c κs. search needs)
     (λ c κs.
-    let start = c .before .before .before .before .before .before .before .before in
+    let start : put-decimal-lts.Start (claims t) (put-decimal-at t) put-decimal.Post = search in
     omega (arith, decimal-front (start .args .n) (start .fits .n .fits) (c .before .before .before .before .put-decimal .ensures .0)))
     (λ c. search needs)
     (λ c.
-    let called = c .before .before .before .before .before .before .before in
-    let start = called .before .before .before .before in
+    let start : put-decimal-lts.Start (claims t) (put-decimal-at t) put-decimal.Post = search in
+    let called : put-decimal-lts.After-put-decimal (claims t) (put-decimal-at t) put-decimal.Post = search in
     let front = decimal-front (start .args .n) (start .fits .n .fits) (called .put-decimal .ensures .0) in
     (search (needs, decimal-last), omega (arith, c .before .before .put-byte2 .ensures .past, front)))

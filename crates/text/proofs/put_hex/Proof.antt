@@ -6,7 +6,9 @@ use Rattle.text.proofs.put_hex.Statement.{statement}
 use Rattle.text.proofs.put_hex.Tie as tie
 
 returns : tie.Need-returns
-returns c = (search needs, omega (arith, c .before .before .put-digits .ensures .past, hex-length 16 (c .before .before .before .before .before .args .pattern)))
+returns c =
+    let start : tie.Start = search in
+    (search needs, omega (arith, c .before .before .put-digits .ensures .past, hex-length 16 (start .args .pattern)))
 
 pub put-hex-spec : {M : Type 1} → statement M
 put-hex-spec =

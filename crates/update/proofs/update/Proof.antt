@@ -18,8 +18,9 @@ update-columns-requires c κs =
 
 returns-3 : tie.Need-returns-3
 returns-3 c =
-    let told = c .before .before .before .before .before in
-    update-columns _ _ _ _ (told .before .before .lists-check .ensures) (told .enum-told .given .1) _ (c .before .before .update-columns .ensures)
+    let checked : tie.After-lists-check = search in
+    let told : tie.After-enum-told = search in
+    update-columns _ _ _ _ (checked .lists-check .ensures) (told .enum-told .given .1) _ (c .before .before .update-columns .ensures)
 
 pub update-spec : {M : Type 1} → statement M
 update-spec =

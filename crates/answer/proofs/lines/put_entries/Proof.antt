@@ -4,7 +4,7 @@ use mathlib.Core.Path.{_≡_}
 use Prim.Native.Nat.{_+_, _*_, _-_, _≤_}
 use lib.ListN.{length}
 use borrow.Author.Needs.{needs}
-use Rattle.grid.proofs.Laws.{offsets}
+use Rattle.grid.proofs.Laws.{in-panel}
 use Rattle.text.specs.Text.{Writes}
 use Rattle.answer.specs.Lines.{each, entryField}
 use Rattle.answer.proofs.Laws.{each-none, entries-step, each-end}
@@ -25,10 +25,7 @@ put-entries-spec =
     Inv-loop
     μ-loop
     (λ c. search (needs, each-none))
-    (λ c. search (needs, offsets))
-    (λ c. search (needs, offsets))
-    (λ c. search (needs, offsets))
-    (λ c. search (needs, offsets))
+    (λ c κs. search in-panel)
     (λ c κs. search needs) (λ c. search needs) (λ c. search needs)
     (λ c. search (needs, entries-step))
     (λ c. search needs)

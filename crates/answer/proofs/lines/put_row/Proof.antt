@@ -7,13 +7,14 @@ use Rattle.answer.proofs.lines.put_row.Tie as tie
 
 returns : tie.Need-returns
 returns c =
+    let start : tie.Start = search in
     let ended = c .before .before in
     let marked = ended .before .before .before .before in
     let filled = marked .before .before .before .before in
     let numbered = filled .before .before .before .before in
     let named = numbered .before .before .before .before in
-    let start = named .before .before .before .before .before .before in
-    let line = row-is _ _ _ _ _ (named .put-word .ensures) (numbered .put-field .ensures .0) (filled .put-entries .ensures .0) (marked .put-mark .ensures .0) (ended .put-byte .ensures) in
+    let line = row-is _ _ _ _ _ (named .put-word .ensures) (numbered .put-field .ensures .0) (filled .put-entries .ensures .0) (marked .put-mark .ensures .0)
+    (ended .put-byte .ensures) in
     (line, omega (arith, named .put-word .ensures .past, numbered .put-field .ensures .1, start .pre .0 .columns))
 
 pub put-row-spec : {M : Type 1} → statement M

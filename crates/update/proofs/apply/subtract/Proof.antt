@@ -5,44 +5,36 @@ use Prim.Native.Nat.{_-_, _≤_}
 use lib.ListN.{length}
 use borrow.Author.Needs.{needs}
 use Rattle.model.specs.Matrix.{view, vec, bytes}
-use Rattle.update.specs.Apply.{fromRow, lessFrom}
+use Rattle.kernels.specs.Rules.{behind}
+use Rattle.update.specs.Apply.{lessFrom}
 use Rattle.update.proofs.Numbers.{subtract-place, less-step, less-end}
 use Rattle.update.proofs.apply.subtract.Statement.{statement}
 use Rattle.update.proofs.apply.subtract.Tie as tie
 
 abbrev Inv-loop : tie.InvT-loop
-Inv-loop panel₀ nrow column places acc nk lo hi r₀ panel r =
+Inv-loop panel₀ nrow column places acc lo hi r₀ panel r =
     (lo ≤ r) × (r ≤ hi) × (length panel ≡ length panel₀)
-    × (lessFrom (bytes places) (fromRow (vec acc) nk) (column .0) (hi - r) r (view nrow panel)
-    ≡ lessFrom (bytes places) (fromRow (vec acc) nk) (column .0) (hi - lo) lo (view nrow panel₀))
+    × (lessFrom (bytes places) (behind lo (vec acc)) (column .0) (hi - r) r (view nrow panel)
+    ≡ lessFrom (bytes places) (behind lo (vec acc)) (column .0) (hi - lo) lo (view nrow panel₀))
 
 abbrev μ-loop : tie.MeasureT-loop
-μ-loop panel₀ nrow column places acc nk lo hi r₀ panel r = hi - r
+μ-loop panel₀ nrow column places acc lo hi r₀ panel r = hi - r
 
-cast-t17 : tie.Need-cast-t17 Inv-loop μ-loop
+cast-t16 : tie.Need-cast-t16 Inv-loop μ-loop
 unfolding bytes
-cast-t17 c =
-    let at = c .before .before in
+cast-t16 c =
     let start : tie.Start Inv-loop μ-loop = search in
+    let at = c .before .before in
     let row = start .pre .inside (at .before .loop .r) (at .before .loop .inv .0) (at .loop-test .taken) .row in
     search (needs, row)
 
 less-at-requires : tie.Need-less-at-requires Inv-loop μ-loop
 unfolding bytes
-less-at-requires c κs =
-    let at = c .before .before .before in
-    let start = at .before .before .before .before .before in
-    subtract-place _ _ _ _ _ _ _ _ _ _ (start .pre) (at .before .loop .inv .0) (at .loop-test .taken) (at .before .loop .inv .2)
+less-at-requires c κs = search subtract-place
 
 loop-again : tie.Need-loop-again Inv-loop μ-loop
-unfolding bytes vec fromRow
-loop-again c =
-    let at = c .before .before .before .before .before .before in (
-      search needs,
-      search needs,
-      search needs,
-      less-step _ _ _ _ _ _ _ _ _ _ (at .loop-test .taken) refl refl (c .before .before .less-at .ensures) (at .before .loop .inv .3),
-    )
+unfolding bytes vec behind
+loop-again c = (search needs, search needs, search needs, search less-step)
 
 pub subtract-spec : {M : Type 1} → statement M
 subtract-spec =
@@ -52,7 +44,7 @@ subtract-spec =
     μ-loop
     (λ c. (search needs, search needs, search needs, refl))
     (λ c. search needs) (λ c. search needs)
-    cast-t17
+    cast-t16
     (λ c. search needs) (λ c. search needs) (λ c. search needs)
     less-at-requires
     (λ c. search needs) (λ c. search needs)

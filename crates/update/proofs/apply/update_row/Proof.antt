@@ -1,55 +1,69 @@
--- `update::apply::update_row` meets its contract: a row that does not land changes nothing; of one that does, v, acc and the column are the definition's.
--- Assumes nothing.
+-- `update::apply::update_row` meets its contract: a row that does not land changes nothing. Of one that does, the invariant: going on from row lo with the
+-- panel as it is gives what all parts give. The measure is what is left of the rows. Assumes nothing.
+use mathlib.Core.Path.{_≡_, refl}
+use Prim.Native.Nat.{_+_, _-_, _≤_, _<_}
 use native.Mathlib.Omega.{arith}
+use lib.ListN.{length}
 use borrow.Author.Needs.{needs}
-use Rattle.model.specs.Matrix.{bytes}
-use Rattle.update.proofs.Landing.{row-none, row-done, lands-from, lands-before, row-weigh, row-subtract}
+use Rattle.model.specs.Matrix.{view, bytes}
+use Rattle.update.specs.Apply.{accOf, fromRow, lessFrom}
+use Rattle.update.proofs.Landing.{row-none, row-done, lands-from, lands-before, rows-later, part-step}
 use Rattle.update.proofs.apply.update_row.Statement.{statement}
 use Rattle.update.proofs.apply.update_row.Tie as tie
 
--- the function's entry, from where the row is known to land
-abbrev entered : tie.Else1 → tie.Start
-entered c = c .before .before .before .before .before .before .before .before .before .before .before .before
+abbrev Inv-loop : tie.InvT-loop
+Inv-loop s panel₀ kpanel kd ksub kblocks krows places acc₀ c column mk lo₀ panel acc lo =
+    (c ≤ lo) × (lo ≤ s .mk) × (column .0 < s .ncol) × (length panel ≡ length panel₀) × (length acc ≡ length acc₀)
+    × (lessFrom (bytes places) (fromRow (accOf (s .nk + s .mk) (s .nk) kpanel kd ksub kblocks (s .nk + c)) (s .nk)) (column .0) (s .mk - lo) lo
+    (view (s .nrow) panel)
+    ≡ lessFrom (bytes places) (fromRow (accOf (s .nk + s .mk) (s .nk) kpanel kd ksub kblocks (s .nk + c)) (s .nk)) (column .0) (s .mk - c) c
+    (view (s .nrow) panel₀))
 
-returns : tie.Need-returns
+abbrev μ-loop : tie.MeasureT-loop
+μ-loop s panel₀ kpanel kd ksub kblocks krows places acc₀ c column mk lo₀ panel acc lo = s .mk - lo
+
+returns : tie.Need-returns Inv-loop μ-loop
 unfolding bytes
-returns c = row-none _ _ _ _ _ _ (c .before .lands .ensures) _ (c .if1 .taken)
+returns c = search row-none
 
-weigh-requires : tie.Need-weigh-requires
-weigh-requires c κs =
-    let start = entered (c .before .before) in
-    row-weigh _ _ _ _ _ _ _ _ _ _ _ _ _ _ (start .pre .0) (start .pre .1)
+loop-holds : tie.Need-loop-holds Inv-loop μ-loop
+loop-holds c = (search needs, search needs, search lands-before, search needs, search needs, refl)
 
-column-of-requires : tie.Need-column-of-requires
-column-of-requires c κs =
-    let landed = c .before .before .before .before .before .before .before .before .before .before in
-    lands-from _ _ _ _ (landed .before .lands .ensures) (landed .if1 .left)
+update-part-requires : tie.Need-update-part-requires Inv-loop μ-loop
+update-part-requires c κs =
+    let start : tie.Start Inv-loop μ-loop = search in
+    let at : tie.At-loop Inv-loop μ-loop = search in
+    (rows-later _ _ _ _ _ _ _ _ _ _ _ _ _ (start .pre .0) (omega arith) (at .loop .inv .3), search needs)
 
-subtract-requires : tie.Need-subtract-requires
-subtract-requires c κs =
-    let landed = c .before .before .before .before .before .before .before .before .before .before .before .before .before in
-    let start = entered landed in
-    row-subtract _ _ _ _ _ _ _ _ _ _ _ _ _ _ (start .pre .0) (start .pre .1) _ _
-    (omega (arith, c .before .before .column-of .ensures, lands-before _ _ _ _ (landed .before .lands .ensures) (landed .if1 .left))) (search needs)
+loop-again : tie.Need-loop-again Inv-loop μ-loop
+loop-again c =
+    let at : tie.At-loop Inv-loop μ-loop = search in
+    let done : tie.After-update-part Inv-loop μ-loop = search in (
+      search needs,
+      search needs,
+      search needs,
+      search needs,
+      search needs,
+      part-step _ _ _ _ _ _ _ _ _ (search needs) (search needs) (done .update-part .ensures) (at .loop .inv .5),
+    )
 
-returns-2 : tie.Need-returns-2
+returns-2 : tie.Need-returns-2 Inv-loop μ-loop
 unfolding bytes
-returns-2 c =
-    let sum = c .before .before .before .before .before .before .before .before in
-    let landed = sum .before .before .before .before .before .before .before .before in
-    row-done _ _ _ _ _ _ (landed .before .lands .ensures) _ _ _ _ _ _ _ (landed .if1 .left) (c .before .before .before .before .before .column-of .ensures)
-    (sum .before .before .before .before .before .weigh .ensures) (sum .sum .ensures) (c .before .before .subtract .ensures)
+returns-2 c = search row-done
 
 pub update-row-spec : {M : Type 1} → statement M
 update-row-spec =
     tie.close
     (tie.spec
+    Inv-loop
+    μ-loop
     (λ c. search needs) (λ c. search needs) (λ c κs. search needs)
     returns
-    (λ c. search needs) (λ c. search needs)
-    weigh-requires
+    (λ c κs. search lands-from)
+    loop-holds
     (λ c κs. search needs)
-    column-of-requires
-    subtract-requires
-    (λ c. search needs) (λ c. search needs) (λ c. search needs)
+    update-part-requires
+    (λ c. search needs)
+    loop-again
+    (λ c. search needs) (λ c. search needs)
     returns-2)

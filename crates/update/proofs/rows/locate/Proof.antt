@@ -18,10 +18,10 @@ abbrev μ-loop : tie.MeasureT-loop
 
 -- the function's entry, and the loop's head, of a turn that goes on
 abbrev entered : tie.Else1 Inv-loop μ-loop → tie.Start Inv-loop μ-loop
-entered c = c .before .before .before .before .before .before .before .before
+entered c = search
 
 abbrev head : tie.Else1 Inv-loop μ-loop → tie.At-loop Inv-loop μ-loop
-head c = c .before .before .before .before
+head c = search
 
 step : (c : tie.Else1 Inv-loop μ-loop)
     → Locating (entered c .args .rows .now) (entered c .args .krows .now) (entered c .args .start) (length (entered c .args .places .now))
@@ -35,14 +35,14 @@ returns : tie.Need-returns Inv-loop μ-loop
 unfolding bytes
 returns c =
     let at = c .before .before .before in
-    let start = at .before .before .before .before .before in (
+    let start : tie.Start Inv-loop μ-loop = search in (
       locating-bad _ _ _ _ _ (start .pre) _ _ _ (at .before .loop .inv) (at .loop-test .taken) (c .before .local-row .ensures) (c .if1 .taken),
       λ e. absurd (let z : _≡_ {A = ℕ} 0 1 = cc in omega arith),
     )
 
 returns-2 : tie.Need-returns-2 Inv-loop μ-loop
 returns-2 c =
-    let start = c .before .before .before .before .before in (
+    let start : tie.Start Inv-loop μ-loop = search in (
       locating-end _ _ _ _ _ (start .pre) _ _ (c .before .loop .inv) (c .loop-test .left),
       λ e. locating-all _ _ _ _ _ (start .pre) _ _ (c .before .loop .inv) (c .loop-test .left),
     )

@@ -1,26 +1,19 @@
--- The C interface's plain numbers: an answer as its refusal's number and place or its counts, a mode as a flag and a floor.
+-- Plain numbers: an answer as its refusal's number and place or its counts, a mode as a flag and a floor.
 -- Definitions only. Assumes nothing.
 use mathlib.Core.Bool.{Bool, cond}
-use mathlib.Core.List.{List}
 use Prim.Native.Nat.{ℕ}
 use lib.Ieee.{Float}
 use Rattle.model.specs.Answer.{Said, refused, accepted}
-use Rattle.model.specs.Factor as factor
 use Rattle.model.specs.Inertia.{empty}
-use Rattle.model.specs.Assembly.{Panelled}
 use Rattle.model.specs.declared.Mode.{Mode}
 use Rattle.model.specs.declared.Mode.the-variants.{Fail, Lift}
 use Rattle.model.specs.declared.Report.{Report}
-use Rattle.model.specs.declared.Settings.{Settings}
 use Rattle.model.specs.declared.Tally.{Tally}
-use Rattle.capi.specs.declared.Outcome.{Outcome}
+use Rattle.outcome.specs.declared.Outcome.{Outcome}
 
 -- Lift with the floor where the flag is set; else Fail, and the floor is not read
 abbrev pub modeOf : Bool → Float → Mode
 modeOf lifts floor = cond lifts (Lift floor) Fail
-
-abbrev pub settingsOf : (ncol nrow nb : ℕ) → Bool → Float → ℕ → Settings
-settingsOf ncol nrow nb lifts floor limit = record { ncol = ncol; nrow = nrow; nb = nb; mode = modeOf lifts floor; limit = limit }
 
 -- a refusal's number and place, with nothing counted
 abbrev pub refusedAs : (number a b : ℕ) → Outcome
@@ -44,19 +37,3 @@ inertiaNumbers (accepted t) = reportedAs 0 t
 abbrev pub panelNumbers : Said (Unit {0}) → Outcome
 panelNumbers (refused n a b) = refusedAs n a b
 panelNumbers (accepted x) = reportedAs 0 empty
-
--- what a factor call answers and leaves
-pub record FactorLeft : Type 0 where
-  pub outcome : Outcome
-  pub buffers : factor.Buffers
-
-unfoldable pub factorLeft : factor.Outcome → FactorLeft
-factorLeft o = record { outcome = factorNumbers (o .answer); buffers = o .buffers }
-
--- what an assembly or an update answers and leaves
-pub record PanelLeft : Type 0 where
-  pub outcome : Outcome
-  pub panel : List Float
-
-unfoldable pub panelLeft : Panelled → PanelLeft
-panelLeft o = record { outcome = panelNumbers (o .answer); panel = o .panel }

@@ -1,0 +1,2 @@
+-- A call's answer and a mode as plain numbers.
+pub mod Numbers
