@@ -23,7 +23,7 @@ use Rattle.record.specs.declared.Asked.the-variants.{Factor}
 use Rattle.record.proofs.Laws.{asked-sizes, asked-length, asked-prefix}
 use Rattle.text.specs.Text.{Writes}
 use Rattle.text.proofs.Laws.{writes-then}
-use Rattle.answer.specs.Lines.{each, refusedLine, acceptedLine, orderLine, pivotAt, inertiaLine, rowLine}
+use Rattle.lines.specs.Lines.{each, refusedLine, acceptedLine, orderLine, pivotAt, inertiaLine, rowLine}
 use Rattle.answer.specs.Lines.{acceptedLines, saidLines, outcomeLines, cleared, printed}
 use Rattle.answer.specs.Lengths.{SizesPre, LinesPre}
 

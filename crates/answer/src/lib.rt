@@ -2,8 +2,6 @@
 // A reader may rely on `respond` alone: what it writes is `printed` of specs/Lines.antt, whatever the bytes are. It
 // asks nothing of its caller. The functions above it are a chain: put_said (the lines of an answer), run (the factor
 // call), with_buffers (its buffers), read_and_factor (its input), factored.
-mod lines;
-
 ghost use Prim.Native.Nat.{_-_, _*_, _≤_};
 ghost use mathlib.Core.Path.{_≡_};
 ghost use mathlib.Core.List.{[]};
