@@ -10,7 +10,7 @@ use lib.Ieee.{Float}
 use Rattle.model.specs.Scalar.{zeroF}
 use Rattle.model.specs.Factor.{workLength, factorOf}
 use Rattle.model.specs.declared.Settings.{Settings}
-use Rattle.finish.specs.Buffers.{buffersOf}
+use Rattle.buffers.specs.Buffers.{buffersOf}
 use Rattle.text.specs.Text.{Writes}
 use Rattle.answer.specs.Lines.{outcomeLines, cleared}
 

@@ -8,7 +8,7 @@ ghost use mathlib.Core.List.{[]};
 ghost use lib.ListN.{length, take};
 ghost use Rattle.model.specs.Answer.{factoredSays};
 ghost use Rattle.model.specs.Factor.{workLength, factorOf};
-ghost use Rattle.finish.specs.Buffers.{buffersOf};
+ghost use Rattle.buffers.specs.Buffers.{buffersOf};
 ghost use Rattle.record.specs.Record.{panelLength, askedOf};
 ghost use Rattle.record.specs.declared.Asked.the-variants.{Factor};
 ghost use Rattle.text.specs.Text.{Writes};

@@ -8,7 +8,7 @@ use borrow.Author.Tests.{eqb-true, ltb-true, not-false}
 use lib.ListN.{length, getD, set}
 use lib.Ieee.{Float, nan}
 use Rattle.model.specs.Scalar.{_⊕_}
-use Rattle.model.specs.Matrix.{Row, Mat, columnStart, view, vec, bytes, columnMajor}
+use Rattle.model.specs.Matrix.{Row, Mat, columnStart, view, vec, naturals, columnMajor}
 use Rattle.model.specs.Assembly.{Entries, entriesSound, firstNot, placeSound, assemblyCheck, addedAt, assembledFrom, assemblyOf}
 use Rattle.model.specs.declared.Refusal.{Refusal}
 use Rattle.model.specs.declared.Refusal.the-variants.{AssemblyLength, AssemblyPlace, AssemblyNumber}
@@ -46,7 +46,7 @@ lengths ncol nrow es panel h = record {
 
 module _ (ncol nrow : ℕ) (es : Entries) (panel : List Float) where
   abbrev placesCheck : Check
-  placesCheck = firstNot (placeSound ncol nrow (bytes (es .rows)) (bytes (es .cols))) AssemblyPlace (length (es .rows)) 0
+  placesCheck = firstNot (placeSound ncol nrow (naturals (es .rows)) (naturals (es .cols))) AssemblyPlace (length (es .rows)) 0
 
   module _ (b : Bool) (h : b ≡ entriesSound ncol nrow es panel) where
     pub check-lengths : not b ≡ true → Refused AssemblyLength ≡ assemblyCheck ncol nrow es panel
@@ -75,7 +75,7 @@ pub added-set : (n : ℕ) (xs : List Float) (i j s : ℕ) (v : Float) → s ≡ 
 unfolding addedAt
 added-set n xs i j s v at h = rw at (own-set n xs i j (λ x. x ⊕ v) h)
 
-pub place-in : (n : ℕ) (is js : List ℕ) (xs : List Float) (k len m : ℕ) → AddPre n is js xs len → k < length is → m ≡ len → In n (bytes is k) (bytes js k) m
+pub place-in : (n : ℕ) (is js : List ℕ) (xs : List Float) (k len m : ℕ) → AddPre n is js xs len → k < length is → m ≡ len → In n (naturals is k) (naturals js k) m
 place-in n is js xs k len m w h e = rw e (w .places k h)
 
 module _ (rows cols : ℕ → ℕ) (numbers : Row) (n : ℕ) where
@@ -110,18 +110,18 @@ module _ (ncol nrow : ℕ) (es : Entries) (panel : List Float) (k : Check) (e : 
         columns = l .cols;
         numbers = l .numbers;
         places = λ i m.
-            let in-lower : placeSound ncol nrow (bytes (es .rows)) (bytes (es .cols)) i ≡ true
-            = first-all (placeSound ncol nrow (bytes (es .rows)) (bytes (es .cols))) AssemblyPlace (length (es .rows)) i all m in
-            in-panel nrow ncol (bytes (es .rows) i) (bytes (es .cols) i) (length panel) (l .area)
-            (ltb-true (bytes (es .rows) i) nrow (search (and-left, and-right))) (ltb-true (bytes (es .cols) i) ncol (search (and-left, and-right)));
+            let in-lower : placeSound ncol nrow (naturals (es .rows)) (naturals (es .cols)) i ≡ true
+            = first-all (placeSound ncol nrow (naturals (es .rows)) (naturals (es .cols))) AssemblyPlace (length (es .rows)) i all m in
+            in-panel nrow ncol (naturals (es .rows) i) (naturals (es .cols) i) (length panel) (l .area)
+            (ltb-true (naturals (es .rows) i) nrow (search (and-left, and-right))) (ltb-true (naturals (es .cols) i) ncol (search (and-left, and-right)));
       }
 
   pub assembly-done : (new : List Float) → k ≡ Sound → length new ≡ length panel
-      → view nrow new ≡ assembledFrom (bytes (es .rows)) (bytes (es .cols)) (vec (es .numbers)) (length (es .rows)) 0 (view nrow panel)
+      → view nrow new ≡ assembledFrom (naturals (es .rows)) (naturals (es .cols)) (vec (es .numbers)) (length (es .rows)) 0 (view nrow panel)
       → leaves Done new ≡ assemblyOf ncol nrow es panel
   unfolding assemblyOf
   assembly-done new h l v =
-      let a = assembledFrom (bytes (es .rows)) (bytes (es .cols)) (vec (es .numbers)) (length (es .rows)) 0 (view nrow panel) in
+      let a = assembledFrom (naturals (es .rows)) (naturals (es .cols)) (vec (es .numbers)) (length (es .rows)) 0 (view nrow panel) in
       let is : new ≡ columnMajor nrow ncol a
       = is-columnMajor nrow ncol a new (l ∙ checked-lengths h .area) (λ i j _ _. ap (λ (m : Mat). m i j) v) in
       ap (leaves Done) is ∙ leaves-done k (assemblyCheck ncol nrow es panel) (columnMajor nrow ncol a) panel h e

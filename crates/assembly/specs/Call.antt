@@ -7,7 +7,7 @@ use Prim.Native.Nat.{ℕ, _<_}
 use lib.ListN.{length}
 use lib.Ieee.{Float}
 use Rattle.model.specs.Scalar.{isFinite}
-use Rattle.model.specs.Matrix.{vec, bytes}
+use Rattle.model.specs.Matrix.{vec, naturals}
 use Rattle.model.specs.Assembly.{Entries}
 use Rattle.grid.specs.Grid.{In}
 
@@ -22,4 +22,4 @@ finiteAt xs = λ k. isFinite (vec xs k)
 pub record AddPre (n : ℕ) (is js : List ℕ) (xs : List Float) (len : ℕ) : Type 0 where
   pub columns : length js ≡ length is
   pub numbers : length xs ≡ length is
-  pub places : (k : ℕ) → k < length is → In n (bytes is k) (bytes js k) len
+  pub places : (k : ℕ) → k < length is → In n (naturals is k) (naturals js k) len

@@ -5,7 +5,7 @@ ghost use mathlib.Core.Path.{_≡_};
 ghost use mathlib.Core.Bool.{_&&_};
 ghost use lib.Dec.{leb, ltb};
 ghost use lib.ListN.{length};
-ghost use Rattle.model.specs.Matrix.{view, vec, bytes};
+ghost use Rattle.model.specs.Matrix.{view, vec, naturals};
 ghost use Rattle.model.specs.Assembly.{entriesSound, firstNot, placeSound, assemblyCheck};
 ghost use Rattle.model.specs.Assembly.{addedAt, assembledFrom, assemblyOf};
 ghost use Rattle.grid.specs.Grid.{In};
@@ -50,7 +50,7 @@ fn place_sound(ncol: usize, nrow: usize, row: LocalRow, column: Elim) -> bool
 fn first_bad_place(ncol: usize, nrow: usize, rows: &[usize], cols: &[usize]) -> Check
     requires { ⌜ length (now cols) ≡ length (now rows) ⌝ }
     ensures { λ r. ⌜ r
-        ≡ firstNot (placeSound ncol nrow (bytes (now (rows .entry))) (bytes (now (cols .entry)))) AssemblyPlace
+        ≡ firstNot (placeSound ncol nrow (naturals (now (rows .entry))) (naturals (now (cols .entry)))) AssemblyPlace
         (length (now (rows .entry))) 0 ⌝ }
 {
     let mut k = 0;
@@ -117,7 +117,7 @@ fn add_at(panel: &mut [f64], nrow: usize, row: LocalRow, column: Elim, v: f64)
 fn add_entries(nrow: usize, rows: &[usize], cols: &[usize], numbers: &[f64], panel: &mut [f64])
     requires { ⌜ AddPre nrow (now rows) (now cols) (now numbers) (length (now panel)) ⌝ }
     ensures { λ _. ⌜ view nrow (now (panel .exit))
-        ≡ assembledFrom (bytes (now (rows .entry))) (bytes (now (cols .entry))) (vec (now (numbers .entry)))
+        ≡ assembledFrom (naturals (now (rows .entry))) (naturals (now (cols .entry))) (vec (now (numbers .entry)))
         (length (now (rows .entry))) 0 (view nrow (now (panel .entry))) ⌝ }
 {
     let mut k = 0;

@@ -4,7 +4,7 @@
 ghost use mathlib.Core.Path.{_≡_};
 ghost use Prim.Native.Nat.{_-_};
 ghost use lib.ListN.{length};
-ghost use Rattle.model.specs.Matrix.{bytes};
+ghost use Rattle.model.specs.Matrix.{naturals};
 ghost use Rattle.model.specs.Step.{pivotsOf};
 ghost use Rattle.model.specs.Head.{panelOf};
 ghost use Rattle.bunch_kaufman.specs.Slices.{state};
@@ -55,14 +55,14 @@ pub fn ll_bk_panel_step(
     requires { ⌜ NotesPre (at .ke) (length (now d)) (length (now sub)) (length (now blocks)) (length (now partners))
         (length (now lifts)) (length (now amounts)) (length (now order)) ⌝ }
     requires { ⌜ LimitPre (how .mode) (how .limit) ⌝ }
-    requires { ⌜ NotedTo (at .kb) (at .ke) before (bytes (now blocks)) (bytes (now partners)) ⌝ }
+    requires { ⌜ NotedTo (at .kb) (at .ke) before (naturals (now blocks)) (naturals (now partners)) ⌝ }
     ensures { λ r. ⌜ progress r (at .ke) (state at (now (panel .exit)) (now (mult .exit))
         (pivotsOf (now (d .exit)) (now (sub .exit)) (now (blocks .exit)) (now (partners .exit)) (now (lifts .exit))
         (now (amounts .exit)) (now (order .exit))))
         ≡ panelOf (at .ke) how (at .ke - at .kb) (at .kb) (state at (now (panel .entry)) (now (mult .entry))
         (pivotsOf (now (d .entry)) (now (sub .entry)) (now (blocks .entry)) (now (partners .entry))
         (now (lifts .entry)) (now (amounts .entry)) (now (order .entry))) before) ⌝ }
-    ensures { λ r. ⌜ RanTo (at .kb) (at .ke) r (bytes (now (blocks .exit))) (bytes (now (partners .exit))) ⌝ }
+    ensures { λ r. ⌜ RanTo (at .kb) (at .ke) r (naturals (now (blocks .exit))) (naturals (now (partners .exit))) ⌝ }
 {
     let ke = at.ke;
     let mut k = at.kb;

@@ -7,7 +7,7 @@ use native.Mathlib.Omega.{arith}
 use borrow.Author.Tests.{eq-eqb, leb-true, eqb-false}
 use lib.Dec.{eqb, leb}
 use lib.ListN.{length}
-use Rattle.model.specs.Matrix.{bytes}
+use Rattle.model.specs.Matrix.{naturals}
 use Rattle.model.specs.Step.{begins}
 use Rattle.model.specs.Inertia.{byteSound, bytesFrom, checkBytes}
 use Rattle.model.specs.Assembly.{firstNot}
@@ -29,8 +29,8 @@ bytes-first f n zero k = refl
 bytes-first f n (suc m) k = rw (bytes-first f n m (k + 1))
 
 -- the check of the bytes is a scan like any other
-pub bytes-scan : (xs : List ℕ) → firstNot (byteSound (bytes xs) (length xs)) byteAt (length xs - 0) 0 ≡ checkBytes xs
-bytes-scan xs = first-none (byteSound (bytes xs) (length xs)) byteAt (length xs) ∙ sym (bytes-first (bytes xs) (length xs) (length xs) 0)
+pub bytes-scan : (xs : List ℕ) → firstNot (byteSound (naturals xs) (length xs)) byteAt (length xs - 0) 0 ≡ checkBytes xs
+bytes-scan xs = first-none (byteSound (naturals xs) (length xs)) byteAt (length xs) ∙ sym (bytes-first (naturals xs) (length xs) (length xs) 0)
 
 -- ---- bytes that meet no refusal
 
@@ -65,5 +65,5 @@ all-paired f n e = record {
     next c h o = omega (arith, eqb-false (c + 1) n (sound-next f n c (at c h) o .0))
 
 -- each is 0 or 1, and a 1 has a 0 after it
-pub bytes-paired : (xs : List ℕ) → checkBytes xs ≡ Sound → Paired (length xs) (bytes xs)
-bytes-paired xs e = all-paired (bytes xs) (length xs) e
+pub bytes-paired : (xs : List ℕ) → checkBytes xs ≡ Sound → Paired (length xs) (naturals xs)
+bytes-paired xs e = all-paired (naturals xs) (length xs) e

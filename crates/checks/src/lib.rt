@@ -4,7 +4,7 @@
 ghost use mathlib.Core.Path.{_≡_};
 ghost use Prim.Native.Nat.{_<_};
 ghost use lib.ListN.{length};
-ghost use Rattle.model.specs.Matrix.{bytes};
+ghost use Rattle.model.specs.Matrix.{naturals};
 ghost use Rattle.model.specs.Factor.{shapeSound};
 ghost use Rattle.model.specs.Inertia.{byteSound, checkBytes};
 ghost use Rattle.checks.specs.Answers.{answerOf};
@@ -25,7 +25,7 @@ pub fn shape_sound(ncol: usize, nrow: usize) -> bool
 // The byte at k is 0 or 1, and a 1 stands neither last nor right before another 1.
 fn byte_sound(blocks: &[u8], k: usize) -> bool
     requires { ⌜ k < length (now blocks) ⌝ }
-    ensures { λ r. ⌜ r ≡ byteSound (bytes (now (blocks .entry))) (length (now (blocks .entry))) k ⌝ }
+    ensures { λ r. ⌜ r ≡ byteSound (naturals (now (blocks .entry))) (length (now (blocks .entry))) k ⌝ }
 {
     if 1 < blocks[k] {
         return false;

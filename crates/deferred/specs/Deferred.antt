@@ -4,7 +4,7 @@ use mathlib.Core.Path.{_≡_}
 use mathlib.Core.List.{List}
 use Prim.Native.Nat.{ℕ, _-_, _*_, _≤_}
 use lib.ListN.{length}
-use Rattle.model.specs.Matrix.{bytes}
+use Rattle.model.specs.Matrix.{naturals}
 
 -- The panel's columns kb to ke of a matrix of n rows and c columns, with their pivots, of which the last begins no block, and room for L·D of them in g.
 pub record DeferredPre (n c kb ke glen len dlen slen : ℕ) (blocks : List ℕ) : Type 0 where
@@ -16,4 +16,4 @@ pub record DeferredPre (n c kb ke glen len dlen slen : ℕ) (blocks : List ℕ) 
   pub pivots : ke ≤ dlen
   pub subs : ke ≤ slen
   pub flags : ke ≤ length blocks
-  pub closed : bytes blocks (ke - 1) ≡ 1 → ⊥
+  pub closed : naturals blocks (ke - 1) ≡ 1 → ⊥

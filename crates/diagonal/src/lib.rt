@@ -4,7 +4,7 @@
 ghost use mathlib.Core.Path.{_≡_};
 ghost use Prim.Native.Nat.{_+_, _<_};
 ghost use lib.ListN.{length};
-ghost use Rattle.model.specs.Matrix.{vec, bytes};
+ghost use Rattle.model.specs.Matrix.{vec, naturals};
 ghost use Rattle.model.specs.Step.{blockOf, blockAt, diagonalAt, begins, endsBlock, pastOf};
 ghost use Rattle.model.specs.Step.{isBlock, firstNumber, lastNumber, underNumber};
 ghost use Rattle.diagonal.specs.Diagonal.{BlockPre, PivotPre};
@@ -67,7 +67,7 @@ pub fn under_number(x: Diagonal) -> f64
 // Whether a block begins at k.
 pub fn block_begins(blocks: &[u8], k: Elim) -> bool
     requires { ⌜ k .0 < length (now blocks) ⌝ }
-    ensures { λ r. ⌜ r ≡ begins (bytes (now (blocks .entry))) (k .0) ⌝ }
+    ensures { λ r. ⌜ r ≡ begins (naturals (now (blocks .entry))) (k .0) ⌝ }
 {
     let at = k.0;
     blocks[at] == 1
@@ -76,7 +76,7 @@ pub fn block_begins(blocks: &[u8], k: Elim) -> bool
 // Whether k is a block's second column.
 pub fn ends_block(blocks: &[u8], k: Elim) -> bool
     requires { ⌜ k .0 < length (now blocks) ⌝ }
-    ensures { λ r. ⌜ r ≡ endsBlock (bytes (now (blocks .entry))) (k .0) ⌝ }
+    ensures { λ r. ⌜ r ≡ endsBlock (naturals (now (blocks .entry))) (k .0) ⌝ }
 {
     let at = k.0;
     if at == 0 {
@@ -88,7 +88,7 @@ pub fn ends_block(blocks: &[u8], k: Elim) -> bool
 // The column after the pivot at k.
 pub fn past(blocks: &[u8], k: Elim) -> usize
     requires { ⌜ k .0 < length (now blocks) ⌝ }
-    ensures { λ r. ⌜ r ≡ pastOf (bytes (now (blocks .entry))) (k .0) ⌝ }
+    ensures { λ r. ⌜ r ≡ pastOf (naturals (now (blocks .entry))) (k .0) ⌝ }
 {
     if block_begins(blocks, k) {
         return k.0 + 2;
@@ -112,7 +112,7 @@ pub fn block_at(d: &[f64], sub: &[f64], k: Elim) -> Block
 pub fn diagonal_at(d: &[f64], sub: &[f64], blocks: &[u8], k: Elim) -> Diagonal
     requires { ⌜ PivotPre (k .0) (length (now d)) (length (now sub)) (now blocks) ⌝ }
     ensures { λ r. ⌜ r
-        ≡ diagonalAt (vec (now (d .entry))) (vec (now (sub .entry))) (bytes (now (blocks .entry))) (k .0) ⌝ }
+        ≡ diagonalAt (vec (now (d .entry))) (vec (now (sub .entry))) (naturals (now (blocks .entry))) (k .0) ⌝ }
 {
     if block_begins(blocks, k) {
         return Diagonal::Two(block_at(d, sub, k));

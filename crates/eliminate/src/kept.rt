@@ -61,13 +61,13 @@ pub fn keep_two(
     let end = ke - kb;
     let kept = column_start(nb, c - kb);
     let source = column_start(nrow, c);
-    let other = column_start(nrow, t);
+    let second = column_start(nrow, t);
     let a = top + kept;
     let b = end + kept;
     let x = lo + source;
     let y = ke + source;
-    let u = lo + other;
-    let v = ke + other;
+    let u = lo + second;
+    let v = ke + second;
     kernels::combine(
         &mut mult[a..b],
         &panel[x..y],

@@ -11,7 +11,7 @@ use lib.ListN.{length, replicate, length-replicate}
 use lib.Ieee.{Float, lt}
 use Rattle.model.specs.Sizes.{mostColumns, mostRounds}
 use Rattle.model.specs.Scalar.{zeroF, isFinite}
-use Rattle.model.specs.Matrix.{view, bytes}
+use Rattle.model.specs.Matrix.{view, naturals}
 use Rattle.model.specs.Step.{pivotsOf}
 use Rattle.model.specs.Head.{State}
 use Rattle.model.specs.Factor.{Buffers, workLength, modeCheck, entryCheck, start}
@@ -26,8 +26,8 @@ use Rattle.model.proofs.Cases.{and-right}
 use Rattle.model.proofs.Entry.{second-sound, not-refused, passed}
 use Rattle.model.proofs.Recorded.{none-recorded}
 use Rattle.whole.specs.Whole.{WholeRun, wholePanelsOf}
-use Rattle.finish.specs.Buffers.{Begun}
-use Rattle.finish.proofs.Buffers.{bytes-zeros, begun-start}
+use Rattle.buffers.specs.Buffers.{Begun}
+use Rattle.buffers.proofs.Buffers.{bytes-zeros, begun-start}
 use Rattle.step.specs.Terms.{LimitPre}
 use Rattle.bunch_kaufman.specs.Terms.{NotedTo}
 use Rattle.panels.specs.Turn.{between}
@@ -98,12 +98,12 @@ run-is how nrow ncol w v r s t e f h =
 
 -- nothing is noted yet
 pub noted-none : (n : ℕ) (blocks partners : List ℕ) → blocks ≡ replicate n 0 → partners ≡ replicate mostColumns 0
-    → NotedTo 0 1 0 (bytes blocks) (bytes partners)
+    → NotedTo 0 1 0 (naturals blocks) (naturals partners)
 noted-none n blocks partners e f = record {
   few = omega arith;
-  pair = λ c h. absurd (omega (arith, ap (λ (g : ℕ → ℕ). g c) (ap bytes e ∙ bytes-zeros n)));
-  partner = λ c. omega (arith, ap (λ (g : ℕ → ℕ). g c) (ap bytes f ∙ bytes-zeros mostColumns));
-  recorded = none-recorded (bytes blocks) (bytes partners);
+  pair = λ c h. absurd (omega (arith, ap (λ (g : ℕ → ℕ). g c) (ap naturals e ∙ bytes-zeros n)));
+  partner = λ c. omega (arith, ap (λ (g : ℕ → ℕ). g c) (ap naturals f ∙ bytes-zeros mostColumns));
+  recorded = none-recorded (naturals blocks) (naturals partners);
 }
 
 -- the slices show the start
@@ -114,4 +114,4 @@ pub start-is : (c : Settings) (input : List Float) (b : Buffers) (panel d sub am
 start-is c input b panel d sub amounts blocks lifts order partners e w ld ls la p =
     let q = passed c input b e in
     begun-start input panel d sub amounts blocks partners lifts order (c .nrow) (c .ncol) w (ld ∙ q .lengths .d) (ls ∙ q .lengths .sub)
-    (la ∙ q .lengths .amounts) (ap bytes p ∙ bytes-zeros mostColumns)
+    (la ∙ q .lengths .amounts) (ap naturals p ∙ bytes-zeros mostColumns)

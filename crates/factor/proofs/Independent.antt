@@ -2,7 +2,7 @@
 -- marks: the law of the definitions with the contract of `factor` put into it. Assumes nothing.
 use mathlib.Core.Path.{_≡_, sym, _∙_, ap}
 use Prim.Native.Nat.{ℕ, _-_}
-use Rattle.model.specs.Matrix.{view, bytes}
+use Rattle.model.specs.Matrix.{view, naturals}
 use Rattle.model.specs.Factor.{Outcome, factorOf}
 use Rattle.model.specs.Independence.{Call, SameHead, SameTailRow}
 use Rattle.model.proofs.Independence.{tail-rows-steer-nothing}
@@ -30,14 +30,14 @@ module _ (x y : Call) (m : Made x) (n : Made y) where
     blocks = left-same (λ o. o .buffers .blocks) (λ o. o .buffers .blocks) (s .blocks);
     lifts = left-same (λ o. o .buffers .lifts) (λ o. o .buffers .lifts) (s .lifts);
     amounts = left-same (λ o. o .buffers .amounts) (λ o. o .buffers .amounts) (s .amounts);
-    order = λ k h. left-same (λ o. bytes (o .buffers .order) k) (λ o. bytes (o .buffers .order) k) (s .order k h);
+    order = λ k h. left-same (λ o. naturals (o .buffers .order) k) (λ o. naturals (o .buffers .order) k) (s .order k h);
     lower = λ i j h l. entry-same i j i (s .lower i j h l);
   }
 
   tail-left : (p q : ℕ) → SameTailRow x y p q → SameTailRowLeft x y m n p q
   tail-left p q s = record {
     row = λ j l. entry-same p j q (s .row j l);
-    mark = left-same (λ o. bytes (o .buffers .marks) (p - x .settings .ncol)) (λ o. bytes (o .buffers .marks) (q - y .settings .ncol)) (s .mark);
+    mark = left-same (λ o. naturals (o .buffers .marks) (p - x .settings .ncol)) (λ o. naturals (o .buffers .marks) (q - y .settings .ncol)) (s .mark);
   }
 
 pub factor-steered-by-head-alone : FactorSteeredByHeadAlone

@@ -7,7 +7,7 @@ use native.Mathlib.Omega.{arith}
 use lib.ListN.{length, replicate}
 use lib.Ieee.{Float}
 use Rattle.model.specs.Scalar.{zeroF}
-use Rattle.model.specs.Matrix.{Mat, view, vec, bytes}
+use Rattle.model.specs.Matrix.{Mat, view, vec, naturals}
 use Rattle.model.specs.Step.{Diagonals, diagonalsOf, Pivots, pivotsOf}
 use Rattle.model.specs.Head.{State, Run}
 use Rattle.model.specs.Inertia.{talliedOf, bytesFrom, checkBytes}
@@ -23,8 +23,8 @@ use Rattle.model.proofs.Accepted.{AtEnd, Kept, head-kept, bytes-sound}
 use Rattle.whole.specs.Whole.{ended}
 use Rattle.whole.proofs.Result.{Reached, run-ended, reached-pivots}
 use Rattle.scan.specs.Marks.{tailMarks}
-use Rattle.finish.specs.Result.{ResultPre}
-use Rattle.finish.proofs.Buffers.{zeros-same}
+use Rattle.buffers.specs.Result.{ResultPre}
+use Rattle.buffers.proofs.Buffers.{zeros-same}
 use Rattle.checks.proofs.Bytes.{bytes-paired}
 use Rattle.panels.specs.Turn.{between}
 use Rattle.panels.specs.Run.{runOf}
@@ -96,7 +96,7 @@ module _ (c : Settings) (input : List Float) (b : Buffers) (e : entryCheck c inp
         let same : last .pivots ≡ reach .state .pivots =
         reached-pivots (pivotingOf c) (c .nrow) (c .ncol) (c .nb) (view (c .nrow) input) last reach in
         let n : length (a .blocks) ≡ c .ncol = l .blocks ∙ checked .lengths .blocks in
-        ap (λ (m : ℕ). bytesFrom (bytes (a .blocks)) m m 0) n
+        ap (λ (m : ℕ). bytesFrom (naturals (a .blocks)) m m 0) n
         ∙ ap (λ (p : Pivots). bytesFrom (p .diagonals .blocks) (c .ncol) (c .ncol) 0) same
         ∙ bytes-sound (reach .state .pivots .diagonals .blocks) (c .ncol) (c .ncol) 0 (omega arith) (kept .recorded .paired)
 
@@ -117,11 +117,11 @@ module _ (c : Settings) (input : List Float) (b : Buffers) (e : entryCheck c inp
         let len = checked .lengths in
         accepted-outcome c input b e (a .panel) (a .d) (a .sub) (a .amounts) (replicate (length (a .work)) zeroF) (a .blocks) (a .lifts) (a .order)
         (tailMarks (view (c .nrow) (a .panel)) (c .ncol) (c .nrow) (c .ncol)) (w .partners) rounds
-        (talliedOf (length (a .d)) (vec (a .d)) (vec (a .sub)) (bytes (a .blocks)))
+        (talliedOf (length (a .d)) (vec (a .d)) (vec (a .sub)) (naturals (a .blocks)))
         ends g (l .panel ∙ len .panel) (l .d ∙ len .d) (l .sub ∙ len .sub) (l .amounts ∙ len .amounts)
         (l .blocks ∙ len .blocks) (l .lifts ∙ len .lifts) (l .order ∙ len .order)
         refl (ap (λ (n : ℕ). replicate n zeroF) (l .work))
-        (ap (λ (n : ℕ). talliedOf n (vec (a .d)) (vec (a .sub)) (bytes (a .blocks))) (l .d ∙ len .d))
+        (ap (λ (n : ℕ). talliedOf n (vec (a .d)) (vec (a .sub)) (naturals (a .blocks))) (l .d ∙ len .d))
     judged-call (check.the-variants.Refused x) g = outcome-zeros x a b (zeros a) refl l ∙ unsound-outcome c input b e last ends x g
 
     -- judged, it is the call's outcome

@@ -6,7 +6,7 @@ use native.Mathlib.Omega.{arith}
 use lib.ListN.{length, getD, replicate}
 use lib.Ieee.{Float, nan}
 use Rattle.model.specs.Scalar.{zeroF}
-use Rattle.model.specs.Matrix.{Row, Mat, view, vec, bytes, places, tabulate, columnMajor}
+use Rattle.model.specs.Matrix.{Row, Mat, view, vec, naturals, places, tabulate, columnMajor}
 use Rattle.model.specs.Step.{diagonalsOf, Pivots, pivotsOf}
 use Rattle.model.specs.Head.{State}
 use Rattle.model.specs.Inertia.{talliedOf}
@@ -22,7 +22,7 @@ use Rattle.model.proofs.Entry.{Passed, passed, past-entry}
 use Rattle.whole.specs.Whole.{WholeRun, stoppedBy, ended, wholePanelsOf}
 use Rattle.whole.proofs.Result.{Reached, run-stopped, run-ended, reached-answer, reached-entry, reached-mark, reached-pivots, reached-rounds}
 use Rattle.scan.specs.Marks.{tailMarks}
-use Rattle.finish.specs.Buffers.{buffersOf}
+use Rattle.buffers.specs.Buffers.{buffersOf}
 use Rattle.panels.specs.Turn.{between}
 use Rattle.factor.specs.Judge.{acceptOf}
 
@@ -32,8 +32,8 @@ vec-tabulate : (n : ℕ) (xs : List Float) (f : Row) → length xs ≡ n → vec
 unfolding vec
 vec-tabulate n xs f l e = is-tabulate n f nan xs l (λ k h. ap (λ (g : Row). g k) e)
 
-bytes-tabulate : (n : ℕ) (xs : List ℕ) (f : ℕ → ℕ) → length xs ≡ n → bytes xs ≡ f → xs ≡ tabulate n f
-unfolding bytes
+bytes-tabulate : (n : ℕ) (xs : List ℕ) (f : ℕ → ℕ) → length xs ≡ n → naturals xs ≡ f → xs ≡ tabulate n f
+unfolding naturals
 bytes-tabulate n xs f l e = is-tabulate n f 0 xs l (λ k h. ap (λ (g : ℕ → ℕ). g k) e)
 
 -- within the list its default plays no part
@@ -103,7 +103,7 @@ module _ (c : Settings) (input : List Float) (b : Buffers) (e : entryCheck c inp
       → length panel ≡ c .nrow * c .ncol → length d ≡ c .ncol → length sub ≡ c .ncol → length amounts ≡ c .ncol
       → length blocks ≡ c .ncol → length lifts ≡ c .ncol → length order ≡ c .nrow
       → marks ≡ tabulate (c .nrow - c .ncol) (λ i. markOf (c .ncol) (view (c .nrow) panel (c .ncol + i)))
-      → work ≡ replicate (length (b .work)) zeroF → tally ≡ talliedOf (c .ncol) (vec d) (vec sub) (bytes blocks)
+      → work ≡ replicate (length (b .work)) zeroF → tally ≡ talliedOf (c .ncol) (vec d) (vec sub) (naturals blocks)
       → acceptedWith rounds tally (buffersOf panel d sub blocks lifts amounts order marks work) ≡ factorOf c input b
   accepted-outcome panel d sub amounts work blocks lifts order marks partners rounds tally s h lp ld ls la lb ll lo em ew et =
       let t = between (c .nrow) panel (pivotsOf d sub blocks partners lifts amounts order) rounds in
@@ -134,7 +134,7 @@ module _ (c : Settings) (input : List Float) (b : Buffers) (e : entryCheck c inp
 -- ---- the accepted outcome by its parts
 pub accept-is : (nrow ncol rounds : ℕ) (b : Buffers) (marks : List ℕ) (work : List Float) (t : Tally)
     → marks ≡ tailMarks (view nrow (b .panel)) ncol nrow ncol → work ≡ replicate (length (b .work)) zeroF
-    → t ≡ talliedOf (length (b .d)) (vec (b .d)) (vec (b .sub)) (bytes (b .blocks))
+    → t ≡ talliedOf (length (b .d)) (vec (b .d)) (vec (b .sub)) (naturals (b .blocks))
     → acceptedWith rounds t (buffersOf (b .panel) (b .d) (b .sub) (b .blocks) (b .lifts) (b .amounts) (b .order) marks work)
     ≡ acceptOf nrow ncol rounds b
 accept-is nrow ncol rounds b marks work t em ew et = rw (em, ew, et)

@@ -2,7 +2,7 @@
 -- so that nobody has to connect the two by hand. proofs/Independent.antt proves `FactorSteeredByHeadAlone`. Definitions only. Assumes nothing.
 use mathlib.Core.Path.{_≡_}
 use Prim.Native.Nat.{ℕ, _-_, _≤_, _<_}
-use Rattle.model.specs.Matrix.{view, bytes}
+use Rattle.model.specs.Matrix.{view, naturals}
 use Rattle.model.specs.Factor.{Buffers, factorOf}
 use Rattle.model.specs.Answer.{factoredSays}
 use Rattle.model.specs.Independence.{Call, PastEntry, Alike, SameInput}
@@ -23,13 +23,13 @@ pub record SameHeadLeft (x y : Call) (m : Made x) (n : Made y) : Type 0 where
   pub blocks : m .left .blocks ≡ n .left .blocks
   pub lifts : m .left .lifts ≡ n .left .lifts
   pub amounts : m .left .amounts ≡ n .left .amounts
-  pub order : (k : ℕ) → k < x .settings .ncol → bytes (m .left .order) k ≡ bytes (n .left .order) k
+  pub order : (k : ℕ) → k < x .settings .ncol → naturals (m .left .order) k ≡ naturals (n .left .order) k
   pub lower : (i j : ℕ) → j ≤ i → i < x .settings .ncol → view (x .settings .nrow) (m .left .panel) i j ≡ view (y .settings .nrow) (n .left .panel) i j
 
 -- the same factor row and the same mark of row p of the one and row q of the other
 pub record SameTailRowLeft (x y : Call) (m : Made x) (n : Made y) (p q : ℕ) : Type 0 where
   pub row : (j : ℕ) → j < x .settings .ncol → view (x .settings .nrow) (m .left .panel) p j ≡ view (y .settings .nrow) (n .left .panel) q j
-  pub mark : bytes (m .left .marks) (p - x .settings .ncol) ≡ bytes (n .left .marks) (q - y .settings .ncol)
+  pub mark : naturals (m .left .marks) (p - x .settings .ncol) ≡ naturals (n .left .marks) (q - y .settings .ncol)
 
 abbrev pub FactorSteeredByHeadAlone : Type 0
 FactorSteeredByHeadAlone =

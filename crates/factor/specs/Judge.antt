@@ -5,7 +5,7 @@ use Prim.Native.Nat.{ℕ, _+_, _-_, _*_, _<_, _≤_, min, max}
 use lib.ListN.{length, replicate}
 use lib.Ieee.{Float}
 use Rattle.model.specs.Scalar.{zeroF}
-use Rattle.model.specs.Matrix.{view, vec, bytes}
+use Rattle.model.specs.Matrix.{view, vec, naturals}
 use Rattle.model.specs.Step.{diagonalsOf, pivotsOf}
 use Rattle.model.specs.Inertia.{empty, talliedOf, checkBytes}
 use Rattle.model.specs.Factor.{pivotingOf, Buffers, Outcome, start, resultCheck, zeros, entryCheck}
@@ -33,7 +33,7 @@ refusalOf (Done rounds) = Accepted (record { rounds = rounds; inertia = empty })
 -- accepted: the numbers stand, the marks are set, the working buffer is cleared
 abbrev pub acceptOf : ℕ → ℕ → ℕ → Buffers → Outcome
 acceptOf nrow ncol rounds b = record {
-  answer = accepted (record { rounds = rounds; inertia = talliedOf (length (b .d)) (vec (b .d)) (vec (b .sub)) (bytes (b .blocks)) });
+  answer = accepted (record { rounds = rounds; inertia = talliedOf (length (b .d)) (vec (b .d)) (vec (b .sub)) (naturals (b .blocks)) });
   buffers = record {
     panel = b .panel;
     d = b .d;

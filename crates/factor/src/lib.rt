@@ -9,7 +9,7 @@ ghost use Rattle.model.specs.Matrix.{view};
 ghost use Rattle.model.specs.Factor.{entryCheck, factorOf};
 ghost use Rattle.model.specs.declared.Check.the-variants.{Sound};
 ghost use Rattle.scan.specs.Finite.{KnownFinite};
-ghost use Rattle.finish.specs.Buffers.{buffersOf};
+ghost use Rattle.buffers.specs.Buffers.{buffersOf};
 ghost use Rattle.factor.specs.Judge.{outcomeOf, refusalOf, acceptOf, judgeOf, Eliminated, JudgePre};
 use bunch_kaufman::Ran;
 use model::COLUMNS_MAX;
@@ -55,7 +55,7 @@ fn eliminate(
     ensures { λ r. ⌜ Eliminated c (now (input .entry)) r (now (panel .exit)) (now (d .exit)) (now (sub .exit))
         (now (blocks .exit)) (now (lifts .exit)) (now (amounts .exit)) (now (order .exit)) ⌝ }
 {
-    finish::begin(input, panel, d, sub, blocks, lifts, amounts, order);
+    buffers::begin(input, panel, d, sub, blocks, lifts, amounts, order);
     let mut partners = [0u16; COLUMNS_MAX];
     let nb = width(c.nb, c.ncol);
     let mode = c.mode;
@@ -135,9 +135,9 @@ fn judge(
         (now (work .entry))) ⌝ }
 {
     let finite = scan::known_finite(panel, c.ncol, c.nrow);
-    let found = finish::first_unsound(panel, d, sub, blocks, c.nrow, c.ncol, finite);
+    let found = buffers::first_unsound(panel, d, sub, blocks, c.nrow, c.ncol, finite);
     if let Check::Refused(r) = found {
-        finish::zero_all(panel, d, sub, blocks, lifts, amounts, order, marks, work);
+        buffers::zero_all(panel, d, sub, blocks, lifts, amounts, order, marks, work);
         return Factored::Refused(r);
     }
     accept(
@@ -209,7 +209,7 @@ fn run(
         work,
     );
     let Ran::Done(rounds) = ran else {
-        finish::zero_all(panel, d, sub, blocks, lifts, amounts, order, marks, work);
+        buffers::zero_all(panel, d, sub, blocks, lifts, amounts, order, marks, work);
         return refusal(ran);
     };
     judge(

@@ -8,7 +8,7 @@ use lib.Dec.{eqb, leb}
 use lib.ListN.{length}
 use lib.Ieee.{Float}
 use Rattle.model.specs.Sizes.{mostColumns}
-use Rattle.model.specs.Matrix.{vec, bytes}
+use Rattle.model.specs.Matrix.{vec, naturals}
 use Rattle.model.specs.Inertia.{checkBytes, inertiaCheck, talliedOf, inertiaOf}
 use Rattle.model.specs.Answer.{refuseIf, accepted, turnedAway}
 use Rattle.model.specs.declared.Refusal.{Refusal}
@@ -33,7 +33,7 @@ module _ (d sub : List Float) (blocks : List ℕ) (k : Check) (e : k ≡ inertia
         check = second-sound (refuseIf (not lists) InertiaLength) (checkBytes blocks) pass;
       }
 
-  pub inertia-counts : (t : Tally) → k ≡ Sound → t ≡ talliedOf (length d) (vec d) (vec sub) (bytes blocks) → accepted t ≡ inertiaOf d sub blocks
+  pub inertia-counts : (t : Tally) → k ≡ Sound → t ≡ talliedOf (length d) (vec d) (vec sub) (naturals blocks) → accepted t ≡ inertiaOf d sub blocks
   unfolding inertiaOf
   inertia-counts t h c = rw (← e, h, c)
 

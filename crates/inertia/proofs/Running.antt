@@ -8,7 +8,7 @@ use lib.Dec.{ltb}
 use lib.ListN.{length}
 use lib.Ieee.{Float, lt, le}
 use Rattle.model.specs.Scalar.{_⊕_, zeroF}
-use Rattle.model.specs.Matrix.{Row, bytes}
+use Rattle.model.specs.Matrix.{Row, naturals}
 use Rattle.model.specs.Step.{begins, pastOf, blockAt, diagonalAt}
 use Rattle.model.specs.Inertia.{oneCounted, twoCounted, pivotCounted, talliedFrom}
 use Rattle.model.specs.declared.Block.{Block}
@@ -46,11 +46,11 @@ pivot-pre ds subs bs k w h = record {
   next = λ o. omega (arith, w .blocks, bytes-paired bs (w .check) .room k (omega (arith, w .blocks)) o);
 }
 
-pub past-within : (ds subs : List Float) (bs : List ℕ) (k l : ℕ) → TallyPre ds subs bs → k < length ds → l ≡ pastOf (bytes bs) k → l ≤ length ds
+pub past-within : (ds subs : List Float) (bs : List ℕ) (k l : ℕ) → TallyPre ds subs bs → k < length ds → l ≡ pastOf (naturals bs) k → l ≤ length ds
 unfolding pastOf
 past-within ds subs bs k l w h e =
-    test (begins (bytes bs) k)
-    (λ t. let r : k + 1 < length ds = pivot-pre ds subs bs k w h .next (eqb-true (bytes bs k) 1 t) in rw (e, t) (omega arith))
+    test (begins (naturals bs) k)
+    (λ t. let r : k + 1 < length ds = pivot-pre ds subs bs k w h .next (eqb-true (naturals bs k) 1 t) in rw (e, t) (omega arith))
     (λ t. rw (e, t) (omega arith))
 
 -- the column after the pivot at k

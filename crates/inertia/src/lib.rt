@@ -3,7 +3,7 @@
 // included, and on `inertia` answering any three lists: it refuses, or it counts.
 ghost use mathlib.Core.Path.{_≡_};
 ghost use lib.ListN.{length};
-ghost use Rattle.model.specs.Matrix.{vec, bytes};
+ghost use Rattle.model.specs.Matrix.{vec, naturals};
 ghost use Rattle.model.specs.Answer.{countedSays};
 ghost use Rattle.model.specs.Inertia.{more, oneCounted, twoCounted, talliedOf};
 ghost use Rattle.model.specs.Inertia.{inertiaCheck, inertiaOf};
@@ -105,7 +105,7 @@ fn tallied(t: Tally, p: Diagonal) -> Tally
 pub fn tally(d: &[f64], sub: &[f64], blocks: &[u8]) -> Tally
     requires { ⌜ TallyPre (now d) (now sub) (now blocks) ⌝ }
     ensures { λ r. ⌜ r ≡ talliedOf (length (now (d .entry)))
-        (vec (now (d .entry))) (vec (now (sub .entry))) (bytes (now (blocks .entry))) ⌝ }
+        (vec (now (d .entry))) (vec (now (sub .entry))) (naturals (now (blocks .entry))) ⌝ }
 {
     let mut t = Tally {
         positive: 0,

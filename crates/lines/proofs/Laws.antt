@@ -7,7 +7,7 @@ use native.Mathlib.Omega.{arith}
 use borrow.Author.Tests.{lt-ltb, le-ltb}
 use lib.ListN.{length, getD}
 use lib.Ieee.{Float, nan, binary64, toBits}
-use Rattle.model.specs.Matrix.{view, vec, bytes}
+use Rattle.model.specs.Matrix.{view, vec, naturals}
 use Rattle.model.specs.declared.Tally.{Tally}
 use Rattle.text.specs.Text.{word, decimalOf, hexOf, Writes}
 use Rattle.text.proofs.Laws.{writes-none, writes-then}
@@ -87,13 +87,13 @@ module _ {xs ys : List ℕ} {at r : ℕ} where
 
     pub places-step : (order : List ℕ) (i : ℕ) → Writes xs at (each (orderField order) i) ys r → Writes ys r (field (getD order i 0)) zs s
         → Writes xs at (each (orderField order) (i + 1)) zs s
-    unfolding orderField bytes
+    unfolding orderField naturals
     places-step order i v w = each-step (orderField order) i v w
 
     pub pivots-step : (d sub amounts : List Float) (blocks lifts : List ℕ) (k : ℕ) → Writes xs at (each (pivotAt d sub blocks lifts amounts) k) ys r
         → Writes ys r (pivotLine k (getD blocks k 0) (getD d k nan) (getD sub k nan) (getD lifts k 0) (getD amounts k nan)) zs s
         → Writes xs at (each (pivotAt d sub blocks lifts amounts) (k + 1)) zs s
-    unfolding pivotAt vec bytes
+    unfolding pivotAt vec naturals
     pivots-step d sub amounts blocks lifts k v w = each-step (pivotAt d sub blocks lifts amounts) k v w
 
     pub entries-step : (nrow : ℕ) (panel : List Float) (i j : ℕ) (x : Float) → x ≡ view nrow panel i j → Writes xs at (each (entryField nrow panel i) j) ys r
@@ -109,5 +109,5 @@ mark-none xs at ncol marks i h l = rw (lt-ltb i ncol h) (writes-none xs at (omeg
 
 pub mark-some : {xs ys : List ℕ} {at r : ℕ} (ncol : ℕ) (marks : List ℕ) (i : ℕ) → ncol ≤ i → Writes xs at (field (getD marks (i - ncol) 0)) ys r
     → Writes xs at (markField ncol marks i) ys r
-unfolding markField bytes
+unfolding markField naturals
 mark-some ncol marks i h w = rw (le-ltb i ncol h) w

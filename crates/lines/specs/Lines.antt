@@ -6,7 +6,7 @@ use Prim.Native.Nat.{ℕ, zero, suc, _-_}
 use lib.Dec.{ltb}
 use lib.ListN.{length}
 use lib.Ieee.{Float, binary64, toBits}
-use Rattle.model.specs.Matrix.{view, vec, bytes}
+use Rattle.model.specs.Matrix.{view, vec, naturals}
 use Rattle.model.specs.declared.Tally.{Tally}
 use Rattle.text.specs.Text.{word, decimalOf, hexOf}
 
@@ -43,7 +43,7 @@ acceptedLine rounds = word "accepted rounds" ++ field rounds ++ newline
 
 -- one of the order's places
 unfoldable pub orderField : List ℕ → ℕ → List ℕ
-orderField order i = field (bytes order i)
+orderField order i = field (naturals order i)
 
 unfoldable pub orderLine : List ℕ → List ℕ
 orderLine order = word "order" ++ each (orderField order) (length order) ++ newline
@@ -54,7 +54,7 @@ pivotLine k block d sub lift amount =
     word "pivot" ++ field k ++ field block ++ number d ++ number sub ++ field lift ++ number amount ++ newline
 
 unfoldable pub pivotAt : (d sub : List Float) → (blocks lifts : List ℕ) → (amounts : List Float) → ℕ → List ℕ
-pivotAt d sub blocks lifts amounts k = pivotLine k (bytes blocks k) (vec d k) (vec sub k) (bytes lifts k) (vec amounts k)
+pivotAt d sub blocks lifts amounts k = pivotLine k (naturals blocks k) (vec d k) (vec sub k) (naturals lifts k) (vec amounts k)
 
 -- 'positive, negative, zero'
 unfoldable pub inertiaLine : Tally → List ℕ
@@ -66,7 +66,7 @@ entryField nrow panel i j = number (view nrow panel i j)
 
 -- a tail row's mark, which ends its line: a head row has none
 unfoldable pub markField : (ncol : ℕ) → List ℕ → ℕ → List ℕ
-markField ncol marks i = cond (ltb i ncol) [] (field (bytes marks (i - ncol)))
+markField ncol marks i = cond (ltb i ncol) [] (field (naturals marks (i - ncol)))
 
 -- its number, its columns, and a tail row's mark
 unfoldable pub rowLine : (nrow ncol : ℕ) → List Float → List ℕ → ℕ → List ℕ

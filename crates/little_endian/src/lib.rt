@@ -9,7 +9,7 @@ ghost use Rattle.little_endian.specs.LittleEndian.{le16, le32, le64, num
 
 // ---- whole numbers
 
-fn wide(byte: u8) -> u64
+fn byte_value(byte: u8) -> u64
     ensures { λ r. ⌜ (r ≡ byte) × (r < 0x100) ⌝ }
 {
     byte as u64
@@ -19,7 +19,7 @@ pub fn u16_at(s: &[u8], at: usize) -> u64
     requires { ⌜ at + 2 ≤ length (now s) ⌝ }
     ensures { λ r. ⌜ (r ≡ le16 (now (s .entry)) at) × (r < 0x1_0000) ⌝ }
 {
-    wide(s[at]) + 0x100 * wide(s[at + 1])
+    byte_value(s[at]) + 0x100 * byte_value(s[at + 1])
 }
 
 pub fn u32_at(s: &[u8], at: usize) -> u64

@@ -8,7 +8,7 @@ use native.Mathlib.Omega.{arith}
 use borrow.Author.Tests.{le-leb, ne-eqb, eqb-true, ltb-true, ltb-false}
 use lib.Dec.{ltb, eqb}
 use lib.ListN.{length}
-use Rattle.model.specs.Matrix.{Mat, view, headOf, bytes, exchangedPlace, swapped, tabulate}
+use Rattle.model.specs.Matrix.{Mat, view, headOf, naturals, exchangedPlace, swapped, tabulate}
 use Rattle.model.specs.Step.{Pivots, isBlock}
 use Rattle.model.specs.Kept.{Paired, Recorded}
 use Rattle.model.specs.Panel.{Panel}
@@ -184,13 +184,13 @@ accepted-leaves x w =
 -- a permutation of 0 .. nrow - 1 that leaves the tail in place
 pub record Ordered (ncol nrow : ℕ) (order : List ℕ) : Type 0 where
   pub all : length order ≡ nrow
-  pub inside : (i : ℕ) → i < nrow → bytes order i < nrow
-  pub distinct : (i j : ℕ) → i < nrow → j < nrow → bytes order i ≡ bytes order j → i ≡ j
-  pub tail : (i : ℕ) → ncol ≤ i → i < nrow → bytes order i ≡ i
+  pub inside : (i : ℕ) → i < nrow → naturals order i < nrow
+  pub distinct : (i j : ℕ) → i < nrow → j < nrow → naturals order i ≡ naturals order j → i ≡ j
+  pub tail : (i : ℕ) → ncol ≤ i → i < nrow → naturals order i ≡ i
 
 -- a list made of such a permutation is one
 pub ordered : (ncol nrow : ℕ) (f : ℕ → ℕ) → ncol ≤ nrow → Permutes ncol f → Ordered ncol nrow (tabulate nrow f)
-unfolding bytes
+unfolding naturals
 ordered ncol nrow f l w = record {
   all = length-tabulateFrom 0 nrow f;
   inside = λ i h. subst (λ (v : ℕ). v < nrow) (sym (getD-tabulate nrow i f 0 h)) (within i h);
@@ -232,8 +232,8 @@ bytes-sound f n zero k h w = refl
 bytes-sound f n (suc m) k h w = rw (sound-at f n k w (omega arith)) (bytes-sound f n m (k + 1) (omega arith) w)
 
 -- a list made of well-formed bytes holds them
-pub tabulated-paired : (n : ℕ) (f : ℕ → ℕ) → Paired n f → Paired n (bytes (tabulate n f))
-unfolding bytes
+pub tabulated-paired : (n : ℕ) (f : ℕ → ℕ) → Paired n f → Paired n (naturals (tabulate n f))
+unfolding naturals
 tabulated-paired n f w = record {
   byte = λ c h. subst (λ (v : ℕ). v ≤ 1) (sym (getD-tabulate n c f 0 h)) (w .byte c h);
   room = λ c h e. w .room c h (sym (getD-tabulate n c f 0 h) ∙ e);
@@ -246,5 +246,5 @@ accepted-bytes x w =
     let n = x .settings .ncol in
     let f = w .state .pivots .diagonals .blocks in
     ap (λ (o : Outcome). checkBytes (o .buffers .blocks)) (accepted-leaves x w)
-    ∙ ap (λ (m : ℕ). bytesFrom (bytes (tabulate n f)) m m 0) (length-tabulateFrom 0 n f)
-    ∙ bytes-sound (bytes (tabulate n f)) n n 0 (omega arith) (tabulated-paired n f (accepted-kept x w .recorded .paired))
+    ∙ ap (λ (m : ℕ). bytesFrom (naturals (tabulate n f)) m m 0) (length-tabulateFrom 0 n f)
+    ∙ bytes-sound (naturals (tabulate n f)) n n 0 (omega arith) (tabulated-paired n f (accepted-kept x w .recorded .paired))

@@ -9,7 +9,7 @@ use lib.Dec.{leb, ltb}
 use lib.ListN.{length, replicate, getD-replicate}
 use lib.Ieee.{Float, nan}
 use Rattle.model.specs.Scalar.{zeroF}
-use Rattle.model.specs.Matrix.{Row, Mat, view, bytes, headOf, rowOf, tabulate}
+use Rattle.model.specs.Matrix.{Row, Mat, view, naturals, headOf, rowOf, tabulate}
 use Rattle.model.specs.Panel.{Panel}
 use Rattle.model.specs.Head.{State}
 use Rattle.model.specs.Factor.{pivotingOf, Buffers, Outcome, HeadAnswer, fails, stands, headRunOf, headAnswerOf, factorRowOf, markOf, factorEntry, reportOf, afterHead}
@@ -58,13 +58,13 @@ unfolding view
 view-zeros n c len e i j hi hj = rw (lt-ltb i n hi) (getD-replicate len (i + j * n) zeroF nan (omega (arith, off-lt n c i j hi hj)))
 
 -- a list of zeros, at a place
-pub bytes-zeros : (n len : ℕ) → len ≡ n → (k : ℕ) → k < n → bytes (replicate len 0) k ≡ 0
-unfolding bytes
+pub bytes-zeros : (n len : ℕ) → len ≡ n → (k : ℕ) → k < n → naturals (replicate len 0) k ≡ 0
+unfolding naturals
 bytes-zeros n len e k h = getD-replicate len k 0 0 (omega arith)
 
 -- a tabulated list, at a place
-pub bytes-tabulate : (n k : ℕ) (f : ℕ → ℕ) → k < n → bytes (tabulate n f) k ≡ f k
-unfolding bytes
+pub bytes-tabulate : (n k : ℕ) (f : ℕ → ℕ) → k < n → naturals (tabulate n f) k ≡ f k
+unfolding naturals
 bytes-tabulate n k f h = getD-tabulate n k f 0 h
 
 -- an entry of the head's lower triangle is the state's
@@ -107,27 +107,27 @@ panel-stands z s ps e i j h l =
 
 -- place k of its order where it fails
 pub order-fails : (z : Call) (pz : PassedCall z) (r : Refusal) → outcomeOf z ≡ leftBy (fails r) z → (k : ℕ) → k < z .settings .nrow
-    → bytes (outcomeOf z .buffers .order) k ≡ 0
+    → naturals (outcomeOf z .buffers .order) k ≡ 0
 order-fails z pz r e k l =
-    ap (λ (o : Outcome). bytes (o .buffers .order) k) e ∙ bytes-zeros (z .settings .nrow) (length (z .lent .order)) (pz .lengths .order) k l
+    ap (λ (o : Outcome). naturals (o .buffers .order) k) e ∙ bytes-zeros (z .settings .nrow) (length (z .lent .order)) (pz .lengths .order) k l
 
 -- the same where it stands: the state's order
 pub order-stands : (z : Call) (s : State) (ps : List Panel) → outcomeOf z ≡ leftBy (stands s ps) z → (k : ℕ) → k < z .settings .nrow
-    → bytes (outcomeOf z .buffers .order) k ≡ s .pivots .notes .order k
-order-stands z s ps e k l = ap (λ (o : Outcome). bytes (o .buffers .order) k) e ∙ bytes-tabulate (z .settings .nrow) k (s .pivots .notes .order) l
+    → naturals (outcomeOf z .buffers .order) k ≡ s .pivots .notes .order k
+order-stands z s ps e k l = ap (λ (o : Outcome). naturals (o .buffers .order) k) e ∙ bytes-tabulate (z .settings .nrow) k (s .pivots .notes .order) l
 
 -- the mark of tail row q where it fails
 pub mark-fails : (z : Call) (pz : PassedCall z) (r : Refusal) → outcomeOf z ≡ leftBy (fails r) z → (q : ℕ) → z .settings .ncol ≤ q → q < z .settings .nrow
-    → bytes (outcomeOf z .buffers .marks) (q - z .settings .ncol) ≡ 0
+    → naturals (outcomeOf z .buffers .marks) (q - z .settings .ncol) ≡ 0
 mark-fails z pz r e q h l =
-    ap (λ (o : Outcome). bytes (o .buffers .marks) (q - z .settings .ncol)) e
+    ap (λ (o : Outcome). naturals (o .buffers .marks) (q - z .settings .ncol)) e
     ∙ bytes-zeros (z .settings .nrow - z .settings .ncol) (length (z .lent .marks)) (pz .lengths .marks) (q - z .settings .ncol) (omega arith)
 
 -- the same where it stands: the mark of its factor row
 pub mark-stands : (z : Call) (s : State) (ps : List Panel) → outcomeOf z ≡ leftBy (stands s ps) z → (q : ℕ) → z .settings .ncol ≤ q → q < z .settings .nrow
-    → bytes (outcomeOf z .buffers .marks) (q - z .settings .ncol) ≡ markOf (z .settings .ncol) (factorRowOf (z .settings .ncol) ps (given z q))
+    → naturals (outcomeOf z .buffers .marks) (q - z .settings .ncol) ≡ markOf (z .settings .ncol) (factorRowOf (z .settings .ncol) ps (given z q))
 mark-stands z s ps e q h l =
-    ap (λ (o : Outcome). bytes (o .buffers .marks) (q - z .settings .ncol)) e
+    ap (λ (o : Outcome). naturals (o .buffers .marks) (q - z .settings .ncol)) e
     ∙ bytes-tabulate (z .settings .nrow - z .settings .ncol) (q - z .settings .ncol) (λ i. markOf (z .settings .ncol) (factorRowOf (z .settings .ncol) ps (given z (z .settings .ncol + i)))) (omega arith)
     ∙ ap (λ (i : ℕ). markOf (z .settings .ncol) (factorRowOf (z .settings .ncol) ps (given z i))) (omega arith)
 

@@ -6,7 +6,7 @@ use lib.Dec.{leb, ltb, eqb}
 use lib.ListN.{length}
 use lib.Ieee.{Float}
 use Rattle.model.specs.Scalar.{_⊕_, isFinite}
-use Rattle.model.specs.Matrix.{Row, Mat, view, vec, bytes, columnMajor}
+use Rattle.model.specs.Matrix.{Row, Mat, view, vec, naturals, columnMajor}
 use Rattle.model.specs.Factor.{shapeSound}
 use Rattle.model.specs.Answer.{Said, accepted, orElse, refuseIf, turnedAway}
 use Rattle.model.specs.declared.Refusal.{Refusal}
@@ -39,7 +39,7 @@ placeSound ncol nrow rows cols k = ltb (rows k) nrow && (ltb (cols k) ncol && le
 unfoldable pub assemblyCheck : ℕ → ℕ → Entries → List Float → Check
 assemblyCheck ncol nrow es panel =
     orElse (refuseIf (not (entriesSound ncol nrow es panel)) AssemblyLength)
-    (orElse (firstNot (placeSound ncol nrow (bytes (es .rows)) (bytes (es .cols))) AssemblyPlace (length (es .rows)) 0)
+    (orElse (firstNot (placeSound ncol nrow (naturals (es .rows)) (naturals (es .cols))) AssemblyPlace (length (es .rows)) 0)
     (firstNot (λ k. isFinite (vec (es .numbers) k)) AssemblyNumber (length (es .rows)) 0))
 
 -- a with v added at row i, column j
@@ -64,5 +64,5 @@ unfoldable pub assemblyOf : ℕ → ℕ → Entries → List Float → Panelled
 assemblyOf ncol nrow es panel =
     let new =
     columnMajor nrow ncol
-    (assembledFrom (bytes (es .rows)) (bytes (es .cols)) (vec (es .numbers)) (length (es .rows)) 0 (view nrow panel)) in
+    (assembledFrom (naturals (es .rows)) (naturals (es .cols)) (vec (es .numbers)) (length (es .rows)) 0 (view nrow panel)) in
     panelAfter (assemblyCheck ncol nrow es panel) new panel

@@ -141,7 +141,7 @@ tryOf ke a mult how k = tryBy ke a mult (how .mode) (how .limit) k (chooseOf a k
 
 -- its last column
 unfoldable pub lastOf : ℕ → Bool → ℕ
-lastOf k wide = cond wide (k + 1) k
+lastOf k block = cond block (k + 1) k
 
 abbrev pub byteOf : Bool → ℕ
 byteOf b = cond b 1 0

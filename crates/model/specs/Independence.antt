@@ -12,7 +12,7 @@ use mathlib.Core.Path.{_≡_}
 use mathlib.Core.List.{List}
 use Prim.Native.Nat.{ℕ, _-_, _≤_, _<_}
 use lib.Ieee.{Float}
-use Rattle.model.specs.Matrix.{view, bytes}
+use Rattle.model.specs.Matrix.{view, naturals}
 use Rattle.model.specs.Factor.{Buffers, Outcome, entryCheck, factorOf}
 use Rattle.model.specs.declared.Check.the-variants.{Sound}
 use Rattle.model.specs.declared.Settings.{Settings}
@@ -47,7 +47,7 @@ pub record SameHead (x y : Call) : Type 0 where
   pub blocks : outcomeOf x .buffers .blocks ≡ outcomeOf y .buffers .blocks
   pub lifts : outcomeOf x .buffers .lifts ≡ outcomeOf y .buffers .lifts
   pub amounts : outcomeOf x .buffers .amounts ≡ outcomeOf y .buffers .amounts
-  pub order : (k : ℕ) → k < x .settings .ncol → bytes (outcomeOf x .buffers .order) k ≡ bytes (outcomeOf y .buffers .order) k
+  pub order : (k : ℕ) → k < x .settings .ncol → naturals (outcomeOf x .buffers .order) k ≡ naturals (outcomeOf y .buffers .order) k
   pub lower : (i j : ℕ) → j ≤ i → i < x .settings .ncol
       → view (x .settings .nrow) (outcomeOf x .buffers .panel) i j ≡ view (y .settings .nrow) (outcomeOf y .buffers .panel) i j
 
@@ -63,7 +63,7 @@ pub record SameInput (x y : Call) (p q : ℕ) : Type 0 where
 pub record SameTailRow (x y : Call) (p q : ℕ) : Type 0 where
   pub row : (j : ℕ) → j < x .settings .ncol
       → view (x .settings .nrow) (outcomeOf x .buffers .panel) p j ≡ view (y .settings .nrow) (outcomeOf y .buffers .panel) q j
-  pub mark : bytes (outcomeOf x .buffers .marks) (p - x .settings .ncol) ≡ bytes (outcomeOf y .buffers .marks) (q - y .settings .ncol)
+  pub mark : naturals (outcomeOf x .buffers .marks) (p - x .settings .ncol) ≡ naturals (outcomeOf y .buffers .marks) (q - y .settings .ncol)
 
 abbrev pub TailRowsSteerNothing : Type 0
 TailRowsSteerNothing =

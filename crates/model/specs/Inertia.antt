@@ -8,7 +8,7 @@ use lib.ListN.{length}
 use lib.Ieee.{Float, lt, le}
 use Rattle.model.specs.Sizes.{mostColumns}
 use Rattle.model.specs.Scalar.{_⊕_, zeroF}
-use Rattle.model.specs.Matrix.{Row, vec, bytes}
+use Rattle.model.specs.Matrix.{Row, vec, naturals}
 use Rattle.model.specs.Step.{begins, pastOf, blockAt}
 use Rattle.model.specs.Answer.{Said, accepted, orElse, refuseIf, turnedAway}
 use Rattle.model.specs.declared.Block.{Block}
@@ -65,7 +65,7 @@ bytesFrom blocks n (suc m) k =
     cond (byteSound blocks n k) rest (Refused (BlockByte (record { 0 = k })))
 
 abbrev pub checkBytes : List ℕ → Check
-checkBytes blocks = bytesFrom (bytes blocks) (length blocks) (length blocks) 0
+checkBytes blocks = bytesFrom (naturals blocks) (length blocks) (length blocks) 0
 
 -- refusal 19, then 16
 unfoldable pub inertiaCheck : List Float → List Float → List ℕ → Check
@@ -78,4 +78,4 @@ inertiaSays (Refused r) t = turnedAway r
 
 -- what the call answers
 unfoldable pub inertiaOf : List Float → List Float → List ℕ → Said Tally
-inertiaOf d sub blocks = inertiaSays (inertiaCheck d sub blocks) (talliedOf (length d) (vec d) (vec sub) (bytes blocks))
+inertiaOf d sub blocks = inertiaSays (inertiaCheck d sub blocks) (talliedOf (length d) (vec d) (vec sub) (naturals blocks))

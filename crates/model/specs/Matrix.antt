@@ -28,8 +28,8 @@ view n xs = λ i j. cond (ltb i n) (getD xs (i + columnStart n j) nan) nan
 unfoldable pub vec : List Float → Row
 vec xs = λ i. getD xs i nan
 
-unfoldable pub bytes : List ℕ → ℕ → ℕ
-bytes xs = λ i. getD xs i 0
+unfoldable pub naturals : List ℕ → ℕ → ℕ
+naturals xs = λ i. getD xs i 0
 
 unfoldable pub places : List ℕ → ℕ → ℕ
 places xs = λ i. getD xs i i

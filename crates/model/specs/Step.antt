@@ -6,7 +6,7 @@ use Prim.Native.Nat.{ℕ, zero, suc, _+_, _-_}
 use lib.Dec.{eqb, ltb}
 use lib.Ieee.{Float, eq}
 use Rattle.model.specs.Scalar.{_⊖_, _⊗_, zeroF, reciprocalOf}
-use Rattle.model.specs.Matrix.{Row, Mat, vec, bytes, places, within, exchangedPlace}
+use Rattle.model.specs.Matrix.{Row, Mat, vec, naturals, places, within, exchangedPlace}
 use Rattle.model.specs.declared.Block.{Block}
 use Rattle.model.specs.declared.Diagonal.{Diagonal}
 use Rattle.model.specs.declared.Diagonal.the-variants.{One, Two}
@@ -92,7 +92,7 @@ pub record Diagonals : Type 0 where
 
 -- as the three lists of a call hold it
 abbrev pub diagonalsOf : List Float → List Float → List ℕ → Diagonals
-diagonalsOf d sub blocks = record { d = vec d; sub = vec sub; blocks = bytes blocks }
+diagonalsOf d sub blocks = record { d = vec d; sub = vec sub; blocks = naturals blocks }
 
 -- what a caller is told beside D and no step reads: a byte that is 1 where a lift was, lift amounts, the order
 pub record Notes : Type 0 where
@@ -101,7 +101,7 @@ pub record Notes : Type 0 where
   pub order : ℕ → ℕ
 
 abbrev pub notesOf : List ℕ → List Float → List ℕ → Notes
-notesOf lifts amounts order = record { lifts = bytes lifts; amounts = vec amounts; order = places order }
+notesOf lifts amounts order = record { lifts = naturals lifts; amounts = vec amounts; order = places order }
 
 -- D; the rows exchanged, at a pivot's first column the one with its last column, at a block's second column the one that was exchanged with its first
 -- column before; the notes
@@ -112,7 +112,7 @@ pub record Pivots : Type 0 where
 
 abbrev pub pivotsOf : (d sub : List Float) (blocks partners lifts : List ℕ) (amounts : List Float) (order : List ℕ) → Pivots
 pivotsOf d sub blocks partners lifts amounts order =
-    record { diagonals = diagonalsOf d sub blocks; partners = bytes partners; notes = notesOf lifts amounts order }
+    record { diagonals = diagonalsOf d sub blocks; partners = naturals partners; notes = notesOf lifts amounts order }
 
 -- a block begins at k
 abbrev pub begins : (ℕ → ℕ) → ℕ → Bool

@@ -7,7 +7,7 @@ use lib.ListN.{length}
 use lib.Ieee.{Float}
 use Rattle.model.specs.Sizes.{mostColumns, mostRows}
 use Rattle.model.specs.Scalar.{_⊖_, _⊗_, zeroF, isFinite}
-use Rattle.model.specs.Matrix.{Row, Mat, view, vec, bytes, columnMajor}
+use Rattle.model.specs.Matrix.{Row, Mat, view, vec, naturals, columnMajor}
 use Rattle.model.specs.Step.{diagonalsOf, begins}
 use Rattle.model.specs.Panel.{timesD, sumFrom}
 use Rattle.model.specs.Inertia.{checkBytes}
@@ -67,14 +67,14 @@ unfoldable pub absentFrom : Target → (ℕ → ℕ) → ℕ → ℕ → Bool �
 absentFrom t rows zero i landed = Sound
 absentFrom t rows (suc m) i landed =
     let now = landed || lands t (rows i) in
-    let there = ltb (placeFrom (bytes (t .rows)) (rows i) (t .nrow) 0) (t .nrow) in
+    let there = ltb (placeFrom (naturals (t .rows)) (rows i) (t .nrow) 0) (t .nrow) in
     let rest = absentFrom t rows m (i + 1) now in
     cond (now && not there) (Refused (AbsentRow i)) rest
 
 -- refusal 18 is not met at the descendant's column c: its d, its subdiagonal under a 1 and its numbers below the head are finite
 unfoldable pub descendantSound : Descendant → ℕ → Bool
 descendantSound k c =
-    isFinite (vec (k .d) c) && ((not (begins (bytes (k .blocks)) c) || isFinite (vec (k .sub) c))
+    isFinite (vec (k .d) c) && ((not (begins (naturals (k .blocks)) c) || isFinite (vec (k .sub) c))
     && everyFrom (λ i. isFinite (view (k .nk + k .mk) (k .panel) i c)) (k .mk) (k .nk))
 
 -- what is refused there
@@ -84,10 +84,10 @@ numberAt c = DescendantNumber (record { 0 = c })
 unfoldable pub updateCheck : Target → Descendant → List Float → Check
 updateCheck t k panel =
     orElse (refuseIf (not (updateSound t k panel)) UpdateLength)
-    (orElse (refuseIf (not (rising (bytes (t .rows)) (t .nrow) && beginsAt (t .first) (bytes (t .rows)) (t .ncol))) TargetRows)
-    (orElse (refuseIf (not (rising (bytes (k .rows)) (k .mk))) DescendantRows)
+    (orElse (refuseIf (not (rising (naturals (t .rows)) (t .nrow) && beginsAt (t .first) (naturals (t .rows)) (t .ncol))) TargetRows)
+    (orElse (refuseIf (not (rising (naturals (k .rows)) (k .mk))) DescendantRows)
     (orElse (checkBytes (k .blocks))
-    (orElse (cond (leb 1 (k .nk)) (absentFrom t (bytes (k .rows)) (k .mk) 0 (not true)) Sound) (firstNot (descendantSound k) numberAt (k .nk) 0)))))
+    (orElse (cond (leb 1 (k .nk)) (absentFrom t (naturals (k .rows)) (k .mk) 0 (not true)) Sound) (firstNot (descendantSound k) numberAt (k .nk) 0)))))
 
 -- ---- the update
 
@@ -102,8 +102,8 @@ updateAcc k r c = sumFrom (λ j. descendantRow k r j ⊗ timesD (diagonalsOf (k 
 -- row i and column j of the target: less acc where both are rows of the descendant, the column's not after the row's
 unfoldable pub updated : Target → Descendant → Mat → Mat
 updated t k a = λ i j.
-    let r = placeFrom (bytes (k .rows)) (bytes (t .rows) i) (k .mk) 0 in
-    let c = placeFrom (bytes (k .rows)) (bytes (t .rows) j) (k .mk) 0 in
+    let r = placeFrom (naturals (k .rows)) (naturals (t .rows) i) (k .mk) 0 in
+    let c = placeFrom (naturals (k .rows)) (naturals (t .rows) j) (k .mk) 0 in
     let less = a i j ⊖ updateAcc k r c in
     cond (leb 1 (k .nk) && (ltb r (k .mk) && leb c r)) less (a i j)
 

@@ -9,7 +9,7 @@ use lib.ListN.{length, getD, set, length-set}
 use lib.Seq.{getD-set-same, getD-set-other, set-getD}
 use lib.Ieee.{Float}
 use Rattle.model.specs.Scalar.{zeroF}
-use Rattle.model.specs.Matrix.{Row, vec, bytes, places, put, swapped}
+use Rattle.model.specs.Matrix.{Row, vec, naturals, places, put, swapped}
 use Rattle.model.specs.Step.{Pivots, isBlock, firstNumber, lastNumber, underNumber}
 use Rattle.model.specs.Head.{lastOf, byteOf, noted}
 use Rattle.model.specs.declared.Pivot.{Pivot}
@@ -22,15 +22,15 @@ use Rattle.model.proofs.Cases.{test}
 pub vec-both : (xs : List Float) (e k : ℕ) (y x : Float) → k < length xs → e < length xs → vec (set (set xs e y) k x) ≡ put (put (vec xs) e y) k x
 vec-both xs e k y x h l = vec-set (set xs e y) k x (rw (length-set xs e y) h) ∙ rw (vec-set xs e y l) refl
 
-pub bytes-set : (xs : List ℕ) (i v : ℕ) → i < length xs → bytes (set xs i v) ≡ put (bytes xs) i v
-unfolding bytes put
-bytes-set xs i v h =
+pub naturals-set : (xs : List ℕ) (i v : ℕ) → i < length xs → naturals (set xs i v) ≡ put (naturals xs) i v
+unfolding naturals put
+naturals-set xs i v h =
     fun-ext λ a. test (eqb a i)
     (λ p. rw (p, eqb-true a i p) (getD-set-same xs i v 0 h))
     (λ p. rw p (getD-set-other xs i a v 0 (eqb-false a i p)))
 
-pub bytes-both : (xs : List ℕ) (e k y x : ℕ) → k < length xs → e < length xs → bytes (set (set xs e y) k x) ≡ put (put (bytes xs) e y) k x
-bytes-both xs e k y x h l = bytes-set (set xs e y) k x (rw (length-set xs e y) h) ∙ rw (bytes-set xs e y l) refl
+pub naturals-both : (xs : List ℕ) (e k y x : ℕ) → k < length xs → e < length xs → naturals (set (set xs e y) k x) ≡ put (put (naturals xs) e y) k x
+naturals-both xs e k y x h l = naturals-set (set xs e y) k x (rw (length-set xs e y) h) ∙ rw (naturals-set xs e y l) refl
 
 -- within the list the default plays no part
 pub place-at : (xs : List ℕ) (i : ℕ) → i < length xs → getD xs i 0 ≡ places xs i

@@ -6,7 +6,7 @@ ghost use lib.ListN.{length};
 ghost use Prim.Native.Nat.{_<_};
 ghost use Rattle.model.specs.Sizes.{mostColumns};
 ghost use Rattle.model.specs.Scalar.{zeroF};
-ghost use Rattle.model.specs.Matrix.{vec, bytes, places, put, swapped};
+ghost use Rattle.model.specs.Matrix.{vec, naturals, places, put, swapped};
 ghost use Rattle.model.specs.Step.{isBlock, firstNumber, lastNumber, underNumber, pivotsOf};
 ghost use Rattle.model.specs.Head.{lastOf, byteOf, noted};
 ghost use Rattle.notes.specs.Notes.{ColumnsPre, DiagonalPre, LiftPre, NotePre, ExchangesPre};
@@ -31,7 +31,7 @@ fn put_both(v: &mut [f64], k: Elim, e: Elim, x: f64, y: f64)
 // The same of bytes.
 fn put_both_bytes(v: &mut [u8], k: Elim, e: Elim, x: u8, y: u8)
     requires { ⌜ ColumnsPre (k .0) (e .0) (length (now v)) ⌝ }
-    ensures { λ _. ⌜ bytes (now (v .exit)) ≡ put (put (bytes (now (v .entry))) (e .0) y) (k .0) x ⌝ }
+    ensures { λ _. ⌜ naturals (now (v .exit)) ≡ put (put (naturals (now (v .entry))) (e .0) y) (k .0) x ⌝ }
 {
     let last = e.0;
     let first = k.0;
@@ -43,7 +43,7 @@ fn put_both_bytes(v: &mut [u8], k: Elim, e: Elim, x: u8, y: u8)
 fn put_both_rows(v: &mut [u16], k: Elim, e: Elim, x: LocalRow, y: LocalRow)
     requires { ⌜ ColumnsPre (k .0) (e .0) (length (now v)) ⌝ }
     requires { ⌜ (x .0 < mostColumns) × (y .0 < mostColumns) ⌝ }
-    ensures { λ _. ⌜ bytes (now (v .exit)) ≡ put (put (bytes (now (v .entry))) (e .0) (y .0)) (k .0) (x .0) ⌝ }
+    ensures { λ _. ⌜ naturals (now (v .exit)) ≡ put (put (naturals (now (v .entry))) (e .0) (y .0)) (k .0) (x .0) ⌝ }
 {
     let last = e.0;
     let first = k.0;
@@ -80,11 +80,11 @@ fn put_swap(order: &mut [usize], e: Elim, kp: LocalRow)
     if e.0 == kp.0 {
         return;
     }
-    let other = Elim(kp.0);
+    let at = Elim(kp.0);
     let a = local_of(order, e);
-    let b = local_of(order, other);
+    let b = local_of(order, at);
     stand_at(order, e, b);
-    stand_at(order, other, a);
+    stand_at(order, at, a);
 }
 
 // The exchanges of the step in columns k to e: k with p, then e with kp, in the order; and the rows as its partners.
@@ -99,8 +99,8 @@ fn put_exchange(
     requires { ⌜ ExchangesPre (k .0) (e .0) (p .0) (kp .0) (length (now order)) (length (now partners)) ⌝ }
     ensures { λ _. ⌜ places (now (order .exit))
         ≡ swapped (swapped (places (now (order .entry))) (k .0) (p .0)) (e .0) (kp .0) ⌝ }
-    ensures { λ _. ⌜ bytes (now (partners .exit))
-        ≡ put (put (bytes (now (partners .entry))) (e .0) (p .0)) (k .0) (kp .0) ⌝ }
+    ensures { λ _. ⌜ naturals (now (partners .exit))
+        ≡ put (put (naturals (now (partners .entry))) (e .0) (p .0)) (k .0) (kp .0) ⌝ }
 {
     put_swap(order, k, p);
     put_swap(order, e, kp);
@@ -136,8 +136,8 @@ fn note_diagonal(d: &mut [f64], sub: &mut [f64], blocks: &mut [u8], k: Elim, e: 
     ensures { λ _. ⌜ vec (now (d .exit))
         ≡ put (put (vec (now (d .entry))) (e .0) (lastNumber x)) (k .0) (firstNumber x) ⌝ }
     ensures { λ _. ⌜ vec (now (sub .exit)) ≡ put (put (vec (now (sub .entry))) (e .0) zeroF) (k .0) (underNumber x) ⌝ }
-    ensures { λ _. ⌜ bytes (now (blocks .exit))
-        ≡ put (put (bytes (now (blocks .entry))) (e .0) 0) (k .0) (byteOf (isBlock x)) ⌝ }
+    ensures { λ _. ⌜ naturals (now (blocks .exit))
+        ≡ put (put (naturals (now (blocks .entry))) (e .0) 0) (k .0) (byteOf (isBlock x)) ⌝ }
 {
     put_both(d, k, e, diagonal::first_number(x), diagonal::last_number(x));
     put_both(sub, k, e, diagonal::under_number(x), 0.0);
@@ -147,7 +147,7 @@ fn note_diagonal(d: &mut [f64], sub: &mut [f64], blocks: &mut [u8], k: Elim, e: 
 // The pivot's lift, in both of its columns.
 fn note_lift(lifts: &mut [u8], amounts: &mut [f64], k: Elim, e: Elim, lifted: u8, amount: f64)
     requires { ⌜ LiftPre (k .0) (e .0) (length (now lifts)) (length (now amounts)) ⌝ }
-    ensures { λ _. ⌜ bytes (now (lifts .exit)) ≡ put (put (bytes (now (lifts .entry))) (e .0) lifted) (k .0) lifted ⌝ }
+    ensures { λ _. ⌜ naturals (now (lifts .exit)) ≡ put (put (naturals (now (lifts .entry))) (e .0) lifted) (k .0) lifted ⌝ }
     ensures { λ _. ⌜ vec (now (amounts .exit)) ≡ put (put (vec (now (amounts .entry))) (e .0) amount) (k .0) amount ⌝ }
 {
     put_both_bytes(lifts, k, e, lifted, lifted);

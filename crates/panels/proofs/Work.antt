@@ -10,7 +10,7 @@ use lib.Dec.{leb}
 use lib.ListN.{length, take, drop}
 use lib.Seq.{length-take-le, take-at}
 use lib.Ieee.{Float}
-use Rattle.model.specs.Matrix.{Mat, view, bytes, within}
+use Rattle.model.specs.Matrix.{Mat, view, naturals, within}
 use Rattle.model.specs.Step.{Diagonals, Pivots, rowAfterSteps}
 use Rattle.model.specs.Panel.{rowDeferred}
 use Rattle.model.specs.Head.{State, going, panelOf, blank}
@@ -106,7 +106,7 @@ wide-fits nrow nb len h =
     omega (arith, mul-comm nb nrow)
 
 pub deferred-pre : (at : Frame) (len ld ls lp : ℕ) (ws : List Float) (blocks partners : List ℕ) → TurnPre at len (length ws)
-    → DiagonalsHold (at .ncol) ld ls (length blocks) lp → StepsPre (at .kb) (at .ke) (bytes blocks) (bytes partners)
+    → DiagonalsHold (at .ncol) ld ls (length blocks) lp → StepsPre (at .kb) (at .ke) (naturals blocks) (naturals partners)
     → DeferredPre (at .nrow) (at .ncol) (at .kb) (at .ke) (length (midOf 0 (at .nb * at .nrow - 0) ws)) len ld ls blocks
 deferred-pre at len ld ls lp ws blocks partners t D s =
     let cols = t .cols in

@@ -5,7 +5,7 @@ ghost use mathlib.Core.Path.{_≡_};
 ghost use Prim.Native.Nat.{_+_, _-_, _*_, _≤_, min};
 ghost use lib.ListN.{length, take};
 ghost use Rattle.model.specs.Sizes.{mostColumns, widestPanel};
-ghost use Rattle.model.specs.Matrix.{view, bytes};
+ghost use Rattle.model.specs.Matrix.{view, naturals};
 ghost use Rattle.model.specs.Step.{diagonalsOf, pivotsOf, rowAfterSteps};
 ghost use Rattle.model.specs.Head.{panelOf};
 ghost use Rattle.model.specs.Factor.{pivotingOf};
@@ -55,7 +55,7 @@ fn steps(
     requires { ⌜ TurnHolds (at .nrow) (at .ncol) (length (now d)) (length (now sub)) (length (now blocks))
         (length (now partners)) (length (now lifts)) (length (now amounts)) (length (now order)) ⌝ }
     requires { ⌜ LimitPre (how .mode) (how .limit) ⌝ }
-    requires { ⌜ NotedTo (at .kb) (at .ke) before (bytes (now blocks)) (bytes (now partners)) ⌝ }
+    requires { ⌜ NotedTo (at .kb) (at .ke) before (naturals (now blocks)) (naturals (now partners)) ⌝ }
     ensures { λ r. ⌜ progress r (at .ke) (state at (now (panel .exit)) (take (at .nb * at .nb) (now (work .exit)))
         (pivotsOf (now (d .exit)) (now (sub .exit)) (now (blocks .exit)) (now (partners .exit)) (now (lifts .exit))
         (now (amounts .exit)) (now (order .exit))))
@@ -63,7 +63,7 @@ fn steps(
         (take (at .nb * at .nb) (now (work .entry)))
         (pivotsOf (now (d .entry)) (now (sub .entry)) (now (blocks .entry)) (now (partners .entry))
         (now (lifts .entry)) (now (amounts .entry)) (now (order .entry))) before) ⌝ }
-    ensures { λ r. ⌜ RanTo (at .kb) (at .ke) r (bytes (now (blocks .exit))) (bytes (now (partners .exit))) ⌝ }
+    ensures { λ r. ⌜ RanTo (at .kb) (at .ke) r (naturals (now (blocks .exit))) (naturals (now (partners .exit))) ⌝ }
 {
     let nb = at.nb;
     let square = nb * nb;
@@ -96,9 +96,9 @@ fn rows_below(
     requires { ⌜ TurnPre at (length (now panel)) (length (now work)) ⌝ }
     requires { ⌜ DiagonalsHold (at .ncol) (length (now d)) (length (now sub)) (length (now blocks))
         (length (now partners)) ⌝ }
-    requires { ⌜ StepsPre (at .kb) (at .ke) (bytes (now blocks)) (bytes (now partners)) ⌝ }
+    requires { ⌜ StepsPre (at .kb) (at .ke) (naturals (now blocks)) (naturals (now partners)) ⌝ }
     ensures { λ _. ⌜ view (at .nrow) (now (panel .exit)) ≡ below (at .ke) (at .nrow) (rowAfterSteps
-        (diagonalsOf (now (d .entry)) (now (sub .entry)) (now (blocks .entry))) (bytes (now (partners .entry)))
+        (diagonalsOf (now (d .entry)) (now (sub .entry)) (now (blocks .entry))) (naturals (now (partners .entry)))
         (inPanel (at .kb) (at .ke) (view (at .nb) (take (at .nb * at .nb) (now (work .entry)))))
         (at .ke) (at .ke - at .kb) (at .kb)) (view (at .nrow) (now (panel .entry))) ⌝ }
 {
@@ -120,7 +120,7 @@ fn later_columns(
     requires { ⌜ TurnPre at (length (now panel)) (length (now work)) ⌝ }
     requires { ⌜ DiagonalsHold (at .ncol) (length (now d)) (length (now sub)) (length (now blocks))
         (length (now partners)) ⌝ }
-    requires { ⌜ StepsPre (at .kb) (at .ke) (bytes (now blocks)) (bytes (now partners)) ⌝ }
+    requires { ⌜ StepsPre (at .kb) (at .ke) (naturals (now blocks)) (naturals (now partners)) ⌝ }
     ensures { λ _. ⌜ view (at .nrow) (now (panel .exit)) ≡ deferredRows (at .nrow) (at .ncol)
         (diagonalsOf (now (d .entry)) (now (sub .entry)) (now (blocks .entry))) (at .kb) (at .ke)
         (view (at .nrow) (now (panel .entry))) ⌝ }
@@ -155,14 +155,14 @@ fn one_panel(
     requires { ⌜ TurnHolds (at .nrow) (at .ncol) (length (now d)) (length (now sub)) (length (now blocks))
         (length (now partners)) (length (now lifts)) (length (now amounts)) (length (now order)) ⌝ }
     requires { ⌜ LimitPre (how .mode) (how .limit) ⌝ }
-    requires { ⌜ NotedTo (at .kb) (at .ke) before (bytes (now blocks)) (bytes (now partners)) ⌝ }
+    requires { ⌜ NotedTo (at .kb) (at .ke) before (naturals (now blocks)) (naturals (now partners)) ⌝ }
     ensures { λ r. ⌜ progress r (at .ke) (between (at .nrow) (now (panel .exit))
         (pivotsOf (now (d .exit)) (now (sub .exit)) (now (blocks .exit)) (now (partners .exit)) (now (lifts .exit))
         (now (amounts .exit)) (now (order .exit))))
         ≡ turnOf how (at .nrow) (at .ncol) (at .kb) (at .ke) (between (at .nrow) (now (panel .entry))
         (pivotsOf (now (d .entry)) (now (sub .entry)) (now (blocks .entry)) (now (partners .entry))
         (now (lifts .entry)) (now (amounts .entry)) (now (order .entry))) before) ⌝ }
-    ensures { λ r. ⌜ RanTo (at .kb) (at .ke) r (bytes (now (blocks .exit))) (bytes (now (partners .exit))) ⌝ }
+    ensures { λ r. ⌜ RanTo (at .kb) (at .ke) r (naturals (now (blocks .exit))) (naturals (now (partners .exit))) ⌝ }
 {
     let ran = steps(
         panel,
@@ -205,7 +205,7 @@ pub fn panels(
     requires { ⌜ RunPre c (length (now panel)) (length (now work)) ⌝ }
     requires { ⌜ TurnHolds (c .nrow) (c .ncol) (length (now d)) (length (now sub)) (length (now blocks))
         (length (now partners)) (length (now lifts)) (length (now amounts)) (length (now order)) ⌝ }
-    requires { ⌜ NotedTo 0 1 0 (bytes (now blocks)) (bytes (now partners)) ⌝ }
+    requires { ⌜ NotedTo 0 1 0 (naturals (now blocks)) (naturals (now partners)) ⌝ }
     ensures { λ r. ⌜ runOf r (between (c .nrow) (now (panel .exit))
         (pivotsOf (now (d .exit)) (now (sub .exit)) (now (blocks .exit)) (now (partners .exit)) (now (lifts .exit))
         (now (amounts .exit)) (now (order .exit))))

@@ -10,7 +10,7 @@ use native.Mathlib.Nat.{add-mul, mul-le-mul-right, le-antisymm}
 use native.Mathlib.Omega.{arith}
 use borrow.Author.Tests.{lt-ltb, le-ltb, eq-eqb, ne-eqb, ltb-true}
 use borrow.Rule.Slice.PartMut.{midOf, putMid}
-use Rattle.model.specs.Matrix.{Row, Mat, columnStart, view, vec, bytes, withColumn, withPart}
+use Rattle.model.specs.Matrix.{Row, Mat, columnStart, view, vec, naturals, withColumn, withPart}
 use Rattle.model.specs.Step.{Diagonals, diagonalsOf, endsBlock}
 use Rattle.model.specs.Panel.{timesD}
 use Rattle.model.proofs.Cases.{test, cmp}
@@ -50,18 +50,18 @@ ends-after f k b e h =
 module _ (G P a : Mat) (ds ss : List Float) (bs : List ℕ) (t lo n k : ℕ) where
   pub product-first : getD bs k 0 ≡ 1 → P ≡ withColumn G t lo n (blended (columnOf a k) (columnOf a (k + 1)) (getD ds k nan) (getD ss k nan))
       → P ≡ withColumn G t lo n (columnProduct (diagonalsOf ds ss bs) a k)
-  unfolding columnProduct timesD blended columnOf vec bytes
+  unfolding columnProduct timesD blended columnOf vec naturals
   product-first h e = e ∙ ap (λ (N : Row). withColumn G t lo n N) (fun-ext λ i. rw (eq-eqb (getD bs k 0) 1 h))
 
-  pub product-second : (b : Bool) → (getD bs k 0 ≡ 1 → ⊥) → b ≡ endsBlock (bytes bs) k → b ≡ true
+  pub product-second : (b : Bool) → (getD bs k 0 ≡ 1 → ⊥) → b ≡ endsBlock (naturals bs) k → b ≡ true
       → P ≡ withColumn G t lo n (blended (columnOf a (k - 1)) (columnOf a k) (getD ss (k - 1) nan) (getD ds k nan))
       → P ≡ withColumn G t lo n (columnProduct (diagonalsOf ds ss bs) a k)
-  unfolding columnProduct timesD blended columnOf vec bytes
+  unfolding columnProduct timesD blended columnOf vec naturals
   product-second b h f g e = e ∙ ap (λ (N : Row). withColumn G t lo n N) (fun-ext λ i. rw (ne-eqb (getD bs k 0) 1 h, sym f ∙ g))
 
-  pub product-plain : (b : Bool) → (getD bs k 0 ≡ 1 → ⊥) → b ≡ endsBlock (bytes bs) k → b ≡ false
+  pub product-plain : (b : Bool) → (getD bs k 0 ≡ 1 → ⊥) → b ≡ endsBlock (naturals bs) k → b ≡ false
       → P ≡ withColumn G t lo n (times (columnOf a k) (getD ds k nan)) → P ≡ withColumn G t lo n (columnProduct (diagonalsOf ds ss bs) a k)
-  unfolding columnProduct timesD times columnOf vec bytes
+  unfolding columnProduct timesD times columnOf vec naturals
   product-plain b h f g e = e ∙ ap (λ (N : Row). withColumn G t lo n N) (fun-ext λ i. rw (ne-eqb (getD bs k 0) 1 h, sym f ∙ g))
 
 pub first-pre : (n t k lo glen len dlen slen : ℕ) (bs : List ℕ) → ProductPre n t k lo glen len dlen slen bs → getD bs k 0 ≡ 1
@@ -103,7 +103,7 @@ products-end G P D a kb lo hi k ke h l p = p ∙ ap (λ (x : ℕ). withProducts 
 
 pub products-pre : (n kb ke k glen glen′ len dlen slen : ℕ) (bs : List ℕ) → ProductsPre n kb ke glen len dlen slen bs → kb ≤ k → k < ke → glen′ ≡ glen
     → ProductPre n (k - kb) k ke glen′ len dlen slen bs
-unfolding bytes
+unfolding naturals
 products-pre n kb ke k glen glen′ len dlen slen bs h l g e =
     let room : (k - kb + 1) * n ≤ (ke - kb) * n = mul-le-mul-right n (omega arith) in
     let here : (k + 1) * n ≤ ke * n = mul-le-mul-right n (omega arith) in

@@ -6,7 +6,7 @@ use mathlib.Core.List.{List}
 use Prim.Native.Nat.{ℕ, _+_, _-_, _*_, _<_, _≤_}
 use lib.Dec.{ltb}
 use lib.ListN.{length, getD}
-use Rattle.model.specs.Matrix.{Row, Mat, bytes, within}
+use Rattle.model.specs.Matrix.{Row, Mat, naturals, within}
 use Rattle.model.specs.Step.{Diagonals}
 use Rattle.model.specs.Panel.{timesD}
 
@@ -52,4 +52,4 @@ pub record ProductsPre (n kb ke glen len dlen slen : ℕ) (blocks : List ℕ) : 
   pub pivots : ke ≤ dlen
   pub subs : ke ≤ slen
   pub flags : ke ≤ length blocks
-  pub closed : bytes blocks (ke - 1) ≡ 1 → ⊥
+  pub closed : naturals blocks (ke - 1) ≡ 1 → ⊥

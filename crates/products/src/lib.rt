@@ -47,13 +47,13 @@ fn blend_columns(
 {
     let out = column_start(nrow, t);
     let source = column_start(nrow, k);
-    let other = column_start(nrow, j);
+    let second = column_start(nrow, j);
     let a = lo + out;
     let b = nrow + out;
     let c = lo + source;
     let e = nrow + source;
-    let u = lo + other;
-    let v = nrow + other;
+    let u = lo + second;
+    let v = nrow + second;
     kernels::blend(&mut g[a..b], &panel[c..e], &panel[u..v], nrow - lo, p, q);
 }
 

@@ -16,7 +16,7 @@ struct Some {
     more: bool,
 }
 
-fn wide(byte: u8) -> u64
+fn byte_value(byte: u8) -> u64
     ensures { λ r. ⌜ r < 256 ⌝ }
 {
     byte as u64
@@ -26,7 +26,7 @@ fn summed(sums: Sums, bytes: &[u8]) -> Sums {
     let mut a = sums.a % MODULUS;
     let mut b = sums.b % MODULUS;
     for i in 0..bytes.len() {
-        a = (a + wide(bytes[i])) % MODULUS;
+        a = (a + byte_value(bytes[i])) % MODULUS;
         b = (b + a) % MODULUS;
     }
     Sums { a, b }

@@ -12,7 +12,7 @@ use lib.ListN.{length, getD, set, replicate, length-set, length-replicate, getD-
 use lib.Seq.{getD-set-same, getD-set-other}
 use lib.Ieee.{Float, nan}
 use Rattle.model.specs.Scalar.{isFinite}
-use Rattle.model.specs.Matrix.{Mat, columnStart, view, vec, bytes}
+use Rattle.model.specs.Matrix.{Mat, columnStart, view, vec, naturals}
 use Rattle.model.specs.Factor.{everyFrom, markOf}
 use Rattle.model.proofs.Cases.{test}
 use Rattle.model.proofs.Tabulated.{length-tabulateFrom, getD-tabulate, is-tabulate}
@@ -26,12 +26,12 @@ use Rattle.scan.proofs.Finite.{mark-more, known-column}
 -- ---- the marks of one column
 
 pub part-none : (ms : List ℕ) (xs : List Float) → ms ≡ partMarked ms xs 0
-unfolding partMarked bytes
+unfolding partMarked naturals
 part-none ms xs = is-tabulate (length ms) _ 0 ms refl (λ k h. rw (le-ltb k 0 (omega arith)))
 
 pub part-step : (ms ns : List ℕ) (xs : List Float) (i n m : ℕ) → i < n → n ≤ length ms → ns ≡ partMarked ms xs i
     → m ≡ markedBy (getD ns i 0) (getD xs i nan) → set ns i m ≡ partMarked ms xs (i + 1)
-unfolding partMarked bytes vec
+unfolding partMarked naturals vec
 part-step ms ns xs i n m l h e w =
     is-tabulate (length ms) _ 0 (set ns i m) (length-set ns i m ∙ len) (λ k g.
     test (eqb k i)
@@ -71,7 +71,7 @@ tail-clean a n c len ms b l e w t =
     getD-replicate len k 0 0 (omega arith) ∙ rw clean)
 
 pub tail-step : (a : Mat) (ms ns : List ℕ) (n c j : ℕ) → ms ≡ tailMarks a c n j → ns ≡ marked ms a c n j → ns ≡ tailMarks a c n (j + 1)
-unfolding tailMarks marked bytes
+unfolding tailMarks marked naturals
 tail-step a ms ns n c j e p =
     is-tabulate (n - c) _ 0 ns (ap length p ∙ length-tabulateFrom 0 (n - c) _) (λ k g.
     ap (λ (z : List ℕ). getD z k 0) p ∙ getD-tabulate (n - c) k _ 0 g
@@ -90,10 +90,10 @@ unfolding marked partMarked vec
 tail-lent xs ms ns n c j s at h l p =
     is-tabulate (n - c) _ 0 ns (ap length p ∙ length-tabulateFrom 0 (length ms) _ ∙ l) (λ k g.
     ap (λ (z : List ℕ). getD z k 0) p ∙ getD-tabulate (length ms) k _ 0 (omega arith)
-    ∙ rw (lt-ltb k (n - c) g) (ap (λ (x : Float). markedBy (bytes ms k) x) (column-at n xs j s c n k at (omega arith) g)))
+    ∙ rw (lt-ltb k (n - c) g) (ap (λ (x : Float). markedBy (naturals ms k) x) (column-at n xs j s c n k at (omega arith) g)))
 
 -- a column that is finite marks no row
 pub tail-finite : (a : Mat) (ms : List ℕ) (n c j : ℕ) (b : Bool) → length ms ≡ n - c → b ≡ columnFinite a j c n → b ≡ true → ms ≡ marked ms a c n j
-unfolding marked columnFinite markedBy bytes
+unfolding marked columnFinite markedBy naturals
 tail-finite a ms n c j b l e t =
     is-tabulate (n - c) _ 0 ms l (λ k g. rw (every-at (λ i. isFinite (a i j)) (n - c) c k (sym e ∙ t) g))

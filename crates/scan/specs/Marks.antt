@@ -7,17 +7,17 @@ use Prim.Native.Nat.{ℕ, _+_, _-_, _*_, _≤_}
 use lib.Dec.{ltb}
 use lib.ListN.{length}
 use lib.Ieee.{Float}
-use Rattle.model.specs.Matrix.{Mat, vec, bytes, tabulate}
+use Rattle.model.specs.Matrix.{Mat, vec, naturals, tabulate}
 use Rattle.model.specs.Factor.{markOf}
 use Rattle.scan.specs.Finite.{markedBy}
 
 -- the first n marks after one number more of each of their rows
 unfoldable pub partMarked : List ℕ → List Float → ℕ → List ℕ
-partMarked ms xs n = tabulate (length ms) (λ i. cond (ltb i n) (markedBy (bytes ms i) (vec xs i)) (bytes ms i))
+partMarked ms xs n = tabulate (length ms) (λ i. cond (ltb i n) (markedBy (naturals ms i) (vec xs i)) (naturals ms i))
 
 -- the marks of rows lo up to hi after their column j
 unfoldable pub marked : List ℕ → Mat → ℕ → ℕ → ℕ → List ℕ
-marked ms a lo hi j = tabulate (hi - lo) (λ i. markedBy (bytes ms i) (a (lo + i) j))
+marked ms a lo hi j = tabulate (hi - lo) (λ i. markedBy (naturals ms i) (a (lo + i) j))
 
 -- the marks of rows lo up to hi, by their first c columns
 unfoldable pub tailMarks : Mat → ℕ → ℕ → ℕ → List ℕ

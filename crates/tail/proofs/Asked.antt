@@ -9,7 +9,7 @@ use borrow.Author.Tests.{eqb-true, eqb-false, eq-eqb}
 use lib.Dec.{eqb}
 use lib.ListN.{length}
 use lib.Ieee.{Float}
-use Rattle.model.specs.Matrix.{bytes}
+use Rattle.model.specs.Matrix.{naturals}
 use Rattle.model.specs.Step.{begins, isBlock, diagonalAt, pastOf, firstOf}
 use Rattle.model.specs.Head.{lastOf}
 use Rattle.model.specs.Kept.{Paired, Starts}
@@ -106,7 +106,7 @@ module _ (nb kb ke k lenM ld ls lb lp : ℕ) (read : ReadPre nb kb ke k lenM ld 
       record { height = omega arith; room = lent .room; width = omega (arith, read .width, read .from); kept = kept-room lenP e }
 
 pub pivot-pre : (nb kb ke k l lenM ld ls lb lp : ℕ) (bs : List ℕ) (partners : ℕ → ℕ) → ReadPre nb kb ke k lenM ld ls lb lp → lb ≡ length bs → l < ke
-    → HerePre ke (bytes bs) partners l → PivotPre l ld ls bs
+    → HerePre ke (naturals bs) partners l → PivotPre l ld ls bs
 pivot-pre nb kb ke k l lenM ld ls lb lp bs partners read e h here =
     record {
       d = omega (arith, read .inD);

@@ -7,7 +7,7 @@ use native.Mathlib.Omega.{arith}
 use borrow.Author.Tests.{lt-ltb, le-ltb}
 use lib.Dec.{ltb}
 use lib.Ieee.{Float}
-use Rattle.model.specs.Matrix.{Row, Mat, vec, bytes, within, exchangedPlace}
+use Rattle.model.specs.Matrix.{Row, Mat, vec, naturals, within, exchangedPlace}
 use Rattle.model.specs.Step.{Diagonals, diagonalsOf, begins, isBlock, diagonalAt, pastOf, stepAt, firstOf, arrived, rowStepped, rowAfterStep, rowAfterSteps}
 use Rattle.model.specs.declared.Diagonal.{Diagonal}
 use Rattle.model.proofs.Cases.{test}
@@ -77,35 +77,35 @@ module _ (M : Mat) (blocks partners : ℕ → ℕ) (rows k : ℕ) (t : Bool) (e 
 
 -- the record's step at l by its pivot
 step-at : (ds ss : List Float) (bs ps : List ℕ) (I : Mat) (l : ℕ)
-    → stepAt (diagonalsOf ds ss bs) (bytes ps) I l ≡ stepOf l (bytes ps l) (diagonalAt (vec ds) (vec ss) (bytes bs) l) (columnOf I l) (columnOf I (l + 1))
+    → stepAt (diagonalsOf ds ss bs) (naturals ps) I l ≡ stepOf l (naturals ps l) (diagonalAt (vec ds) (vec ss) (naturals bs) l) (columnOf I l) (columnOf I (l + 1))
 unfolding stepAt diagonalAt columnOf
-step-at ds ss bs ps I l = test (begins (bytes bs) l) (λ t. rw t) (λ t. rw t)
+step-at ds ss bs ps I l = test (begins (naturals bs) l) (λ t. rw t) (λ t. rw t)
 
 -- it leaves the columns before l
 module _ (ds ss : List Float) (bs ps : List ℕ) (I : Mat) (ke : ℕ) where
-  record-since : (l : ℕ) → l ≤ bytes ps l → Since l (rowAfterStep ke (stepAt (diagonalsOf ds ss bs) (bytes ps) I l))
+  record-since : (l : ℕ) → l ≤ naturals ps l → Since l (rowAfterStep ke (stepAt (diagonalsOf ds ss bs) (naturals ps) I l))
   record-since l h =
       rw (step-at ds ss bs ps I l)
-      (step-since l (bytes ps l) ke (columnOf I l) (columnOf I (l + 1)) h (diagonalAt (vec ds) (vec ss) (bytes bs) l))
+      (step-since l (naturals ps l) ke (columnOf I l) (columnOf I (l + 1)) h (diagonalAt (vec ds) (vec ss) (naturals bs) l))
 
-  pub stepped-since : (k : ℕ) → HerePre ke (bytes bs) (bytes ps) k → Since k (rowStepped (diagonalsOf ds ss bs) (bytes ps) I ke k)
+  pub stepped-since : (k : ℕ) → HerePre ke (naturals bs) (naturals ps) k → Since k (rowStepped (diagonalsOf ds ss bs) (naturals ps) I ke k)
   unfolding rowStepped
   stepped-since k here =
-      since-then k (arrived (bytes bs) (bytes ps) k) (rowAfterStep ke (stepAt (diagonalsOf ds ss bs) (bytes ps) I k))
-      (arrived-since (bytes bs) (bytes ps) k (here .ahead .first)) (record-since k (partner-ahead ke (bytes bs) (bytes ps) k here))
+      since-then k (arrived (naturals bs) (naturals ps) k) (rowAfterStep ke (stepAt (diagonalsOf ds ss bs) (naturals ps) I k))
+      (arrived-since (naturals bs) (naturals ps) k (here .ahead .first)) (record-since k (partner-ahead ke (naturals bs) (naturals ps) k here))
 
   -- a step that makes no exchange before its own
-  stays-step : (l : ℕ) → firstOf (bytes bs) (bytes ps) l ≡ l → rowStepped (diagonalsOf ds ss bs) (bytes ps) I ke l ≡ rowAfterStep ke (stepAt (diagonalsOf ds ss bs) (bytes ps) I l)
+  stays-step : (l : ℕ) → firstOf (naturals bs) (naturals ps) l ≡ l → rowStepped (diagonalsOf ds ss bs) (naturals ps) I ke l ≡ rowAfterStep ke (stepAt (diagonalsOf ds ss bs) (naturals ps) I l)
   unfolding rowStepped arrived
   stays-step l e =
-      fun-ext λ r. ap (rowAfterStep ke (stepAt (diagonalsOf ds ss bs) (bytes ps) I l)) (fun-ext λ j. ap r (ap (λ (q : ℕ). exchangedPlace l q j) e ∙ place-same l j))
+      fun-ext λ r. ap (rowAfterStep ke (stepAt (diagonalsOf ds ss bs) (naturals ps) I l)) (fun-ext λ j. ap r (ap (λ (q : ℕ). exchangedPlace l q j) e ∙ place-same l j))
 
-  pub both-since : (k l : ℕ) → HerePre ke (bytes bs) (bytes ps) k → HerePre ke (bytes bs) (bytes ps) l → k ≤ l
-      → Since k (rowSteppedTwice (diagonalsOf ds ss bs) (bytes ps) I ke k l)
+  pub both-since : (k l : ℕ) → HerePre ke (naturals bs) (naturals ps) k → HerePre ke (naturals bs) (naturals ps) l → k ≤ l
+      → Since k (rowSteppedTwice (diagonalsOf ds ss bs) (naturals ps) I ke k l)
   unfolding rowSteppedTwice
   both-since k l here there h =
-      since-then k (rowStepped (diagonalsOf ds ss bs) (bytes ps) I ke k) (rowStepped (diagonalsOf ds ss bs) (bytes ps) I ke l) (stepped-since k here)
-      (since-later k l (rowStepped (diagonalsOf ds ss bs) (bytes ps) I ke l) h (stepped-since l there))
+      since-then k (rowStepped (diagonalsOf ds ss bs) (naturals ps) I ke k) (rowStepped (diagonalsOf ds ss bs) (naturals ps) I ke l) (stepped-since k here)
+      (since-later k l (rowStepped (diagonalsOf ds ss bs) (naturals ps) I ke l) h (stepped-since l there))
 
 -- by the multipliers J that were lent from row and column k on
 module _ (I J : Mat) (ke k : ℕ) (kept : (j c : ℕ) → k + j < ke → k + c < ke → J j c ≡ I (k + j) (k + c)) where
@@ -121,44 +121,44 @@ module _ (I J : Mat) (ke k : ℕ) (kept : (j c : ℕ) → k + j < ke → k + c <
 
   module _ (ds ss : List Float) (bs ps : List ℕ) where
     -- the record's step at l, which is column c
-    counted-at : (l q c : ℕ) (x : Diagonal) → k ≤ l → k ≤ bytes ps l → x ≡ diagonalAt (vec ds) (vec ss) (bytes bs) l → q ≡ bytes ps l - k → c ≡ l - k
-        → fromColumn k (rowAfterStep ke (stepAt (diagonalsOf ds ss bs) (bytes ps) I l)) ≡ rowAfterStep (ke - k) (stepOf c q x (columnOf J c) (columnOf J (c + 1)))
-    counted-at l q c x hl hp e d f = rw (step-at ds ss bs ps I l, ← e, counted l (bytes ps l) x hl hp, d, f)
+    counted-at : (l q c : ℕ) (x : Diagonal) → k ≤ l → k ≤ naturals ps l → x ≡ diagonalAt (vec ds) (vec ss) (naturals bs) l → q ≡ naturals ps l - k → c ≡ l - k
+        → fromColumn k (rowAfterStep ke (stepAt (diagonalsOf ds ss bs) (naturals ps) I l)) ≡ rowAfterStep (ke - k) (stepOf c q x (columnOf J c) (columnOf J (c + 1)))
+    counted-at l q c x hl hp e d f = rw (step-at ds ss bs ps I l, ← e, counted l (naturals ps l) x hl hp, d, f)
 
-    module _ (M E T : Mat) (rows : ℕ) (here : HerePre ke (bytes bs) (bytes ps) k)
-        (ee : E ≡ below 0 rows (fromColumn k (arrived (bytes bs) (bytes ps) k)) M) where
-      first-counted : (q : ℕ) (x : Diagonal) → x ≡ diagonalAt (vec ds) (vec ss) (bytes bs) k → q ≡ bytes ps k - k → (r : Row)
-          → rowAfterStep (ke - k) (stepOf 0 q x (columnOf J 0) (columnOf J 1)) (fromColumn k (arrived (bytes bs) (bytes ps) k) r)
-          ≡ fromColumn k (rowStepped (diagonalsOf ds ss bs) (bytes ps) I ke k) r
+    module _ (M E T : Mat) (rows : ℕ) (here : HerePre ke (naturals bs) (naturals ps) k)
+        (ee : E ≡ below 0 rows (fromColumn k (arrived (naturals bs) (naturals ps) k)) M) where
+      first-counted : (q : ℕ) (x : Diagonal) → x ≡ diagonalAt (vec ds) (vec ss) (naturals bs) k → q ≡ naturals ps k - k → (r : Row)
+          → rowAfterStep (ke - k) (stepOf 0 q x (columnOf J 0) (columnOf J 1)) (fromColumn k (arrived (naturals bs) (naturals ps) k) r)
+          ≡ fromColumn k (rowStepped (diagonalsOf ds ss bs) (naturals ps) I ke k) r
       unfolding rowStepped
       first-counted q x e d r =
-          let ahead = partner-ahead ke (bytes bs) (bytes ps) k here in
-          sym (from-then k (arrived (bytes bs) (bytes ps) k) (rowAfterStep ke (stepAt (diagonalsOf ds ss bs) (bytes ps) I k)) (record-since ds ss bs ps I ke k ahead) r
-          ∙ ap (λ (f : Row → Row). f (fromColumn k (arrived (bytes bs) (bytes ps) k) r)) (counted-at k q 0 x (omega arith) ahead e d (omega arith)))
+          let ahead = partner-ahead ke (naturals bs) (naturals ps) k here in
+          sym (from-then k (arrived (naturals bs) (naturals ps) k) (rowAfterStep ke (stepAt (diagonalsOf ds ss bs) (naturals ps) I k)) (record-since ds ss bs ps I ke k ahead) r
+          ∙ ap (λ (f : Row → Row). f (fromColumn k (arrived (naturals bs) (naturals ps) k) r)) (counted-at k q 0 x (omega arith) ahead e d (omega arith)))
 
-      pub step-done : (q : ℕ) (x : Diagonal) → x ≡ diagonalAt (vec ds) (vec ss) (bytes bs) k → q ≡ bytes ps k - k
+      pub step-done : (q : ℕ) (x : Diagonal) → x ≡ diagonalAt (vec ds) (vec ss) (naturals bs) k → q ≡ naturals ps k - k
           → T ≡ below 0 rows (rowAfterStep (ke - k) (stepOf 0 q x (columnOf J 0) (columnOf J 1))) E
-          → T ≡ below 0 rows (fromColumn k (rowStepped (diagonalsOf ds ss bs) (bytes ps) I ke k)) M
+          → T ≡ below 0 rows (fromColumn k (rowStepped (diagonalsOf ds ss bs) (naturals ps) I ke k)) M
       step-done q x e d t =
           t ∙ ap (below 0 rows (rowAfterStep (ke - k) (stepOf 0 q x (columnOf J 0) (columnOf J 1)))) ee ∙ below-then 0 rows _ _ M
           ∙ ap (λ (f : Row → Row). below 0 rows f M) (fun-ext (first-counted q x e d))
 
       -- and the step at l, which makes no exchange before its own
-      pub pair-done : (l q s c : ℕ) (x y : Diagonal) → k ≤ l → HerePre ke (bytes bs) (bytes ps) l → firstOf (bytes bs) (bytes ps) l ≡ l
-          → x ≡ diagonalAt (vec ds) (vec ss) (bytes bs) k → y ≡ diagonalAt (vec ds) (vec ss) (bytes bs) l
-          → q ≡ bytes ps k - k → s ≡ bytes ps l - k → c ≡ l - k
+      pub pair-done : (l q s c : ℕ) (x y : Diagonal) → k ≤ l → HerePre ke (naturals bs) (naturals ps) l → firstOf (naturals bs) (naturals ps) l ≡ l
+          → x ≡ diagonalAt (vec ds) (vec ss) (naturals bs) k → y ≡ diagonalAt (vec ds) (vec ss) (naturals bs) l
+          → q ≡ naturals ps k - k → s ≡ naturals ps l - k → c ≡ l - k
           → T ≡ below 0 rows (rowAfterBoth (ke - k) (stepOf 0 q x (columnOf J 0) (columnOf J 1)) (stepOf c s y (columnOf J c) (columnOf J (c + 1)))) E
-          → T ≡ below 0 rows (fromColumn k (rowSteppedTwice (diagonalsOf ds ss bs) (bytes ps) I ke k l)) M
+          → T ≡ below 0 rows (fromColumn k (rowSteppedTwice (diagonalsOf ds ss bs) (naturals ps) I ke k l)) M
       unfolding rowAfterBoth rowSteppedTwice
       pair-done l q s c x y h there still e g d o f t =
-          let ahead = partner-ahead ke (bytes bs) (bytes ps) l there in
-          let second = rowStepped (diagonalsOf ds ss bs) (bytes ps) I ke l in
+          let ahead = partner-ahead ke (naturals bs) (naturals ps) l there in
+          let second = rowStepped (diagonalsOf ds ss bs) (naturals ps) I ke l in
           t ∙ ap (below 0 rows _) ee ∙ below-then 0 rows _ _ M
           ∙ ap (λ (z : Row → Row). below 0 rows z M) (fun-ext λ r.
           ap (rowAfterStep (ke - k) (stepOf c s y (columnOf J c) (columnOf J (c + 1)))) (first-counted q x e d r)
-          ∙ ap (λ (z : Row → Row). z (fromColumn k (rowStepped (diagonalsOf ds ss bs) (bytes ps) I ke k) r))
+          ∙ ap (λ (z : Row → Row). z (fromColumn k (rowStepped (diagonalsOf ds ss bs) (naturals ps) I ke k) r))
           (sym (ap (fromColumn k) (stays-step ds ss bs ps I ke l still) ∙ counted-at l s c y h (omega arith) g o f))
-          ∙ sym (from-then k (rowStepped (diagonalsOf ds ss bs) (bytes ps) I ke k) second (since-later k l second h (stepped-since ds ss bs ps I ke l there)) r))
+          ∙ sym (from-then k (rowStepped (diagonalsOf ds ss bs) (naturals ps) I ke k) second (since-later k l second h (stepped-since ds ss bs ps I ke l there)) r))
 
 -- ---- the loop
 
@@ -192,17 +192,17 @@ steps-more D q m M N R n ke k e h s =
     rw s (fun-ext λ i. test (within ke n i) (λ t. rw t (sym (steps-open D q m ke k (M i) h))) (λ t. rw t)) ∙ e
 
 -- one step taken off, or two
-module _ (ds ss : List Float) (bs ps : List ℕ) (m M N : Mat) (n ke k l : ℕ) (here : k < ke) (el : l ≡ pastOf (bytes bs) k) where
-  pub turned-step : N ≡ below ke n (rowStepped (diagonalsOf ds ss bs) (bytes ps) m ke k) M
-      → below ke n (rowAfterSteps (diagonalsOf ds ss bs) (bytes ps) m ke (ke - l) l) N ≡ below ke n (rowAfterSteps (diagonalsOf ds ss bs) (bytes ps) m ke (ke - k) k) M
-  turned-step s = rw el (steps-more (diagonalsOf ds ss bs) (bytes ps) m M N _ n ke k refl here s)
+module _ (ds ss : List Float) (bs ps : List ℕ) (m M N : Mat) (n ke k l : ℕ) (here : k < ke) (el : l ≡ pastOf (naturals bs) k) where
+  pub turned-step : N ≡ below ke n (rowStepped (diagonalsOf ds ss bs) (naturals ps) m ke k) M
+      → below ke n (rowAfterSteps (diagonalsOf ds ss bs) (naturals ps) m ke (ke - l) l) N ≡ below ke n (rowAfterSteps (diagonalsOf ds ss bs) (naturals ps) m ke (ke - k) k) M
+  turned-step s = rw el (steps-more (diagonalsOf ds ss bs) (naturals ps) m M N _ n ke k refl here s)
 
-  pub turned-both : (r : ℕ) → l < ke → r ≡ pastOf (bytes bs) l → N ≡ below ke n (rowSteppedTwice (diagonalsOf ds ss bs) (bytes ps) m ke k l) M
-      → below ke n (rowAfterSteps (diagonalsOf ds ss bs) (bytes ps) m ke (ke - r) r) N ≡ below ke n (rowAfterSteps (diagonalsOf ds ss bs) (bytes ps) m ke (ke - k) k) M
+  pub turned-both : (r : ℕ) → l < ke → r ≡ pastOf (naturals bs) l → N ≡ below ke n (rowSteppedTwice (diagonalsOf ds ss bs) (naturals ps) m ke k l) M
+      → below ke n (rowAfterSteps (diagonalsOf ds ss bs) (naturals ps) m ke (ke - r) r) N ≡ below ke n (rowAfterSteps (diagonalsOf ds ss bs) (naturals ps) m ke (ke - k) k) M
   unfolding rowSteppedTwice
   turned-both r h er s =
       let D = diagonalsOf ds ss bs in
-      let q = bytes ps in
+      let q = naturals ps in
       let first = below ke n (rowStepped D q m ke k) M in
       rw er (steps-more D q m first N _ n ke l (rw el (steps-more D q m M first _ n ke k refl here refl)) h
       (s ∙ sym (below-then ke n (rowStepped D q m ke k) (rowStepped D q m ke l) M)))

@@ -19,7 +19,7 @@ ghost use lib.Dec.{eqb};
 ghost use lib.ListN.{length};
 ghost use mir.Syntax.{w64};
 ghost use mir.Val.{Fits};
-ghost use Rattle.model.specs.Matrix.{columnStart, view, bytes};
+ghost use Rattle.model.specs.Matrix.{columnStart, view, naturals};
 ghost use Rattle.model.specs.Step.{diagonalsOf, pastOf, firstOf, arrived, rowStepped, rowAfterSteps};
 ghost use Rattle.model.specs.Kept.{Starts};
 ghost use Rattle.whole.specs.Whole.{below};
@@ -38,7 +38,7 @@ fn listed_row(partner: u16) -> LocalRow
 // block's second column the one exchanged with its first column before.
 fn partner(partners: &[u16], k: Elim) -> LocalRow
     requires { ⌜ k .0 < length (now partners) ⌝ }
-    ensures { λ r. ⌜ r .0 ≡ bytes (now (partners .entry)) (k .0) ⌝ }
+    ensures { λ r. ⌜ r .0 ≡ naturals (now (partners .entry)) (k .0) ⌝ }
 {
     let at = k.0;
     listed_row(partners[at])
@@ -64,10 +64,10 @@ fn place(nrow: usize, i: usize, j: usize) -> usize
 fn arrive(part: &mut [f64], blocks: &[u8], partners: &[u16], nrow: usize, ke: usize, k: Elim)
     requires { ⌜ LentPre nrow ke (k .0) (length (now part)) ⌝ }
     requires { ⌜ (ke ≤ length (now blocks)) × (ke ≤ length (now partners)) ⌝ }
-    requires { ⌜ HerePre ke (bytes (now blocks)) (bytes (now partners)) (k .0) ⌝ }
+    requires { ⌜ HerePre ke (naturals (now blocks)) (naturals (now partners)) (k .0) ⌝ }
     ensures { λ _. ⌜ view nrow (now (part .exit))
         ≡ below 0 (nrow - ke)
-        (fromColumn (k .0) (arrived (bytes (now (blocks .entry))) (bytes (now (partners .entry))) (k .0)))
+        (fromColumn (k .0) (arrived (naturals (now (blocks .entry))) (naturals (now (partners .entry))) (k .0)))
         (view nrow (now (part .entry))) ⌝ }
 {
     if block_begins(blocks, k) {
@@ -79,9 +79,9 @@ fn arrive(part: &mut [f64], blocks: &[u8], partners: &[u16], nrow: usize, ke: us
 // Whether the step at l makes no exchange before its own.
 fn stays(blocks: &[u8], partners: &[u16], ke: usize, l: Elim) -> bool
     requires { ⌜ (l .0 < ke) × ((ke ≤ length (now blocks)) × (ke ≤ length (now partners))) ⌝ }
-    requires { ⌜ HerePre ke (bytes (now blocks)) (bytes (now partners)) (l .0) ⌝ }
+    requires { ⌜ HerePre ke (naturals (now blocks)) (naturals (now partners)) (l .0) ⌝ }
     ensures { λ r. ⌜ r
-        ≡ eqb (firstOf (bytes (now (blocks .entry))) (bytes (now (partners .entry))) (l .0)) (l .0) ⌝ }
+        ≡ eqb (firstOf (naturals (now (blocks .entry))) (naturals (now (partners .entry))) (l .0)) (l .0) ⌝ }
 {
     if block_begins(blocks, l) {
         let p = partner(partners, Elim(l.0 + 1));
@@ -104,10 +104,10 @@ fn tail_step(
     requires { ⌜ LentPre (at .nrow) (at .ke) (k .0) (length (now part)) ⌝ }
     requires { ⌜ ReadPre (at .nb) (at .kb) (at .ke) (k .0) (length (now mult)) (length (now d)) (length (now sub))
         (length (now blocks)) (length (now partners)) ⌝ }
-    requires { ⌜ HerePre (at .ke) (bytes (now blocks)) (bytes (now partners)) (k .0) ⌝ }
+    requires { ⌜ HerePre (at .ke) (naturals (now blocks)) (naturals (now partners)) (k .0) ⌝ }
     ensures { λ _. ⌜ view (at .nrow) (now (part .exit))
         ≡ below 0 (at .nrow - at .ke) (fromColumn (k .0) (rowStepped
-        (diagonalsOf (now (d .entry)) (now (sub .entry)) (now (blocks .entry))) (bytes (now (partners .entry)))
+        (diagonalsOf (now (d .entry)) (now (sub .entry)) (now (blocks .entry))) (naturals (now (partners .entry)))
         (inPanel (at .kb) (at .ke) (view (at .nb) (now (mult .entry)))) (at .ke) (k .0)))
         (view (at .nrow) (now (part .entry))) ⌝ }
 {
@@ -144,13 +144,13 @@ fn tail_pair(
     requires { ⌜ LentPre (at .nrow) (at .ke) (k .0) (length (now part)) ⌝ }
     requires { ⌜ ReadPre (at .nb) (at .kb) (at .ke) (k .0) (length (now mult)) (length (now d)) (length (now sub))
         (length (now blocks)) (length (now partners)) ⌝ }
-    requires { ⌜ HerePre (at .ke) (bytes (now blocks)) (bytes (now partners)) (k .0) ⌝ }
-    requires { ⌜ HerePre (at .ke) (bytes (now blocks)) (bytes (now partners)) (l .0) ⌝ }
-    requires { ⌜ (l .0 ≡ pastOf (bytes (now blocks)) (k .0)) × (l .0 < at .ke) ⌝ }
-    requires { ⌜ firstOf (bytes (now blocks)) (bytes (now partners)) (l .0) ≡ l .0 ⌝ }
+    requires { ⌜ HerePre (at .ke) (naturals (now blocks)) (naturals (now partners)) (k .0) ⌝ }
+    requires { ⌜ HerePre (at .ke) (naturals (now blocks)) (naturals (now partners)) (l .0) ⌝ }
+    requires { ⌜ (l .0 ≡ pastOf (naturals (now blocks)) (k .0)) × (l .0 < at .ke) ⌝ }
+    requires { ⌜ firstOf (naturals (now blocks)) (naturals (now partners)) (l .0) ≡ l .0 ⌝ }
     ensures { λ _. ⌜ view (at .nrow) (now (part .exit))
         ≡ below 0 (at .nrow - at .ke) (fromColumn (k .0) (rowSteppedTwice
-        (diagonalsOf (now (d .entry)) (now (sub .entry)) (now (blocks .entry))) (bytes (now (partners .entry)))
+        (diagonalsOf (now (d .entry)) (now (sub .entry)) (now (blocks .entry))) (naturals (now (partners .entry)))
         (inPanel (at .kb) (at .ke) (view (at .nb) (now (mult .entry)))) (at .ke) (k .0) (l .0)))
         (view (at .nrow) (now (part .entry))) ⌝ }
 {
@@ -198,17 +198,17 @@ fn one_or_two_steps(
 ) -> usize
     requires { ⌜ TailPre (at .nrow) (at .ncol) (at .nb) (at .kb) (at .ke) (length (now panel)) (length (now mult))
         (length (now d)) (length (now sub)) (length (now blocks)) (length (now partners)) ⌝ }
-    requires { ⌜ StepsPre (at .kb) (at .ke) (bytes (now blocks)) (bytes (now partners)) ⌝ }
-    requires { ⌜ (at .kb ≤ k .0) × ((k .0 < at .ke) × Starts (bytes (now blocks)) (k .0)) ⌝ }
+    requires { ⌜ StepsPre (at .kb) (at .ke) (naturals (now blocks)) (naturals (now partners)) ⌝ }
+    requires { ⌜ (at .kb ≤ k .0) × ((k .0 < at .ke) × Starts (naturals (now blocks)) (k .0)) ⌝ }
     ensures { λ r. ⌜ below (at .ke) (at .nrow) (rowAfterSteps
-        (diagonalsOf (now (d .entry)) (now (sub .entry)) (now (blocks .entry))) (bytes (now (partners .entry)))
+        (diagonalsOf (now (d .entry)) (now (sub .entry)) (now (blocks .entry))) (naturals (now (partners .entry)))
         (inPanel (at .kb) (at .ke) (view (at .nb) (now (mult .entry)))) (at .ke) (at .ke - r) r)
         (view (at .nrow) (now (panel .exit)))
         ≡ below (at .ke) (at .nrow) (rowAfterSteps
-        (diagonalsOf (now (d .entry)) (now (sub .entry)) (now (blocks .entry))) (bytes (now (partners .entry)))
+        (diagonalsOf (now (d .entry)) (now (sub .entry)) (now (blocks .entry))) (naturals (now (partners .entry)))
         (inPanel (at .kb) (at .ke) (view (at .nb) (now (mult .entry)))) (at .ke) (at .ke - k .0) (k .0))
         (view (at .nrow) (now (panel .entry))) ⌝ }
-    ensures { λ r. ⌜ (k .0 < r) × Starts (bytes (now (blocks .entry))) r ⌝ }
+    ensures { λ r. ⌜ (k .0 < r) × Starts (naturals (now (blocks .entry))) r ⌝ }
 {
     let nrow = at.nrow;
     let ke = at.ke;
@@ -248,10 +248,10 @@ pub fn apply_bk_panel_trailing(
 )
     requires { ⌜ TailPre (at .nrow) (at .ncol) (at .nb) (at .kb) (at .ke) (length (now panel)) (length (now mult))
         (length (now d)) (length (now sub)) (length (now blocks)) (length (now partners)) ⌝ }
-    requires { ⌜ StepsPre (at .kb) (at .ke) (bytes (now blocks)) (bytes (now partners)) ⌝ }
+    requires { ⌜ StepsPre (at .kb) (at .ke) (naturals (now blocks)) (naturals (now partners)) ⌝ }
     ensures { λ _. ⌜ view (at .nrow) (now (panel .exit))
         ≡ below (at .ke) (at .nrow) (rowAfterSteps
-        (diagonalsOf (now (d .entry)) (now (sub .entry)) (now (blocks .entry))) (bytes (now (partners .entry)))
+        (diagonalsOf (now (d .entry)) (now (sub .entry)) (now (blocks .entry))) (naturals (now (partners .entry)))
         (inPanel (at .kb) (at .ke) (view (at .nb) (now (mult .entry)))) (at .ke) (at .ke - at .kb) (at .kb))
         (view (at .nrow) (now (panel .entry))) ⌝ }
 {

@@ -10,7 +10,7 @@ use lib.Dec.{leb, ltb}
 use lib.ListN.{length}
 use lib.Ieee.{Float}
 use Rattle.model.specs.Sizes.{mostRows}
-use Rattle.model.specs.Matrix.{Mat, view, bytes, columnMajor}
+use Rattle.model.specs.Matrix.{Mat, view, naturals, columnMajor}
 use Rattle.model.specs.Inertia.{checkBytes}
 use Rattle.model.specs.Assembly.{firstNot, Panelled}
 use Rattle.model.specs.Update.{Target, Descendant, updateSound, rising, beginsAt, placeFrom, absentFrom}
@@ -44,7 +44,7 @@ module _ (t : Target) (krows : ℕ → ℕ) (len : length (t .rows) ≡ t .nrow)
   unfolding absentFrom firstNot thereAt
   absent-landed zero i = refl
   absent-landed (suc m) i =
-      rw len (test (ltb (placeFrom (bytes (t .rows)) (krows i) (t .nrow) 0) (t .nrow))
+      rw len (test (ltb (placeFrom (naturals (t .rows)) (krows i) (t .nrow) 0) (t .nrow))
       (λ e. rw e (absent-landed m (i + 1))) (λ e. rw e))
 
   abbrev landing : ℕ → ℕ → ℕ
@@ -71,42 +71,42 @@ module _ (t : Target) (krows : ℕ → ℕ) (len : length (t .rows) ≡ t .nrow)
 
 module _ (t : Target) (k : Descendant) (len : ℕ) (w : ListsPre t k len) where
   abbrev at : ℕ → ℕ
-  at i = placeFrom (bytes (k .rows)) (bytes (t .rows) i) (k .mk) 0
+  at i = placeFrom (naturals (k .rows)) (naturals (t .rows) i) (k .mk) 0
 
-  target-rises : Rising (bytes (t .rows)) (t .nrow)
-  target-rises = rw (w .sizes .target) at (rising-is (bytes (t .rows)) (length (t .rows)) (w .target))
+  target-rises : Rising (naturals (t .rows)) (t .nrow)
+  target-rises = rw (w .sizes .target) at (rising-is (naturals (t .rows)) (length (t .rows)) (w .target))
 
-  descendant-rises : Rising (bytes (k .rows)) (k .mk)
-  descendant-rises = rw (w .sizes .descendant) at (rising-is (bytes (k .rows)) (length (k .rows)) (w .descendant))
+  descendant-rises : Rising (naturals (k .rows)) (k .mk)
+  descendant-rises = rw (w .sizes .descendant) at (rising-is (naturals (k .rows)) (length (k .rows)) (w .descendant))
 
   -- column q's row, and the descendant's row that it is
-  column-row : (q : ℕ) → q < t .ncol → bytes (t .rows) q ≡ t .first + q
+  column-row : (q : ℕ) → q < t .ncol → naturals (t .rows) q ≡ t .first + q
   unfolding standsAt
   column-row q h =
       let z : 0 + q ≡ q = omega arith in
-      eqb-true (bytes (t .rows) q) (t .first + q) (rw z at (every-at (standsAt (t .first) (bytes (t .rows))) (t .ncol) 0 q (w .columns) h))
+      eqb-true (naturals (t .rows) q) (t .first + q) (rw z at (every-at (standsAt (t .first) (naturals (t .rows))) (t .ncol) 0 q (w .columns) h))
 
-  found : (i : ℕ) → at i < k .mk → bytes (k .rows) (at i) ≡ bytes (t .rows) i
-  found i h = place-all (bytes (k .rows)) (bytes (t .rows) i) (k .mk) .here h
+  found : (i : ℕ) → at i < k .mk → naturals (k .rows) (at i) ≡ naturals (t .rows) i
+  found i h = place-all (naturals (k .rows)) (naturals (t .rows) i) (k .mk) .here h
 
-  found-at : (i r : ℕ) → r < k .mk → bytes (k .rows) r ≡ bytes (t .rows) i → at i ≡ r
+  found-at : (i r : ℕ) → r < k .mk → naturals (k .rows) r ≡ naturals (t .rows) i → at i ≡ r
   found-at i r h e =
-      ap (λ (g : ℕ). placeFrom (bytes (k .rows)) g (k .mk) 0) (sym e) ∙ rising-place (bytes (k .rows)) (k .mk) descendant-rises r h
+      ap (λ (g : ℕ). placeFrom (naturals (k .rows)) g (k .mk) 0) (sym e) ∙ rising-place (naturals (k .rows)) (k .mk) descendant-rises r h
 
-  column-lands : (c q : ℕ) → q < t .ncol → bytes (k .rows) c ≡ bytes (t .rows) q
-      → (landsOn (t .first) (t .ncol) (bytes (k .rows) c) ≡ true) × (bytes (k .rows) c - t .first ≡ q)
+  column-lands : (c q : ℕ) → q < t .ncol → naturals (k .rows) c ≡ naturals (t .rows) q
+      → (landsOn (t .first) (t .ncol) (naturals (k .rows) c) ≡ true) × (naturals (k .rows) c - t .first ≡ q)
   unfolding landsOn
   column-lands c q h e =
-      let z : bytes (k .rows) c ≡ t .first + q = e ∙ column-row q h in
-      (rw (le-leb (t .first) (bytes (k .rows) c) (omega arith), lt-ltb (bytes (k .rows) c) (t .first + t .ncol) (omega arith)), omega arith)
+      let z : naturals (k .rows) c ≡ t .first + q = e ∙ column-row q h in
+      (rw (le-leb (t .first) (naturals (k .rows) c) (omega arith), lt-ltb (naturals (k .rows) c) (t .first + t .ncol) (omega arith)), omega arith)
 
-  lands : (lo : ℕ) → Lands (t .first) (t .ncol) (bytes (k .rows)) at lo (k .mk)
+  lands : (lo : ℕ) → Lands (t .first) (t .ncol) (naturals (k .rows)) at lo (k .mk)
   unfolding landsOn
   lands lo = record {
-    on = λ c q l h x e. column-lands c q x (ap (bytes (k .rows)) (sym e) ∙ found q (omega arith));
+    on = λ c q l h x e. column-lands c q x (ap (naturals (k .rows)) (sym e) ∙ found q (omega arith));
     only = λ c q l h x y e.
-        let z : t .first ≤ bytes (k .rows) c
-        = leb-true (t .first) (bytes (k .rows) c) (and-left (leb (t .first) (bytes (k .rows) c)) (ltb (bytes (k .rows) c) (t .first + t .ncol)) y) in
+        let z : t .first ≤ naturals (k .rows) c
+        = leb-true (t .first) (naturals (k .rows) c) (and-left (leb (t .first) (naturals (k .rows) c)) (ltb (naturals (k .rows) c) (t .first + t .ncol)) y) in
         found-at q c h (omega (arith, column-row q x));
   }
 
@@ -122,28 +122,28 @@ module _ (t : Target) (k : Descendant) (len : ℕ) (w : ListsPre t k len) where
     bytes = w .sizes .bytes;
   }
 
-  pub locate-pre : (start room : ℕ) → start ≡ firstFrom (landsAt (t .first) (t .ncol) (bytes (k .rows))) (length (k .rows)) 0 → room ≡ mostRows
+  pub locate-pre : (start room : ℕ) → start ≡ firstFrom (landsAt (t .first) (t .ncol) (naturals (k .rows))) (length (k .rows)) 0 → room ≡ mostRows
       → LocatePre (t .rows) (k .rows) start room
   locate-pre start room e r = record {
     target = w .target;
     descendant = w .descendant;
-    begin = omega (arith, (rw (← e) at (first-is (landsAt (t .first) (t .ncol) (bytes (k .rows))) (length (k .rows)) 0)) .high);
+    begin = omega (arith, (rw (← e) at (first-is (landsAt (t .first) (t .ncol) (naturals (k .rows))) (length (k .rows)) 0)) .high);
     fits = omega (arith, w .sizes .all, w .sizes .descendant);
     few = omega (arith, w .sizes .rows, w .sizes .target);
   }
 
-  module _ (start : ℕ) (e : start ≡ firstFrom (landsAt (t .first) (t .ncol) (bytes (k .rows))) (length (k .rows)) 0) (places : List ℕ)
+  module _ (start : ℕ) (e : start ≡ firstFrom (landsAt (t .first) (t .ncol) (naturals (k .rows))) (length (k .rows)) 0) (places : List ℕ)
       (d : Located (t .rows) (k .rows) start (length (k .rows)) places) where
-    inverse : Inverse (t .nrow) start (k .mk) (bytes places) at
+    inverse : Inverse (t .nrow) start (k .mk) (naturals places) at
     inverse = record {
-      there = λ r l h. found-at (bytes places r) r h (sym (d .same r l (omega (arith, w .sizes .descendant))));
-      back = λ p h l m. rising-one (bytes (t .rows)) (t .nrow) target-rises (bytes places (at p)) p
+      there = λ r l h. found-at (naturals places r) r h (sym (d .same r l (omega (arith, w .sizes .descendant))));
+      back = λ p h l m. rising-one (naturals (t .rows)) (t .nrow) target-rises (naturals places (at p)) p
           (omega (arith, w .sizes .target, d .inside (at p) l (omega (arith, w .sizes .descendant)))) h
           (d .same (at p) l (omega (arith, w .sizes .descendant)) ∙ found p m);
     }
 
-    first : First (landsAt (t .first) (t .ncol) (bytes (k .rows))) 0 (0 + length (k .rows)) start
-    first = rw e (first-is (landsAt (t .first) (t .ncol) (bytes (k .rows))) (length (k .rows)) 0)
+    first : First (landsAt (t .first) (t .ncol) (naturals (k .rows))) 0 (0 + length (k .rows)) start
+    first = rw e (first-is (landsAt (t .first) (t .ncol) (naturals (k .rows))) (length (k .rows)) 0)
 
     -- a column whose row is one of the descendant's is not before the first landing
     from-start : (j : ℕ) → j < t .ncol → at j < k .mk → start ≤ at j
@@ -158,23 +158,23 @@ module _ (t : Target) (k : Descendant) (len : ℕ) (w : ListsPre t k len) where
     start-within = omega (arith, w .sizes .descendant, first .high)
 
     entry-is : (a : Mat) (i j : ℕ) → i < t .nrow → j < t .ncol
-        → rowsApplied (t .first) (t .ncol) k (bytes places) (k .mk - start) start a i j ≡ updated t k a i j
+        → rowsApplied (t .first) (t .ncol) k (naturals places) (k .mk - start) start a i j ≡ updated t k a i j
     unfolding updated
     entry-is a i j h l =
-        let miss : (at j ≤ at i → at i < k .mk → ⊥) → rowsApplied (t .first) (t .ncol) k (bytes places) (k .mk - start) start a i j ≡ a i j
-        = λ z. rows-miss (t .first) (t .ncol) (t .nrow) k start (bytes places) at inverse (lands start) (k .mk - start) start i j a
+        let miss : (at j ≤ at i → at i < k .mk → ⊥) → rowsApplied (t .first) (t .ncol) k (naturals places) (k .mk - start) start a i j ≡ a i j
+        = λ z. rows-miss (t .first) (t .ncol) (t .nrow) k start (naturals places) at inverse (lands start) (k .mk - start) start i j a
         (omega arith) (omega (arith, start-within)) h l (λ x y. z) in
         rw (le-leb 1 (k .nk) (w .some)) (test (ltb (at i) (k .mk))
         (λ x. test (leb (at j) (at i))
         (λ y. let m : at i < k .mk = ltb-true (at i) (k .mk) x in
         let n : at j ≤ at i = leb-true (at j) (at i) y in
-        rw (x, y) (rows-hit (t .first) (t .ncol) (t .nrow) k start (bytes places) at inverse (lands start) (k .mk - start) start i j a
+        rw (x, y) (rows-hit (t .first) (t .ncol) (t .nrow) k start (naturals places) at inverse (lands start) (k .mk - start) start i j a
         (omega arith) (omega (arith, start-within)) h l (from-start j l (omega arith)) (omega (arith, start-within)) n m))
         (λ y. rw (x, y) (miss (λ n m. omega (arith, leb-false (at j) (at i) y)))))
         (λ x. rw x (miss (λ n m. omega (arith, ltb-false (at i) (k .mk) x)))))
 
     pub panel-is : (new panel : List Float) → length new ≡ length panel → length panel ≡ len
-        → view (t .nrow) new ≡ rowsApplied (t .first) (t .ncol) k (bytes places) (k .mk - start) start (view (t .nrow) panel) → new ≡ updatedPanel t k panel
+        → view (t .nrow) new ≡ rowsApplied (t .first) (t .ncol) k (naturals places) (k .mk - start) start (view (t .nrow) panel) → new ≡ updatedPanel t k panel
     unfolding updatedPanel
     panel-is new panel l m v =
         is-columnMajor (t .nrow) (t .ncol) (updated t k (view (t .nrow) panel)) new (l ∙ m ∙ w .sizes .area)
@@ -194,16 +194,16 @@ module _ (t : Target) (k : Descendant) (len : ℕ) (w : ListsPre t k len) where
 -- ---- refusals 17 and 18: f and g are what their scans answer
 
 module _ (t : Target) (k : Descendant) (panel : List Float) (w : ListsPre t k (length panel)) (start : ℕ)
-    (e : start ≡ firstFrom (landsAt (t .first) (t .ncol) (bytes (k .rows))) (length (k .rows)) 0) (f : Check)
-    (x : f ≡ firstNot (thereAt (t .rows) (bytes (k .rows))) AbsentRow (length (k .rows) - start) start) where
+    (e : start ≡ firstFrom (landsAt (t .first) (t .ncol) (naturals (k .rows))) (length (k .rows)) 0) (f : Check)
+    (x : f ≡ firstNot (thereAt (t .rows) (naturals (k .rows))) AbsentRow (length (k .rows) - start) start) where
   absent : Check
-  absent = cond (leb 1 (k .nk)) (absentFrom t (bytes (k .rows)) (k .mk) 0 (not true)) Sound
+  absent = cond (leb 1 (k .nk)) (absentFrom t (naturals (k .rows)) (k .mk) 0 (not true)) Sound
 
   absent-says : f ≡ absent
   unfolding absent
   absent-says =
       let n : length (k .rows) ≡ k .mk = w .sizes .descendant in
-      x ∙ sym (rw (le-leb 1 (k .nk) (w .some)) (absent-is t (bytes (k .rows)) (w .sizes .target) (k .mk) start (rw n at e) ∙ rw n))
+      x ∙ sym (rw (le-leb 1 (k .nk) (w .some)) (absent-is t (naturals (k .rows)) (w .sizes .target) (k .mk) start (rw n at e) ∙ rw n))
 
   pub columns-absent : (r : Refusal) (a : Applied) → f ≡ Refused r → a ≡ answerOf f
       → leaves a panel ≡ columnsOf t k panel
@@ -237,8 +237,8 @@ check-is : (t : Target) (k : Descendant) (panel : List Float) → updateCheck t 
 unfolding updateCheck listsCheck columnsCheck
 check-is t k panel =
     four (refuseIf (not (updateSound t k panel)) UpdateLength)
-    (refuseIf (not (rising (bytes (t .rows)) (t .nrow) && beginsAt (t .first) (bytes (t .rows)) (t .ncol))) TargetRows)
-    (refuseIf (not (rising (bytes (k .rows)) (k .mk))) DescendantRows) (checkBytes (k .blocks)) (columnsCheck t k)
+    (refuseIf (not (rising (naturals (t .rows)) (t .nrow) && beginsAt (t .first) (naturals (t .rows)) (t .ncol))) TargetRows)
+    (refuseIf (not (rising (naturals (k .rows)) (k .mk))) DescendantRows) (checkBytes (k .blocks)) (columnsCheck t k)
 
 -- a descendant with no columns meets neither 17 nor 18, and changes nothing
 none-check : (t : Target) (k : Descendant) → k .nk ≡ 0 → columnsCheck t k ≡ Sound
@@ -274,15 +274,15 @@ module _ (t : Target) (k : Descendant) (panel : List Float) (f : Check) (x : f �
     lists-pre n =
         let pass : listsCheck t k panel ≡ Sound = passes in
         let s : Sizes t k (length panel) = lists-sizes in
-        let rises = rising (bytes (t .rows)) (t .nrow) in
-        let begins = beginsAt (t .first) (bytes (t .rows)) (t .ncol) in
+        let rises = rising (naturals (t .rows)) (t .nrow) in
+        let begins = beginsAt (t .first) (naturals (t .rows)) (t .ncol) in
         let both : rises && begins ≡ true = not-refused (rises && begins) TargetRows (search (first-sound, second-sound)) in
         record {
           some = cmp 0 (k .nk) (λ l. omega arith) (λ z. absurd (n (sym z))) (λ l. omega arith);
           sizes = s;
           target = rw (s .target) (and-left rises begins both);
           columns = and-right rises begins both;
-          descendant = rw (s .descendant) (not-refused (rising (bytes (k .rows)) (k .mk)) DescendantRows (search (first-sound, second-sound)));
+          descendant = rw (s .descendant) (not-refused (rising (naturals (k .rows)) (k .mk)) DescendantRows (search (first-sound, second-sound)));
           check = search (first-sound, second-sound);
         }
 

@@ -8,7 +8,7 @@ use borrow.Author.Tests.{eq-eqb, ne-eqb, eqb-true, eqb-false}
 use lib.Dec.{eqb}
 use lib.Ieee.{Float}
 use Rattle.model.specs.Scalar.{_⊖_}
-use Rattle.model.specs.Matrix.{Row, Mat, bytes}
+use Rattle.model.specs.Matrix.{Row, Mat, naturals}
 use Rattle.model.specs.Update.{Descendant, updateAcc}
 use Rattle.model.proofs.Cases.{test}
 use Rattle.update.specs.Rows.{landsOn}
@@ -61,20 +61,20 @@ pub record Lands (first ncol : ℕ) (krows at : ℕ → ℕ) (lo hi : ℕ) : Typ
   pub only : (c q : ℕ) → lo ≤ c → c < hi → q < ncol → landsOn first ncol (krows c) ≡ true → krows c - first ≡ q → at q ≡ c
 
 module _ (first ncol n : ℕ) (k : Descendant) (lo : ℕ) (places at : ℕ → ℕ) (v : Inverse n lo (k .mk) places at)
-    (d : Lands first ncol (bytes (k .rows)) at lo (k .mk)) where
+    (d : Lands first ncol (naturals (k .rows)) at lo (k .mk)) where
   row-hit : (c p q : ℕ) (a : Mat) → lo ≤ c → c < k .mk → p < n → q < ncol → at q ≡ c → c ≤ at p → at p < k .mk
       → rowApplied first ncol k places c a p q ≡ a p q ⊖ updateAcc k (at p) c
   unfolding rowApplied landingAcc
   row-hit c p q a l h x y e f g =
-      rw (d .on c q l h y e .0) (less-hit n lo (k .mk) places at v (λ r. updateAcc k r c) (bytes (k .rows) c - first) (k .mk - c) c p q a x l
+      rw (d .on c q l h y e .0) (less-hit n lo (k .mk) places at v (λ r. updateAcc k r c) (naturals (k .rows) c - first) (k .mk - c) c p q a x l
       (omega arith) f (omega arith) (sym (d .on c q l h y e .1)))
 
   row-miss : (c p q : ℕ) (a : Mat) → lo ≤ c → c < k .mk → p < n → q < ncol → (at q ≡ c → c ≤ at p → at p < k .mk → ⊥)
       → rowApplied first ncol k places c a p q ≡ a p q
   unfolding rowApplied landingAcc
   row-miss c p q a l h x y z =
-      test (landsOn first ncol (bytes (k .rows) c))
-      (λ t. rw t (less-miss n lo (k .mk) places at v (λ r. updateAcc k r c) (bytes (k .rows) c - first) (k .mk - c) c p q a l (omega arith)
+      test (landsOn first ncol (naturals (k .rows) c))
+      (λ t. rw t (less-miss n lo (k .mk) places at v (λ r. updateAcc k r c) (naturals (k .rows) c - first) (k .mk - c) c p q a l (omega arith)
       (λ u w s. z (d .only c q l h y t (sym s)) u (omega arith))))
       (λ t. rw t)
 

@@ -6,7 +6,7 @@ use Prim.Native.Nat.{ℕ, zero, suc, _+_, _-_, _≤_, _<_}
 use native.Mathlib.Omega.{arith}
 use borrow.Author.Tests.{leb-true, ltb-true, not-true, not-false}
 use lib.Dec.{leb, ltb}
-use Rattle.model.specs.Matrix.{Row, Mat, bytes, withPart}
+use Rattle.model.specs.Matrix.{Row, Mat, naturals, withPart}
 use Rattle.model.specs.Update.{Descendant, updateAcc}
 use Rattle.model.proofs.Cases.{and-left, and-right}
 use Rattle.kernels.specs.Rules.{behind}
@@ -57,13 +57,13 @@ part-done places j nk lo hi a z acc sum A e g =
 abbrev rowAcc : Descendant → ℕ → Row
 rowAcc k c = fromRow (accOf (k .nk + k .mk) (k .nk) (k .panel) (k .d) (k .sub) (k .blocks) (k .nk + c)) (k .nk)
 
-module _ (first ncol : ℕ) (k : Descendant) (places : ℕ → ℕ) (c : ℕ) (b : Bool) (h : b ≡ landsOn first ncol (bytes (k .rows) c)) where
+module _ (first ncol : ℕ) (k : Descendant) (places : ℕ → ℕ) (c : ℕ) (b : Bool) (h : b ≡ landsOn first ncol (naturals (k .rows) c)) where
   pub row-none : (a : Mat) → not b ≡ true → a ≡ rowApplied first ncol k places c a
   unfolding rowApplied
   row-none a x = rw (← h, not-true b x)
 
   -- all parts are done
-  pub row-done : (a z : Mat) (j lo : ℕ) → not b ≡ false → j ≡ bytes (k .rows) c - first → k .mk ≤ lo
+  pub row-done : (a z : Mat) (j lo : ℕ) → not b ≡ false → j ≡ naturals (k .rows) c - first → k .mk ≤ lo
       → lessFrom places (rowAcc k c) j (k .mk - lo) lo z ≡ lessFrom places (rowAcc k c) j (k .mk - c) c a → z ≡ rowApplied first ncol k places c a
   unfolding rowApplied fromRow landingAcc accOf weighed
   row-done a z j lo x i l e = rw (← h, not-false b x, ← i) (less-end places (λ r. updateAcc k r c) j (k .mk) lo z _ l e)
@@ -103,7 +103,7 @@ module _ (ncol nrow nk mk : ℕ) (bs places : List ℕ) (c panel kpanel d sub j 
     up = u .up;
     there = omega (arith, u .there, w .room);
     sums = omega (arith, u .fits);
-    inside = λ r a b. in-panel nrow ncol (bytes places r) j panel (w .area) (w .inside r (omega (arith, u .past)) (omega (arith, u .there))) (u .lands);
+    inside = λ r a b. in-panel nrow ncol (naturals places r) j panel (w .area) (w .inside r (omega (arith, u .past)) (omega (arith, u .there))) (u .lands);
   }
 
 -- ---- the loop

@@ -12,7 +12,7 @@ use mir.Syntax.{w64}
 use mir.Val.{Fits}
 use Rattle.model.specs.Sizes.{mostColumns, mostRows}
 use Rattle.model.specs.Scalar.{isFinite}
-use Rattle.model.specs.Matrix.{view, vec, bytes}
+use Rattle.model.specs.Matrix.{view, vec, naturals}
 use Rattle.model.specs.Step.{begins}
 use Rattle.model.specs.Factor.{shapeSound, everyFrom}
 use Rattle.model.specs.Inertia.{checkBytes}
@@ -103,9 +103,9 @@ module _ (t : Target) (k : Descendant) (panel : List Float) (b : Bool) (h : b �
     pub lists-columns : ColumnsPre (t .ncol) (length (t .rows))
     lists-columns = record { few = omega (arith, passed .columns); there = omega (arith, passed .target, passed .head) }
 
-    module _ (c : Bool) (i : c ≡ (everyFrom (risesAt (bytes (t .rows)) (length (t .rows))) (length (t .rows)) 0
-        && everyFrom (standsAt (t .first) (bytes (t .rows))) (t .ncol) 0)) where
-      target-test : c ≡ (rising (bytes (t .rows)) (t .nrow) && beginsAt (t .first) (bytes (t .rows)) (t .ncol))
+    module _ (c : Bool) (i : c ≡ (everyFrom (risesAt (naturals (t .rows)) (length (t .rows))) (length (t .rows)) 0
+        && everyFrom (standsAt (t .first) (naturals (t .rows))) (t .ncol) 0)) where
+      target-test : c ≡ (rising (naturals (t .rows)) (t .nrow) && beginsAt (t .first) (naturals (t .rows)) (t .ncol))
       unfolding risesAt standsAt
       target-test = rw (passed .target) at i
 
@@ -113,8 +113,8 @@ module _ (t : Target) (k : Descendant) (panel : List Float) (b : Bool) (h : b �
       unfolding listsCheck
       lists-target y = rw (← h, x, ← target-test, y)
 
-      module _ (y : not c ≡ false) (d : Bool) (j : d ≡ everyFrom (risesAt (bytes (k .rows)) (length (k .rows))) (length (k .rows)) 0) where
-        descendant-test : d ≡ rising (bytes (k .rows)) (k .mk)
+      module _ (y : not c ≡ false) (d : Bool) (j : d ≡ everyFrom (risesAt (naturals (k .rows)) (length (k .rows))) (length (k .rows)) 0) where
+        descendant-test : d ≡ rising (naturals (k .rows)) (k .mk)
         unfolding risesAt
         descendant-test = rw (passed .descendant) at j
 
@@ -144,16 +144,16 @@ module _ (k : Descendant) (c : ℕ) (b : Bool) (h : b ≡ isFinite (vec (k .d) c
     over true false y = absurd (let z : _≡_ {A = ℕ} 0 1 = cc in omega arith)
     over false e y = refl
 
-    pub column-sub : begins (bytes (k .blocks)) c && not e ≡ true → false ≡ descendantSound k c
+    pub column-sub : begins (naturals (k .blocks)) c && not e ≡ true → false ≡ descendantSound k c
     unfolding descendantSound
-    column-sub y = rw (← h, not-false b x, ← g, under (begins (bytes (k .blocks)) c) e y)
+    column-sub y = rw (← h, not-false b x, ← g, under (begins (naturals (k .blocks)) c) e y)
 
-    pub column-rest : (f : Bool) → begins (bytes (k .blocks)) c && not e ≡ false → f ≡ columnFinite (view (k .nk + k .mk) (k .panel)) c (k .nk) (k .nk + k .mk)
+    pub column-rest : (f : Bool) → begins (naturals (k .blocks)) c && not e ≡ false → f ≡ columnFinite (view (k .nk + k .mk) (k .panel)) c (k .nk) (k .nk + k .mk)
         → f ≡ descendantSound k c
     unfolding descendantSound columnFinite
     column-rest f y i =
         let m : k .nk + k .mk - k .nk ≡ k .mk = omega arith in
-        rw (← h, not-false b x, ← g, over (begins (bytes (k .blocks)) c) e y) (rw m at i)
+        rw (← h, not-false b x, ← g, over (begins (naturals (k .blocks)) c) e y) (rw m at i)
 
 pub column-down : (nk mk c panel d sub blocks : ℕ) → ColumnPre nk mk c panel d sub blocks → DownPre (nk + mk) c nk (nk + mk) panel
 column-down nk mk c panel d sub blocks w =

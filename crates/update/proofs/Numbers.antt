@@ -10,7 +10,7 @@ use lib.Dec.{leb, ltb}
 use lib.ListN.{length, getD, set}
 use lib.Ieee.{Float, nan}
 use Rattle.model.specs.Scalar.{_⊕_, _⊖_, _⊗_, zeroF}
-use Rattle.model.specs.Matrix.{Row, Mat, columnStart, view, vec, bytes, within, withPart}
+use Rattle.model.specs.Matrix.{Row, Mat, columnStart, view, vec, naturals, within, withPart}
 use Rattle.model.specs.Panel.{timesD, sumFrom}
 use Rattle.model.proofs.Cases.{test, and-left, and-right}
 use Rattle.grid.specs.Grid.{In}
@@ -25,29 +25,29 @@ use Rattle.update.specs.Apply.{weighed, accOf, fromRow, twoAdded, lessAt
 -- ---- v at one column: l is the row's number there
 
 module _ (d sub : List Float) (blocks : List ℕ) (r : Row) (s : ℕ) (l : Float) (e : l ≡ r s) where
-  pub weight-first : (b : Float) → bytes blocks s ≡ 1 → b ≡ r (s + 1) → l ⊗ vec d s ⊕ b ⊗ vec sub s ≡ weighed d sub blocks r s
+  pub weight-first : (b : Float) → naturals blocks s ≡ 1 → b ≡ r (s + 1) → l ⊗ vec d s ⊕ b ⊗ vec sub s ≡ weighed d sub blocks r s
   unfolding weighed timesD
-  weight-first b h f = rw (eq-eqb (bytes blocks s) 1 h, e, f)
+  weight-first b h f = rw (eq-eqb (naturals blocks s) 1 h, e, f)
 
-  module _ (h : bytes blocks s ≡ 1 → ⊥) where
+  module _ (h : naturals blocks s ≡ 1 → ⊥) where
     pub weight-start : s ≡ 0 → l ⊗ vec d s ≡ weighed d sub blocks r s
     unfolding weighed timesD
-    weight-start z = rw (ne-eqb (bytes blocks s) 1 h, le-ltb 0 s (omega arith), e)
+    weight-start z = rw (ne-eqb (naturals blocks s) 1 h, le-ltb 0 s (omega arith), e)
 
     module _ (z : s ≡ 0 → ⊥) where
       some : ltb 0 s ≡ true
       some = test (ltb 0 s) (λ t. t) (λ t. absurd (z (omega (arith, ltb-false 0 s t))))
 
-      pub weight-second : (a : Float) → bytes blocks (s - 1) ≡ 1 → a ≡ r (s - 1) → a ⊗ vec sub (s - 1) ⊕ l ⊗ vec d s ≡ weighed d sub blocks r s
+      pub weight-second : (a : Float) → naturals blocks (s - 1) ≡ 1 → a ≡ r (s - 1) → a ⊗ vec sub (s - 1) ⊕ l ⊗ vec d s ≡ weighed d sub blocks r s
       unfolding weighed timesD
-      weight-second a g f = rw (ne-eqb (bytes blocks s) 1 h, some, eq-eqb (bytes blocks (s - 1)) 1 g, e, f)
+      weight-second a g f = rw (ne-eqb (naturals blocks s) 1 h, some, eq-eqb (naturals blocks (s - 1)) 1 g, e, f)
 
-      pub weight-plain : (bytes blocks (s - 1) ≡ 1 → ⊥) → l ⊗ vec d s ≡ weighed d sub blocks r s
+      pub weight-plain : (naturals blocks (s - 1) ≡ 1 → ⊥) → l ⊗ vec d s ≡ weighed d sub blocks r s
       unfolding weighed timesD
-      weight-plain g = rw (ne-eqb (bytes blocks s) 1 h, some, ne-eqb (bytes blocks (s - 1)) 1 g, e)
+      weight-plain g = rw (ne-eqb (naturals blocks s) 1 h, some, ne-eqb (naturals blocks (s - 1)) 1 g, e)
 
 module _ (n i : ℕ) (bs : List ℕ) (s panel d sub : ℕ) (w : WeightPre n i bs s panel d sub) where
-  pub weight-next : bytes bs s ≡ 1 → In n i (s + 1) panel
+  pub weight-next : naturals bs s ≡ 1 → In n i (s + 1) panel
   weight-next h = in-col n (s + 1) i (s + 1) panel (w .next h) (w .row) (omega arith)
 
   pub weight-before : In n i (s - 1) panel
@@ -205,5 +205,5 @@ module _ (places : ℕ → ℕ) (acc : Row) (j hi : ℕ) where
   less-end r a w h v = let m : hi - r ≡ 0 = omega arith in rw m at v
 
 pub subtract-place : (n j : ℕ) (places : List ℕ) (lo hi panel acc r len : ℕ) → SubtractPre n j places lo hi panel acc → lo ≤ r → r < hi → len ≡ panel
-    → In n (bytes places r) j len
+    → In n (naturals places r) j len
 subtract-place n j places lo hi panel acc r len w l h e = rw e (w .inside r l h)

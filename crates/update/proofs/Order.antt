@@ -8,7 +8,7 @@ use borrow.Author.Tests.{eqb-true, eqb-false, ltb-true, ltb-false, ne-eqb, lt-lt
 use lib.Dec.{ltb, eqb}
 use lib.ListN.{length, getD, set, length-set}
 use lib.Seq.{getD-set-same, getD-set-other}
-use Rattle.model.specs.Matrix.{bytes}
+use Rattle.model.specs.Matrix.{naturals}
 use Rattle.model.specs.Factor.{everyFrom}
 use Rattle.model.specs.Assembly.{firstNot}
 use Rattle.model.specs.Update.{placeFrom}
@@ -56,16 +56,16 @@ module _ (f : ℕ → ℕ) (n : ℕ) (r : Rising f n) where
 
 -- the target's rows before `from` are below the descendant's from i on
 pub record Passed (rows krows : List ℕ) (from i : ℕ) : Type 0 where
-  pub below : (q e : ℕ) → q < from → i ≤ e → e < length krows → bytes rows q < bytes krows e
+  pub below : (q e : ℕ) → q < from → i ≤ e → e < length krows → naturals rows q < naturals krows e
 
 module _ (rows krows : List ℕ) (start room : ℕ) (w : LocatePre rows krows start room) (from i p : ℕ) (h : i < length krows) (f : from ≤ length rows)
-    (passed : Passed rows krows from i) (e : p ≡ placeFrom (bytes rows) (bytes krows i) (length rows - from) from) where
-  found : Place (bytes rows) (bytes krows i) from (length rows) p
-  found = rw e (place-within (bytes rows) (bytes krows i) from (length rows) f)
+    (passed : Passed rows krows from i) (e : p ≡ placeFrom (naturals rows) (naturals krows i) (length rows - from) from) where
+  found : Place (naturals rows) (naturals krows i) from (length rows) p
+  found = rw e (place-within (naturals rows) (naturals krows i) from (length rows) f)
 
-  whole : placeFrom (bytes rows) (bytes krows i) (length rows) 0 ≡ p
-  whole = place-one (bytes rows) (bytes krows i) 0 (length rows) (placeFrom (bytes rows) (bytes krows i) (length rows) 0) p
-      (place-all (bytes rows) (bytes krows i) (length rows))
+  whole : placeFrom (naturals rows) (naturals krows i) (length rows) 0 ≡ p
+  whole = place-one (naturals rows) (naturals krows i) 0 (length rows) (placeFrom (naturals rows) (naturals krows i) (length rows) 0) p
+      (place-all (naturals rows) (naturals krows i) (length rows))
       (record {
         low = omega arith;
         high = found .high;
@@ -75,7 +75,7 @@ module _ (rows krows : List ℕ) (start room : ℕ) (w : LocatePre rows krows st
         here = found .here;
       })
 
-  absent : p ≡ length rows → thereAt rows (bytes krows) i ≡ false
+  absent : p ≡ length rows → thereAt rows (naturals krows) i ≡ false
   unfolding thereAt
   absent x = rw (whole, x, le-ltb (length rows) (length rows) (omega arith))
 
@@ -83,22 +83,22 @@ module _ (rows krows : List ℕ) (start room : ℕ) (w : LocatePre rows krows st
     inside : p < length rows
     inside = cmp p (length rows) (λ l. l) (λ q. absurd (x q)) (λ g. absurd (omega (arith, found .high)))
 
-    there : thereAt rows (bytes krows) i ≡ true
+    there : thereAt rows (naturals krows) i ≡ true
     unfolding thereAt
     there = rw (whole, lt-ltb p (length rows) inside)
 
     passed-step : Passed rows krows (p + 1) (i + 1)
     passed-step = record {
       below = λ q d l m n.
-          let at : bytes rows p ≡ bytes krows i = found .here inside in
-          let up : bytes krows i < bytes krows d
-          = rising-lt (bytes krows) (length krows) (rising-is (bytes krows) (length krows) (w .descendant)) i d (omega arith) n in
-          cmp q p (λ a. omega (arith, rising-lt (bytes rows) (length rows) (rising-is (bytes rows) (length rows) (w .target)) q p a inside))
-          (λ a. omega (arith, ap (bytes rows) a)) (λ a. absurd (omega arith));
+          let at : naturals rows p ≡ naturals krows i = found .here inside in
+          let up : naturals krows i < naturals krows d
+          = rising-lt (naturals krows) (length krows) (rising-is (naturals krows) (length krows) (w .descendant)) i d (omega arith) n in
+          cmp q p (λ a. omega (arith, rising-lt (naturals rows) (length rows) (rising-is (naturals rows) (length rows) (w .target)) q p a inside))
+          (λ a. omega (arith, ap (naturals rows) a)) (λ a. absurd (omega arith));
     }
 
     located-step : (places : List ℕ) → i < length places → Located rows krows start i places → Located rows krows start (i + 1) (set places i p)
-    unfolding bytes
+    unfolding naturals
     located-step places l d = record {
       inside = λ r a b. test (eqb r i)
           (λ t. let z : getD (set places i p) r 0 ≡ p = ap (λ (k : ℕ). getD (set places i p) k 0) (eqb-true r i t) ∙ getD-set-same places i p 0 l in
@@ -120,7 +120,7 @@ pub record Locating (rows krows : List ℕ) (start room : ℕ) (places : List �
   pub high : i ≤ length krows
   pub next : from ≤ length rows
   pub size : length places ≡ room
-  pub scan : firstNot (thereAt rows (bytes krows)) AbsentRow (length krows - i) i ≡ firstNot (thereAt rows (bytes krows)) AbsentRow (length krows - start) start
+  pub scan : firstNot (thereAt rows (naturals krows)) AbsentRow (length krows - i) i ≡ firstNot (thereAt rows (naturals krows)) AbsentRow (length krows - start) start
   pub passed : Passed rows krows from i
   pub located : Located rows krows start i places
 
@@ -137,27 +137,27 @@ module _ (rows krows : List ℕ) (start room : ℕ) (places : List ℕ) (w : Loc
   }
 
   module _ (from i p : ℕ) (v : Locating rows krows start room places from i) (h : i < length krows)
-      (e : p ≡ placeFrom (bytes rows) (bytes krows i) (length rows - from) from) where
+      (e : p ≡ placeFrom (naturals rows) (naturals krows i) (length rows - from) from) where
     pub locating-step : (p ≡ length rows → ⊥) → Locating rows krows start room (set places i p) (p + 1) (i + 1)
     locating-step x = record {
       low = omega (arith, v .low);
       high = omega arith;
       next = omega (arith, inside rows krows start room w from i p h (v .next) (v .passed) e x);
       size = length-set places i p ∙ v .size;
-      scan = first-step (thereAt rows (bytes krows)) AbsentRow (length krows) i true _ h
+      scan = first-step (thereAt rows (naturals krows)) AbsentRow (length krows) i true _ h
           (sym (there rows krows start room w from i p h (v .next) (v .passed) e x)) refl (v .scan);
       passed = passed-step rows krows start room w from i p h (v .next) (v .passed) e x;
       located = located-step rows krows start room w from i p h (v .next) (v .passed) e x places (omega (arith, v .size, w .fits)) (v .located);
     }
 
-    pub locating-bad : p ≡ length rows → Refused (AbsentRow i) ≡ firstNot (thereAt rows (bytes krows)) AbsentRow (length krows - start) start
+    pub locating-bad : p ≡ length rows → Refused (AbsentRow i) ≡ firstNot (thereAt rows (naturals krows)) AbsentRow (length krows - start) start
     locating-bad x =
-        first-bad (thereAt rows (bytes krows)) AbsentRow (length krows) i false _ (AbsentRow i) h
+        first-bad (thereAt rows (naturals krows)) AbsentRow (length krows) i false _ (AbsentRow i) h
         (sym (absent rows krows start room w from i p h (v .next) (v .passed) e x)) refl (v .scan) refl
 
   module _ (from i : ℕ) (v : Locating rows krows start room places from i) (h : length krows ≤ i) where
-    pub locating-end : Sound ≡ firstNot (thereAt rows (bytes krows)) AbsentRow (length krows - start) start
-    locating-end = first-end (thereAt rows (bytes krows)) AbsentRow (length krows) i _ h (v .scan)
+    pub locating-end : Sound ≡ firstNot (thereAt rows (naturals krows)) AbsentRow (length krows - start) start
+    locating-end = first-end (thereAt rows (naturals krows)) AbsentRow (length krows) i _ h (v .scan)
 
     pub locating-all : Located rows krows start (length krows) places
     locating-all = let e : i ≡ length krows = omega (arith, v .high) in rw e at (v .located)

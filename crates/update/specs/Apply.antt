@@ -9,7 +9,7 @@ use lib.ListN.{length}
 use lib.Ieee.{Float}
 use Rattle.model.specs.Sizes.{mostColumns}
 use Rattle.model.specs.Scalar.{_⊖_, _⊗_, zeroF}
-use Rattle.model.specs.Matrix.{Row, Mat, view, bytes}
+use Rattle.model.specs.Matrix.{Row, Mat, view, naturals}
 use Rattle.model.specs.Step.{diagonalsOf}
 use Rattle.model.specs.Panel.{timesD, sumFrom}
 use Rattle.model.specs.Inertia.{checkBytes}
@@ -53,8 +53,8 @@ lessFrom places acc j (suc m) r a = lessFrom places acc j m (r + 1) (lessAt a (p
 -- row c of the descendant, if it lands on one of the ncol columns from `first` on
 unfoldable pub rowApplied : ℕ → ℕ → Descendant → (ℕ → ℕ) → ℕ → Mat → Mat
 rowApplied first ncol k places c a =
-    let new = lessFrom places (landingAcc k c) (bytes (k .rows) c - first) (k .mk - c) c a in
-    cond (landsOn first ncol (bytes (k .rows) c)) new a
+    let new = lessFrom places (landingAcc k c) (naturals (k .rows) c - first) (k .mk - c) c a in
+    cond (landsOn first ncol (naturals (k .rows) c)) new a
 
 -- m rows of the descendant from c on
 unfoldable pub rowsApplied : ℕ → ℕ → Descendant → (ℕ → ℕ) → ℕ → ℕ → Mat → Mat
@@ -70,7 +70,7 @@ pub record WeightPre (n i : ℕ) (bs : List ℕ) (s panel d sub : ℕ) : Type 0 
   pub pivot : s < d
   pub subdiagonal : s < sub
   pub byte : s < length bs
-  pub next : bytes bs s ≡ 1 → n + (s + 1) * n ≤ panel
+  pub next : naturals bs s ≡ 1 → n + (s + 1) * n ≤ panel
 
 -- rows lo up to hi of a panel of n rows and nk columns, with row i, the pivots, and room for acc
 pub record SumPre (nk n i lo hi : ℕ) (bs : List ℕ) (room panel d sub : ℕ) : Type 0 where
@@ -89,7 +89,7 @@ pub record SubtractPre (n j : ℕ) (places : List ℕ) (lo hi panel acc : ℕ) :
   pub up : lo ≤ hi
   pub there : hi ≤ length places
   pub sums : hi - lo ≤ acc
-  pub inside : (r : ℕ) → lo ≤ r → r < hi → In n (bytes places r) j panel
+  pub inside : (r : ℕ) → lo ≤ r → r < hi → In n (naturals places r) j panel
 
 -- target and descendant, with the places of the descendant's rows from lo on
 pub record ApplyPre (ncol nrow nk mk : ℕ) (bs places : List ℕ) (lo panel kpanel d sub : ℕ) : Type 0 where
@@ -98,7 +98,7 @@ pub record ApplyPre (ncol nrow nk mk : ℕ) (bs places : List ℕ) (lo panel kpa
   pub numbers : NumbersPre nk mk kpanel d sub (length bs)
   pub check : checkBytes bs ≡ Sound
   pub room : mk ≤ length places
-  pub inside : (r : ℕ) → lo ≤ r → r < mk → bytes places r < nrow
+  pub inside : (r : ℕ) → lo ≤ r → r < mk → naturals places r < nrow
 
 -- rows lo up to hi of the descendant, at or past the row c that lands on column j, and room for their acc
 pub record PartPre (ncol mk c j lo hi room : ℕ) : Type 0 where

@@ -7,7 +7,7 @@ use lib.Dec.{leb}
 use lib.ListN.{length}
 use lib.Ieee.{Float}
 use Rattle.model.specs.Sizes.{mostColumns, mostRows}
-use Rattle.model.specs.Matrix.{view, bytes, columnMajor}
+use Rattle.model.specs.Matrix.{view, naturals, columnMajor}
 use Rattle.model.specs.Factor.{everyFrom}
 use Rattle.model.specs.Inertia.{checkBytes}
 use Rattle.model.specs.Assembly.{firstNot, Panelled, panelAfter}
@@ -28,13 +28,13 @@ descendantOf nk mk panel d sub blocks rows = record { nk = nk; mk = mk; panel = 
 unfoldable pub listsCheck : Target → Descendant → List Float → Check
 listsCheck t k panel =
     orElse (refuseIf (not (updateSound t k panel)) UpdateLength)
-    (orElse (refuseIf (not (rising (bytes (t .rows)) (t .nrow) && beginsAt (t .first) (bytes (t .rows)) (t .ncol))) TargetRows)
-    (orElse (refuseIf (not (rising (bytes (k .rows)) (k .mk))) DescendantRows) (checkBytes (k .blocks))))
+    (orElse (refuseIf (not (rising (naturals (t .rows)) (t .nrow) && beginsAt (t .first) (naturals (t .rows)) (t .ncol))) TargetRows)
+    (orElse (refuseIf (not (rising (naturals (k .rows)) (k .mk))) DescendantRows) (checkBytes (k .blocks))))
 
 -- refusals 17 and 18
 unfoldable pub columnsCheck : Target → Descendant → Check
 columnsCheck t k =
-    orElse (cond (leb 1 (k .nk)) (absentFrom t (bytes (k .rows)) (k .mk) 0 (not true)) Sound) (firstNot (descendantSound k) numberAt (k .nk) 0)
+    orElse (cond (leb 1 (k .nk)) (absentFrom t (naturals (k .rows)) (k .mk) 0 (not true)) Sound) (firstNot (descendantSound k) numberAt (k .nk) 0)
 
 -- the target's panel with the update
 unfoldable pub updatedPanel : Target → Descendant → List Float → List Float
@@ -65,9 +65,9 @@ pub record Sizes (t : Target) (k : Descendant) (panel : ℕ) : Type 0 where
 pub record ListsPre (t : Target) (k : Descendant) (panel : ℕ) : Type 0 where
   pub some : 1 ≤ k .nk
   pub sizes : Sizes t k panel
-  pub target : everyFrom (risesAt (bytes (t .rows)) (length (t .rows))) (length (t .rows)) 0 ≡ true
-  pub columns : everyFrom (standsAt (t .first) (bytes (t .rows))) (t .ncol) 0 ≡ true
-  pub descendant : everyFrom (risesAt (bytes (k .rows)) (length (k .rows))) (length (k .rows)) 0 ≡ true
+  pub target : everyFrom (risesAt (naturals (t .rows)) (length (t .rows))) (length (t .rows)) 0 ≡ true
+  pub columns : everyFrom (standsAt (t .first) (naturals (t .rows))) (t .ncol) 0 ≡ true
+  pub descendant : everyFrom (risesAt (naturals (k .rows)) (length (k .rows))) (length (k .rows)) 0 ≡ true
   pub check : checkBytes (k .blocks) ≡ Sound
 
 -- a descendant's sizes, and the lengths of its numbers' lists

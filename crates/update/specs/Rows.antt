@@ -7,7 +7,7 @@ use Prim.Native.Nat.{ℕ, zero, suc, _+_, _<_, _≤_, _^_}
 use lib.Dec.{leb, ltb, eqb}
 use lib.ListN.{length}
 use Rattle.model.specs.Sizes.{mostRows}
-use Rattle.model.specs.Matrix.{bytes}
+use Rattle.model.specs.Matrix.{naturals}
 use Rattle.model.specs.Factor.{everyFrom}
 use Rattle.model.specs.Update.{placeFrom}
 
@@ -28,7 +28,7 @@ landsAt first ncol rows = λ i. landsOn first ncol (rows i)
 
 -- row i of the descendant is a row of the target
 unfoldable pub thereAt : List ℕ → (ℕ → ℕ) → ℕ → Bool
-thereAt rows krows = λ i. ltb (placeFrom (bytes rows) (krows i) (length rows) 0) (length rows)
+thereAt rows krows = λ i. ltb (placeFrom (naturals rows) (krows i) (length rows) 0) (length rows)
 
 -- the least of m places from i on where f holds, and the end where it holds at none
 unfoldable pub firstFrom : (ℕ → Bool) → ℕ → ℕ → ℕ
@@ -44,13 +44,13 @@ pub record ColumnsPre (ncol len : ℕ) : Type 0 where
 
 -- two lists that rise, the first of few rows, and a place for each row from `start` on
 pub record LocatePre (rows krows : List ℕ) (start room : ℕ) : Type 0 where
-  pub target : everyFrom (risesAt (bytes rows) (length rows)) (length rows) 0 ≡ true
-  pub descendant : everyFrom (risesAt (bytes krows) (length krows)) (length krows) 0 ≡ true
+  pub target : everyFrom (risesAt (naturals rows) (length rows)) (length rows) 0 ≡ true
+  pub descendant : everyFrom (risesAt (naturals krows) (length krows)) (length krows) 0 ≡ true
   pub begin : start ≤ length krows
   pub fits : length krows ≤ room
   pub few : length rows ≤ mostRows
 
 -- `places` has, for rows lo up to hi of the descendant, where they stand among the target's
 pub record Located (rows krows : List ℕ) (lo hi : ℕ) (places : List ℕ) : Type 0 where
-  pub inside : (r : ℕ) → lo ≤ r → r < hi → bytes places r < length rows
-  pub same : (r : ℕ) → lo ≤ r → r < hi → bytes rows (bytes places r) ≡ bytes krows r
+  pub inside : (r : ℕ) → lo ≤ r → r < hi → naturals places r < length rows
+  pub same : (r : ℕ) → lo ≤ r → r < hi → naturals rows (naturals places r) ≡ naturals krows r

@@ -6,7 +6,7 @@ ghost use Prim.Native.Nat.{_+_, _-_, _<_, _≤_, min};
 ghost use lib.ListN.{length};
 ghost use mir.Syntax.{w64};
 ghost use mir.Val.{Fits};
-ghost use Rattle.model.specs.Matrix.{view, vec, bytes, withPart};
+ghost use Rattle.model.specs.Matrix.{view, vec, naturals, withPart};
 ghost use Rattle.grid.specs.Grid.{In};
 ghost use Rattle.kernels.specs.Rules.{behind, plusTimes};
 ghost use Rattle.grid.specs.Rules.{columnOf, RowsPre};
@@ -180,7 +180,7 @@ fn subtract(
     hi: usize,
 )
     requires { ⌜ SubtractPre nrow (column .0) (now places) lo hi (length (now panel)) (length (now acc)) ⌝ }
-    ensures { λ _. ⌜ view nrow (now (panel .exit)) ≡ lessFrom (bytes (now (places .entry)))
+    ensures { λ _. ⌜ view nrow (now (panel .exit)) ≡ lessFrom (naturals (now (places .entry)))
         (behind lo (vec (now (acc .entry)))) (column .0) (hi - lo) lo (view nrow (now (panel .entry))) ⌝ }
 {
     let mut r = lo;
@@ -215,7 +215,7 @@ fn update_part(
     requires { ⌜ ApplyPre (s .ncol) (s .nrow) (s .nk) (s .mk) (now kblocks) (now places) c (length (now panel))
         (length (now kpanel)) (length (now kd)) (length (now ksub)) ⌝ }
     requires { ⌜ PartPre (s .ncol) (s .mk) c (column .0) lo hi (length (now acc)) ⌝ }
-    ensures { λ _. ⌜ view (s .nrow) (now (panel .exit)) ≡ lessFrom (bytes (now (places .entry)))
+    ensures { λ _. ⌜ view (s .nrow) (now (panel .exit)) ≡ lessFrom (naturals (now (places .entry)))
         (fromRow (accOf (s .nk + s .mk) (s .nk) (now (kpanel .entry)) (now (kd .entry)) (now (ksub .entry))
         (now (kblocks .entry)) (s .nk + c)) (s .nk)) (column .0) (hi - lo) lo
         (view (s .nrow) (now (panel .entry))) ⌝ }
@@ -267,7 +267,7 @@ fn update_row(
     requires { ⌜ (length (now krows) ≡ s .mk) × (c < s .mk) × (length (now acc) ≡ 256) ⌝ }
     ensures { λ _. ⌜ view (s .nrow) (now (panel .exit)) ≡ rowApplied (s .first .0) (s .ncol)
         (descendantOf (s .nk) (s .mk) (now (kpanel .entry)) (now (kd .entry)) (now (ksub .entry))
-        (now (kblocks .entry)) (now (krows .entry))) (bytes (now (places .entry))) c
+        (now (kblocks .entry)) (now (krows .entry))) (naturals (now (places .entry))) c
         (view (s .nrow) (now (panel .entry))) ⌝ }
 {
     let g = GlobalRow(krows[c]);
@@ -314,7 +314,7 @@ pub fn update_rows(
     requires { ⌜ length (now krows) ≡ s .mk ⌝ }
     ensures { λ _. ⌜ view (s .nrow) (now (panel .exit)) ≡ rowsApplied (s .first .0) (s .ncol)
         (descendantOf (s .nk) (s .mk) (now (kpanel .entry)) (now (kd .entry)) (now (ksub .entry))
-        (now (kblocks .entry)) (now (krows .entry))) (bytes (now (places .entry))) (s .mk - start) start
+        (now (kblocks .entry)) (now (krows .entry))) (naturals (now (places .entry))) (s .mk - start) start
         (view (s .nrow) (now (panel .entry))) ⌝ }
 {
     let mut acc = [0.0; PART];

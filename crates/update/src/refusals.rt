@@ -4,7 +4,7 @@ ghost use mathlib.Core.Path.{_≡_};
 ghost use mathlib.Core.Bool.{_&&_};
 ghost use mathlib.Core.List.{[]};
 ghost use lib.ListN.{length};
-ghost use Rattle.model.specs.Matrix.{bytes};
+ghost use Rattle.model.specs.Matrix.{naturals};
 ghost use Rattle.model.specs.Factor.{everyFrom};
 ghost use Rattle.model.specs.Assembly.{firstNot};
 ghost use Rattle.model.specs.Update.{updateSound, descendantSound, numberAt};
@@ -54,8 +54,8 @@ fn lengths_sound(
 // Refusal 14's test.
 fn target_sound(first: GlobalRow, rows: &[u32], ncol: usize) -> bool
     requires { ⌜ ColumnsPre ncol (length (now rows)) ⌝ }
-    ensures { λ r. ⌜ r ≡ everyFrom (risesAt (bytes (now (rows .entry))) (length (now (rows .entry))))
-        (length (now (rows .entry))) 0 && everyFrom (standsAt (first .0) (bytes (now (rows .entry)))) ncol 0 ⌝ }
+    ensures { λ r. ⌜ r ≡ everyFrom (risesAt (naturals (now (rows .entry))) (length (now (rows .entry))))
+        (length (now (rows .entry))) 0 && everyFrom (standsAt (first .0) (naturals (now (rows .entry)))) ncol 0 ⌝ }
 {
     if !rows::rising(rows) {
         return false;

@@ -5,7 +5,7 @@ ghost use mathlib.Core.Path.{_≡_};
 ghost use Prim.Native.Nat.{_+_, _-_, _<_, _≤_, _^_};
 ghost use lib.Dec.{eqb};
 ghost use lib.ListN.{length};
-ghost use Rattle.model.specs.Matrix.{bytes};
+ghost use Rattle.model.specs.Matrix.{naturals};
 ghost use Rattle.model.specs.Factor.{everyFrom};
 ghost use Rattle.model.specs.Assembly.{firstNot};
 ghost use Rattle.model.specs.Update.{placeFrom};
@@ -22,7 +22,7 @@ use model::Refusal;
 // Row i is below the one after it, if there is one.
 fn rises_at(rows: &[u32], i: usize) -> bool
     requires { ⌜ i < length (now rows) ⌝ }
-    ensures { λ r. ⌜ r ≡ risesAt (bytes (now (rows .entry))) (length (now (rows .entry))) i ⌝ }
+    ensures { λ r. ⌜ r ≡ risesAt (naturals (now (rows .entry))) (length (now (rows .entry))) i ⌝ }
 {
     if i + 1 == rows.len() {
         return true;
@@ -34,7 +34,7 @@ fn rises_at(rows: &[u32], i: usize) -> bool
 
 // Whether the rows are strictly rising.
 pub fn rising(rows: &[u32]) -> bool
-    ensures { λ r. ⌜ r ≡ everyFrom (risesAt (bytes (now (rows .entry))) (length (now (rows .entry))))
+    ensures { λ r. ⌜ r ≡ everyFrom (risesAt (naturals (now (rows .entry))) (length (now (rows .entry))))
         (length (now (rows .entry))) 0 ⌝ }
 {
     let mut i = 0;
@@ -58,7 +58,7 @@ fn stands_at(first: GlobalRow, column: Elim, g: GlobalRow) -> bool
 // Whether the first ncol rows are first, first + 1, ..
 pub fn begins_at(first: GlobalRow, rows: &[u32], ncol: usize) -> bool
     requires { ⌜ ColumnsPre ncol (length (now rows)) ⌝ }
-    ensures { λ r. ⌜ r ≡ everyFrom (standsAt (first .0) (bytes (now (rows .entry)))) ncol 0 ⌝ }
+    ensures { λ r. ⌜ r ≡ everyFrom (standsAt (first .0) (naturals (now (rows .entry)))) ncol 0 ⌝ }
 {
     let mut j = 0;
     while j < ncol {
@@ -89,7 +89,7 @@ pub fn column_of(first: GlobalRow, g: GlobalRow) -> Elim
 // The first of the descendant's rows that lands; their count where none does.
 pub fn first_landing(first: GlobalRow, ncol: usize, krows: &[u32]) -> usize
     requires { ⌜ ncol < 2 ^ 32 ⌝ }
-    ensures { λ r. ⌜ r ≡ firstFrom (landsAt (first .0) ncol (bytes (now (krows .entry))))
+    ensures { λ r. ⌜ r ≡ firstFrom (landsAt (first .0) ncol (naturals (now (krows .entry))))
         (length (now (krows .entry))) 0 ⌝ }
 {
     let mut i = 0;
@@ -105,7 +105,7 @@ pub fn first_landing(first: GlobalRow, ncol: usize, krows: &[u32]) -> usize
 // The first of the rows, from row `from` on, that is g; their count where none is.
 fn local_row(rows: &[u32], from: LocalRow, g: GlobalRow) -> LocalRow
     requires { ⌜ from .0 ≤ length (now rows) ⌝ }
-    ensures { λ r. ⌜ r .0 ≡ placeFrom (bytes (now (rows .entry))) (g .0)
+    ensures { λ r. ⌜ r .0 ≡ placeFrom (naturals (now (rows .entry))) (g .0)
         (length (now (rows .entry)) - from .0) (from .0) ⌝ }
 {
     let mut i = from.0;
@@ -123,7 +123,7 @@ fn local_row(rows: &[u32], from: LocalRow, g: GlobalRow) -> LocalRow
 // none.
 pub fn locate(rows: &[u32], krows: &[u32], start: usize, places: &mut [u16]) -> Check
     requires { ⌜ LocatePre (now rows) (now krows) start (length (now places)) ⌝ }
-    ensures { λ r. ⌜ r ≡ firstNot (thereAt (now (rows .entry)) (bytes (now (krows .entry)))) AbsentRow
+    ensures { λ r. ⌜ r ≡ firstNot (thereAt (now (rows .entry)) (naturals (now (krows .entry)))) AbsentRow
         (length (now (krows .entry)) - start) start ⌝ }
     ensures { λ r. ⌜ (r ≡ Sound
         → Located (now (rows .entry)) (now (krows .entry)) start (length (now (krows .entry))) (now (places .exit))) ⌝ }

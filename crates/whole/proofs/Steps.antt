@@ -159,9 +159,9 @@ pub start-inside : (ncol : ℕ) (a : Mat) → PivotsInside 1 (start ncol a .pivo
 unfolding start
 start-inside ncol a = record { partner = λ j. omega arith; pair = λ j e. let z : _≡_ {A = ℕ} 0 1 = e in omega arith }
 
-wide : (b : Bool) → byteOf b ≡ 1 → b ≡ true
-wide true e = refl
-wide false e = let z : _≡_ {A = ℕ} 0 1 = e in let n : ⊥ = omega arith in absurd n
+byte-block : (b : Bool) → byteOf b ≡ 1 → b ≡ true
+byte-block true e = refl
+byte-block false e = let z : _≡_ {A = ℕ} 0 1 = e in let n : ⊥ = omega arith in absurd n
 
 noted-inside : (ke limit k : ℕ) (p : Pivots) (v : Pivot) → GoodPivot ke limit k v → PivotsInside ke p → PivotsInside ke (noted p k (lastOf k (isBlock (v .diagonal))) v)
 unfolding noted put
@@ -170,7 +170,7 @@ noted-inside ke limit k p v g w =
       partner = λ j. test (eqb j k) (λ t. rw t (g .row))
           (λ t. rw t (test (eqb j (lastOf k (isBlock (v .diagonal)))) (λ u. rw u (g .first)) (λ u. rw u (w .partner j))));
       pair = λ j. test (eqb j k)
-          (λ t. rw t (λ e. omega (arith, eqb-true j k t, last-block k (isBlock (v .diagonal)) (wide (isBlock (v .diagonal)) e), g .last)))
+          (λ t. rw t (λ e. omega (arith, eqb-true j k t, last-block k (isBlock (v .diagonal)) (byte-block (isBlock (v .diagonal)) e), g .last)))
           (λ t. rw t (test (eqb j (lastOf k (isBlock (v .diagonal))))
           (λ u. rw u (λ e. let z : _≡_ {A = ℕ} 0 1 = e in omega arith))
           (λ u. rw u (w .pair j))));

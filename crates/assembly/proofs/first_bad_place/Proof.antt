@@ -4,7 +4,7 @@ use mathlib.Core.Path.{_≡_}
 use Prim.Native.Nat.{_-_, _≤_}
 use lib.ListN.{length}
 use borrow.Author.Needs.{needs}
-use Rattle.model.specs.Matrix.{bytes}
+use Rattle.model.specs.Matrix.{naturals}
 use Rattle.model.specs.Assembly.{firstNot, placeSound}
 use Rattle.model.specs.declared.Refusal.the-variants.{AssemblyPlace}
 use Rattle.checks.proofs.First.{first-none, first-step, first-bad, first-end}
@@ -13,18 +13,18 @@ use Rattle.assembly.proofs.first_bad_place.Tie as tie
 
 abbrev Inv-loop : tie.InvT-loop
 Inv-loop ncol nrow rows cols k₀ k =
-    (k ≤ length rows) × (firstNot (placeSound ncol nrow (bytes rows) (bytes cols)) AssemblyPlace (length rows - k) k
-    ≡ firstNot (placeSound ncol nrow (bytes rows) (bytes cols)) AssemblyPlace (length rows) 0)
+    (k ≤ length rows) × (firstNot (placeSound ncol nrow (naturals rows) (naturals cols)) AssemblyPlace (length rows - k) k
+    ≡ firstNot (placeSound ncol nrow (naturals rows) (naturals cols)) AssemblyPlace (length rows) 0)
 
 abbrev μ-loop : tie.MeasureT-loop
 μ-loop ncol nrow rows cols k₀ k = length rows - k
 
 returns : tie.Need-returns Inv-loop μ-loop
-unfolding placeSound bytes
+unfolding placeSound naturals
 returns c = search first-bad
 
 loop-again : tie.Need-loop-again Inv-loop μ-loop
-unfolding placeSound bytes
+unfolding placeSound naturals
 loop-again c = (search needs, search first-step)
 
 pub first-bad-place-spec : {M : Type 1} → statement M

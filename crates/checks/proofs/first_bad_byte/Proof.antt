@@ -4,7 +4,7 @@ use mathlib.Core.Path.{_≡_}
 use Prim.Native.Nat.{_-_, _≤_}
 use lib.ListN.{length}
 use borrow.Author.Needs.{needs}
-use Rattle.model.specs.Matrix.{bytes}
+use Rattle.model.specs.Matrix.{naturals}
 use Rattle.model.specs.Assembly.{firstNot}
 use Rattle.model.specs.Inertia.{byteSound, checkBytes}
 use Rattle.checks.proofs.First.{first-step, first-bad, first-end}
@@ -14,7 +14,7 @@ use Rattle.checks.proofs.first_bad_byte.Tie as tie
 
 abbrev Inv-loop : tie.InvT-loop
 Inv-loop blocks k₀ k =
-    (k ≤ length blocks) × (firstNot (byteSound (bytes blocks) (length blocks)) byteAt (length blocks - k) k ≡ checkBytes blocks)
+    (k ≤ length blocks) × (firstNot (byteSound (naturals blocks) (length blocks)) byteAt (length blocks - k) k ≡ checkBytes blocks)
 
 abbrev μ-loop : tie.MeasureT-loop
 μ-loop blocks k₀ k = length blocks - k

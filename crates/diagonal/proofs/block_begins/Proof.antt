@@ -1,12 +1,12 @@
 -- `diagonal::block_begins` meets its contract: the byte is read as the definition reads it. Assumes nothing.
 use mathlib.Core.Path.{refl}
 use borrow.Author.Needs.{needs}
-use Rattle.model.specs.Matrix.{bytes}
+use Rattle.model.specs.Matrix.{naturals}
 use Rattle.diagonal.proofs.block_begins.Statement.{statement}
 use Rattle.diagonal.proofs.block_begins.Tie as tie
 
 returns : tie.Need-returns
-unfolding bytes
+unfolding naturals
 returns c = refl
 
 pub block-begins-spec : {M : Type 1} → statement M

@@ -1,6 +1,6 @@
 -- `factor::accept` meets its contract: marks and counts, then the working buffer zeroed. Assumes nothing.
 use borrow.Author.Needs.{needs}
-use Rattle.finish.specs.Buffers.{buffersOf}
+use Rattle.buffers.specs.Buffers.{buffersOf}
 use Rattle.factor.proofs.Outcome.{accept-is}
 use Rattle.factor.proofs.accept.Statement.{statement}
 use Rattle.factor.proofs.accept.Tie as tie

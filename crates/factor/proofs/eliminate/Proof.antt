@@ -7,7 +7,7 @@ use Rattle.model.specs.Matrix.{view}
 use Rattle.model.specs.Step.{pivotsOf}
 use Rattle.model.specs.Factor.{pivotingOf, Buffers, start}
 use Rattle.whole.specs.Whole.{WholeRun}
-use Rattle.finish.specs.Buffers.{buffersOf}
+use Rattle.buffers.specs.Buffers.{buffersOf}
 use Rattle.panels.specs.Turn.{between}
 use Rattle.panels.specs.Run.{runOf}
 use Rattle.factor.proofs.Begin.{copy-pre, run-pre, holds-pre, run-is, noted-none, start-is}

@@ -2,7 +2,7 @@
 use mathlib.Core.Path.{sym}
 use Rattle.model.specs.Factor.{Buffers}
 use Rattle.entry.proofs.Laws.{entry-refused, entry-sound}
-use Rattle.finish.specs.Buffers.{buffersOf}
+use Rattle.buffers.specs.Buffers.{buffersOf}
 use borrow.Author.Needs.{needs}
 use Rattle.factor.proofs.factor.Statement.{statement}
 use Rattle.factor.proofs.factor.Tie as tie

@@ -1,7 +1,7 @@
 -- `factor::judge` meets its contract: refusal 9 leaves zeros, else the call is accepted. Assumes nothing.
 use Rattle.model.specs.Factor.{Buffers, Outcome}
 use Rattle.scan.proofs.Finite.{sum-known}
-use Rattle.finish.specs.Buffers.{buffersOf}
+use Rattle.buffers.specs.Buffers.{buffersOf}
 use Rattle.factor.specs.Judge.{outcomeOf}
 use Rattle.factor.proofs.Judged.{result-pre, judge-refused, judge-accepted}
 use borrow.Author.Needs.{needs}

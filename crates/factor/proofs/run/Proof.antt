@@ -1,7 +1,7 @@
 -- `factor::run` meets its contract: a run that stops leaves zeros and its refusal, one that ends is judged. Assumes nothing.
 use mathlib.Core.Path.{refl, _∙_}
 use Rattle.model.specs.Factor.{Buffers, factorOf}
-use Rattle.finish.specs.Buffers.{buffersOf}
+use Rattle.buffers.specs.Buffers.{buffersOf}
 use Rattle.factor.proofs.Judged.{SameLengths, stopped-call, judge-pre, judge-call, refusal-says}
 use borrow.Author.Needs.{needs}
 use Rattle.factor.proofs.run.Statement.{statement}

@@ -4,7 +4,7 @@ use Prim.Native.Nat.{_-_, _≤_}
 use mathlib.Core.Path.{_≡_}
 use borrow.Author.Needs.{needs}
 use lib.ListN.{length}
-use Rattle.model.specs.Matrix.{vec, bytes}
+use Rattle.model.specs.Matrix.{vec, naturals}
 use Rattle.model.specs.Inertia.{talliedFrom, talliedOf}
 use Rattle.inertia.proofs.Running.{total, pivot-pre, past-within, past-less, total-step, tally-none, tally-step, tally-end}
 use Rattle.inertia.proofs.tally.Statement.{statement}
@@ -13,7 +13,7 @@ use Rattle.inertia.proofs.tally.Tie as tie
 abbrev Inv-loop : tie.InvT-loop
 Inv-loop d sub blocks t₀ k₀ t k =
     (k ≤ length d) × (total t ≡ k)
-    × (talliedFrom (vec d) (vec sub) (bytes blocks) (length d) (length d - k) k t ≡ talliedOf (length d) (vec d) (vec sub) (bytes blocks))
+    × (talliedFrom (vec d) (vec sub) (naturals blocks) (length d) (length d - k) k t ≡ talliedOf (length d) (vec d) (vec sub) (naturals blocks))
 
 abbrev μ-loop : tie.MeasureT-loop
 μ-loop d sub blocks t₀ k₀ t k = length d - k

@@ -1,6 +1,6 @@
 -- `notes::put_both_rows` meets its contract. Assumes nothing.
 use borrow.Author.Needs.{needs}
-use Rattle.notes.proofs.Laws.{bytes-both}
+use Rattle.notes.proofs.Laws.{naturals-both}
 use Rattle.notes.proofs.put_both_rows.Statement.{statement}
 use Rattle.notes.proofs.put_both_rows.Tie as tie
 
@@ -9,4 +9,4 @@ put-both-rows-spec =
     tie.close
     (tie.spec
     (λ c. search needs) (λ c. search needs) (λ c. search needs) (λ c. search needs) (λ c. search needs) (λ c. search needs) (λ c. search needs)
-    (λ c. search bytes-both))
+    (λ c. search naturals-both))

@@ -5,7 +5,7 @@ use Prim.Native.Nat.{ℕ, _*_}
 use lib.ListN.{length, take}
 use lib.Ieee.{Float}
 use borrow.Author.Needs.{needs}
-use Rattle.model.specs.Matrix.{bytes}
+use Rattle.model.specs.Matrix.{naturals}
 use Rattle.model.specs.Step.{Pivots, pivotsOf}
 use Rattle.model.specs.Head.{State, blank}
 use Rattle.tail.specs.Tail.{StepsPre}
@@ -99,11 +99,11 @@ diagonals s =
     let kept = s .steps .kept in
     diagonals-kept _ _ _ _ _ _ _ _ _ (entry s .pre .1 .0 .diagonals) (kept .1 .1 .0) (kept .1 .1 .1 .0) (kept .1 .1 .1 .1 .0) (kept .1 .1 .1 .1 .1 .0)
 
-noted : (g : tie.After-ran) → StepsPre (entry (stepped g) .args .at .kb) (entry (stepped g) .args .at .ke) (bytes (blocks-left (stepped g)))
-    (bytes (partners-left (stepped g)))
+noted : (g : tie.After-ran) → StepsPre (entry (stepped g) .args .at .kb) (entry (stepped g) .args .at .ke) (naturals (blocks-left (stepped g)))
+    (naturals (partners-left (stepped g)))
 noted g =
     let s = stepped g in
-    steps-pre (entry s .args .at .kb) (entry s .args .at .ke) _ (s .steps .result) (bytes (blocks-left s)) (bytes (partners-left s)) (s .steps .ensures .1)
+    steps-pre (entry s .args .at .kb) (entry s .args .at .ke) _ (s .steps .result) (naturals (blocks-left s)) (naturals (partners-left s)) (s .steps .ensures .1)
     (g .ran .given .1)
 
 -- those multipliers are not read
@@ -153,7 +153,7 @@ returns-2 c =
       turn-done (a .how) (a .at) _ (s .steps .result) (s .steps .last .0) (r .rows-below .last .0) (l .later-columns .last .0) (kept-part s)
           (pivots-left s) (given (entry s)) (s .steps .ensures .0) told (r .rows-below .ensures) (l .later-columns .ensures)
           ∙ forgotten (entry s),
-      leaves-done (a .at .kb) (a .at .ke) _ (s .steps .result) (bytes (blocks-left s)) (bytes (partners-left s)) (s .steps .ensures .1) told,
+      leaves-done (a .at .kb) (a .at .ke) _ (s .steps .result) (naturals (blocks-left s)) (naturals (partners-left s)) (s .steps .ensures .1) told,
     )
 
 pub one-panel-spec : {M : Type 1} → statement M

@@ -4,7 +4,7 @@ use Prim.Native.Nat.{ℕ, _+_, _≤_, _-_}
 use mathlib.Core.Path.{_≡_, refl, _∙_}
 use lib.ListN.{length}
 use borrow.Author.Needs.{needs}
-use Rattle.model.specs.Matrix.{bytes}
+use Rattle.model.specs.Matrix.{naturals}
 use Rattle.model.specs.Step.{pivotsOf}
 use Rattle.model.specs.Head.{State}
 use Rattle.model.specs.Factor.{pivotingOf}
@@ -31,7 +31,7 @@ Inv-loop panel₀ work₀ d₀ sub₀ blocks₀ partners₀ lifts₀ amounts₀ 
     × (length order ≡ length order₀)
     × (wholePanelsOf how nrow ncol nb (ncol - kb) kb (between nrow panel (pivotsOf d sub blocks partners lifts amounts order) rounds)
     ≡ wholePanelsOf how nrow ncol nb ncol 0 (between nrow panel₀ (pivotsOf d₀ sub₀ blocks₀ partners₀ lifts₀ amounts₀ order₀) 0))
-    × NotedTo kb (kb + 1) rounds (bytes blocks) (bytes partners)
+    × NotedTo kb (kb + 1) rounds (naturals blocks) (naturals partners)
 
 abbrev μ-loop : tie.MeasureT-loop
 μ-loop panel₀ work₀ d₀ sub₀ blocks₀ partners₀ lifts₀ amounts₀ order₀ nrow ncol nb how kb₀ rounds₀
@@ -87,10 +87,10 @@ left c =
 
 -- its block bytes and exchange partners
 abbrev blocks-left : tie.After-one-panel Inv-loop μ-loop → ℕ → ℕ
-blocks-left c = bytes (c .one-panel .last .1 .1 .1 .1 .0)
+blocks-left c = naturals (c .one-panel .last .1 .1 .1 .1 .0)
 
 abbrev partners-left : tie.After-one-panel Inv-loop μ-loop → ℕ → ℕ
-partners-left c = bytes (c .one-panel .last .1 .1 .1 .1 .1 .0)
+partners-left c = naturals (c .one-panel .last .1 .1 .1 .1 .1 .0)
 
 -- ---- the needs
 

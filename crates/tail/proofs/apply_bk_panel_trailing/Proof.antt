@@ -4,7 +4,7 @@ use Prim.Native.Nat.{_≤_, _-_}
 use mathlib.Core.Path.{_≡_, refl, _∙_}
 use lib.ListN.{length}
 use borrow.Author.Needs.{needs}
-use Rattle.model.specs.Matrix.{view, bytes}
+use Rattle.model.specs.Matrix.{view, naturals}
 use Rattle.model.specs.Step.{diagonalsOf, rowAfterSteps}
 use Rattle.model.specs.Kept.{Starts}
 use Rattle.whole.specs.Whole.{below}
@@ -16,9 +16,9 @@ use Rattle.tail.proofs.apply_bk_panel_trailing.Tie as tie
 abbrev Inv-loop : tie.InvT-loop
 Inv-loop panel₀ mult d sub blocks partners at ke k₀ panel k =
     let I = inPanel (at .kb) (at .ke) (view (at .nb) mult) in
-    (at .kb ≤ k) × Starts (bytes blocks) k × (length panel ≡ length panel₀)
-    × (below (at .ke) (at .nrow) (rowAfterSteps (diagonalsOf d sub blocks) (bytes partners) I (at .ke) (at .ke - k) k) (view (at .nrow) panel)
-    ≡ below (at .ke) (at .nrow) (rowAfterSteps (diagonalsOf d sub blocks) (bytes partners) I (at .ke) (at .ke - at .kb) (at .kb)) (view (at .nrow) panel₀))
+    (at .kb ≤ k) × Starts (naturals blocks) k × (length panel ≡ length panel₀)
+    × (below (at .ke) (at .nrow) (rowAfterSteps (diagonalsOf d sub blocks) (naturals partners) I (at .ke) (at .ke - k) k) (view (at .nrow) panel)
+    ≡ below (at .ke) (at .nrow) (rowAfterSteps (diagonalsOf d sub blocks) (naturals partners) I (at .ke) (at .ke - at .kb) (at .kb)) (view (at .nrow) panel₀))
 
 abbrev μ-loop : tie.MeasureT-loop
 μ-loop panel₀ mult d sub blocks partners at ke k₀ panel k = at .ke - k

@@ -2,7 +2,7 @@
 use mathlib.Core.Path.{refl}
 use native.Mathlib.Omega.{arith}
 use borrow.Author.Needs.{needs}
-use Rattle.model.specs.Matrix.{bytes}
+use Rattle.model.specs.Matrix.{naturals}
 use Rattle.model.specs.Kept.{Starts}
 use Rattle.tail.specs.Tail.{HerePre}
 use Rattle.tail.proofs.Asked.{here-pre, starts-past, lent-start, lent-place, lent-pre, read-pre, past-later, still-first}
@@ -22,14 +22,14 @@ paired c = c .before .before
 -- ---- where the steps begin
 
 -- the step at k
-here : (c : tie.Start) → HerePre (c .args .at .ke) (bytes (c .args .blocks .now)) (bytes (c .args .partners .now)) (c .args .k .0)
+here : (c : tie.Start) → HerePre (c .args .at .ke) (naturals (c .args .blocks .now)) (naturals (c .args .partners .now)) (c .args .k .0)
 here c = here-pre _ _ _ _ _ (c .pre .1 .0) (c .pre .1 .1 .1 .0) (c .pre .1 .1 .1 .1)
 
 -- after it another begins, before ke
-starts : (c : tie.After-past) → Starts (bytes (entry c .args .blocks .now)) (c .past .result)
+starts : (c : tie.After-past) → Starts (naturals (entry c .args .blocks .now)) (c .past .result)
 starts c = let s = entry c in starts-past _ _ _ _ (s .pre .1 .0 .recorded .paired) (s .pre .1 .1 .1 .0) (c .past .ensures)
 
-there : (c : tie.Then1) → HerePre (entry (c .before) .args .at .ke) (bytes (entry (c .before) .args .blocks .now)) (bytes (entry (c .before) .args .partners .now))
+there : (c : tie.Then1) → HerePre (entry (c .before) .args .at .ke) (naturals (entry (c .before) .args .blocks .now)) (naturals (entry (c .before) .args .partners .now))
     (c .before .past .result)
 there c = here-pre _ _ _ _ _ (entry (c .before) .pre .1 .0) (c .if1 .taken) (starts (c .before))
 

@@ -4,7 +4,7 @@ use mathlib.Core.Path.{_≡_, refl}
 use Prim.Native.Nat.{_-_, _≤_}
 use lib.ListN.{length}
 use borrow.Author.Needs.{needs}
-use Rattle.model.specs.Matrix.{view, vec, bytes}
+use Rattle.model.specs.Matrix.{view, vec, naturals}
 use Rattle.kernels.specs.Rules.{behind}
 use Rattle.update.specs.Apply.{lessFrom}
 use Rattle.update.proofs.Numbers.{subtract-place, less-step, less-end}
@@ -14,14 +14,14 @@ use Rattle.update.proofs.apply.subtract.Tie as tie
 abbrev Inv-loop : tie.InvT-loop
 Inv-loop panel₀ nrow column places acc lo hi r₀ panel r =
     (lo ≤ r) × (r ≤ hi) × (length panel ≡ length panel₀)
-    × (lessFrom (bytes places) (behind lo (vec acc)) (column .0) (hi - r) r (view nrow panel)
-    ≡ lessFrom (bytes places) (behind lo (vec acc)) (column .0) (hi - lo) lo (view nrow panel₀))
+    × (lessFrom (naturals places) (behind lo (vec acc)) (column .0) (hi - r) r (view nrow panel)
+    ≡ lessFrom (naturals places) (behind lo (vec acc)) (column .0) (hi - lo) lo (view nrow panel₀))
 
 abbrev μ-loop : tie.MeasureT-loop
 μ-loop panel₀ nrow column places acc lo hi r₀ panel r = hi - r
 
 cast-t16 : tie.Need-cast-t16 Inv-loop μ-loop
-unfolding bytes
+unfolding naturals
 cast-t16 c =
     let start : tie.Start Inv-loop μ-loop = search in
     let at = c .before .before in
@@ -29,11 +29,11 @@ cast-t16 c =
     search (needs, row)
 
 less-at-requires : tie.Need-less-at-requires Inv-loop μ-loop
-unfolding bytes
+unfolding naturals
 less-at-requires c κs = search subtract-place
 
 loop-again : tie.Need-loop-again Inv-loop μ-loop
-unfolding bytes vec behind
+unfolding naturals vec behind
 loop-again c = (search needs, search needs, search needs, search less-step)
 
 pub subtract-spec : {M : Type 1} → statement M

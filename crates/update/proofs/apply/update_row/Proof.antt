@@ -5,7 +5,7 @@ use Prim.Native.Nat.{_+_, _-_, _≤_, _<_}
 use native.Mathlib.Omega.{arith}
 use lib.ListN.{length}
 use borrow.Author.Needs.{needs}
-use Rattle.model.specs.Matrix.{view, bytes}
+use Rattle.model.specs.Matrix.{view, naturals}
 use Rattle.update.specs.Apply.{accOf, fromRow, lessFrom}
 use Rattle.update.proofs.Landing.{row-none, row-done, lands-from, lands-before, rows-later, part-step}
 use Rattle.update.proofs.apply.update_row.Statement.{statement}
@@ -14,16 +14,16 @@ use Rattle.update.proofs.apply.update_row.Tie as tie
 abbrev Inv-loop : tie.InvT-loop
 Inv-loop s panel₀ kpanel kd ksub kblocks krows places acc₀ c column mk lo₀ panel acc lo =
     (c ≤ lo) × (lo ≤ s .mk) × (column .0 < s .ncol) × (length panel ≡ length panel₀) × (length acc ≡ length acc₀)
-    × (lessFrom (bytes places) (fromRow (accOf (s .nk + s .mk) (s .nk) kpanel kd ksub kblocks (s .nk + c)) (s .nk)) (column .0) (s .mk - lo) lo
+    × (lessFrom (naturals places) (fromRow (accOf (s .nk + s .mk) (s .nk) kpanel kd ksub kblocks (s .nk + c)) (s .nk)) (column .0) (s .mk - lo) lo
     (view (s .nrow) panel)
-    ≡ lessFrom (bytes places) (fromRow (accOf (s .nk + s .mk) (s .nk) kpanel kd ksub kblocks (s .nk + c)) (s .nk)) (column .0) (s .mk - c) c
+    ≡ lessFrom (naturals places) (fromRow (accOf (s .nk + s .mk) (s .nk) kpanel kd ksub kblocks (s .nk + c)) (s .nk)) (column .0) (s .mk - c) c
     (view (s .nrow) panel₀))
 
 abbrev μ-loop : tie.MeasureT-loop
 μ-loop s panel₀ kpanel kd ksub kblocks krows places acc₀ c column mk lo₀ panel acc lo = s .mk - lo
 
 returns : tie.Need-returns Inv-loop μ-loop
-unfolding bytes
+unfolding naturals
 returns c = search row-none
 
 loop-holds : tie.Need-loop-holds Inv-loop μ-loop
@@ -48,7 +48,7 @@ loop-again c =
     )
 
 returns-2 : tie.Need-returns-2 Inv-loop μ-loop
-unfolding bytes
+unfolding naturals
 returns-2 c = search row-done
 
 pub update-row-spec : {M : Type 1} → statement M

@@ -4,7 +4,7 @@ use mathlib.Core.Path.{_≡_, refl}
 use Prim.Native.Nat.{_-_, _≤_}
 use lib.ListN.{length}
 use borrow.Author.Needs.{needs}
-use Rattle.model.specs.Matrix.{view, bytes}
+use Rattle.model.specs.Matrix.{view, naturals}
 use Rattle.update.specs.Call.{descendantOf}
 use Rattle.update.specs.Apply.{rowsApplied}
 use Rattle.update.proofs.Landing.{rows-later, rows-step, rows-end}
@@ -14,8 +14,8 @@ use Rattle.update.proofs.apply.update_rows.Tie as tie
 abbrev Inv-loop : tie.InvT-loop
 Inv-loop s panel₀ kpanel kd ksub kblocks krows places start acc₀ mk c₀ panel acc c =
     (start ≤ c) × (length panel ≡ length panel₀) × (length acc ≡ 256)
-    × (rowsApplied (s .first .0) (s .ncol) (descendantOf (s .nk) (s .mk) kpanel kd ksub kblocks krows) (bytes places) (s .mk - c) c (view (s .nrow) panel)
-    ≡ rowsApplied (s .first .0) (s .ncol) (descendantOf (s .nk) (s .mk) kpanel kd ksub kblocks krows) (bytes places) (s .mk - start) start
+    × (rowsApplied (s .first .0) (s .ncol) (descendantOf (s .nk) (s .mk) kpanel kd ksub kblocks krows) (naturals places) (s .mk - c) c (view (s .nrow) panel)
+    ≡ rowsApplied (s .first .0) (s .ncol) (descendantOf (s .nk) (s .mk) kpanel kd ksub kblocks krows) (naturals places) (s .mk - start) start
     (view (s .nrow) panel₀))
 
 abbrev μ-loop : tie.MeasureT-loop

@@ -1,6 +1,6 @@
 -- `update::refusals::column_sound` meets its contract: the definition by its tests. Assumes nothing.
 use borrow.Author.Needs.{needs}
-use Rattle.model.specs.Matrix.{vec, bytes}
+use Rattle.model.specs.Matrix.{vec, naturals}
 use Rattle.update.proofs.Listed.{column-d, column-sub, column-rest, column-down}
 use Rattle.update.proofs.refusals.column_sound.Statement.{statement}
 use Rattle.update.proofs.refusals.column_sound.Tie as tie
@@ -10,11 +10,11 @@ unfolding vec
 returns c = search column-d
 
 returns-2 : tie.Need-returns-2
-unfolding vec bytes
+unfolding vec naturals
 returns-2 c = search column-sub
 
 returns-3 : tie.Need-returns-3
-unfolding vec bytes
+unfolding vec naturals
 returns-3 c = search column-rest
 
 pub column-sound-spec : {M : Type 1} → statement M

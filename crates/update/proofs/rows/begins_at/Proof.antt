@@ -3,7 +3,7 @@
 use mathlib.Core.Path.{_≡_}
 use Prim.Native.Nat.{_-_, _≤_}
 use borrow.Author.Needs.{needs}
-use Rattle.model.specs.Matrix.{bytes}
+use Rattle.model.specs.Matrix.{naturals}
 use Rattle.model.specs.Factor.{everyFrom}
 use Rattle.update.specs.Rows.{standsAt}
 use Rattle.update.proofs.Scans.{every-none, every-step, every-bad, every-end}
@@ -12,17 +12,17 @@ use Rattle.update.proofs.rows.begins_at.Tie as tie
 
 abbrev Inv-loop : tie.InvT-loop
 Inv-loop first rows ncol j₀ j =
-    (j ≤ ncol) × (everyFrom (standsAt (first .0) (bytes rows)) (ncol - j) j ≡ everyFrom (standsAt (first .0) (bytes rows)) ncol 0)
+    (j ≤ ncol) × (everyFrom (standsAt (first .0) (naturals rows)) (ncol - j) j ≡ everyFrom (standsAt (first .0) (naturals rows)) ncol 0)
 
 abbrev μ-loop : tie.MeasureT-loop
 μ-loop first rows ncol j₀ j = ncol - j
 
 returns : tie.Need-returns Inv-loop μ-loop
-unfolding standsAt bytes
+unfolding standsAt naturals
 returns c = search every-bad
 
 loop-again : tie.Need-loop-again Inv-loop μ-loop
-unfolding standsAt bytes
+unfolding standsAt naturals
 loop-again c = (search needs, search every-step)
 
 pub begins-at-spec : {M : Type 1} → statement M

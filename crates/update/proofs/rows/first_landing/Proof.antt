@@ -4,7 +4,7 @@ use mathlib.Core.Path.{_≡_}
 use Prim.Native.Nat.{_-_, _≤_}
 use lib.ListN.{length}
 use borrow.Author.Needs.{needs}
-use Rattle.model.specs.Matrix.{bytes}
+use Rattle.model.specs.Matrix.{naturals}
 use Rattle.update.specs.Rows.{landsAt, firstFrom}
 use Rattle.update.proofs.Scans.{from-none, from-step, from-hit, from-end}
 use Rattle.update.proofs.rows.first_landing.Statement.{statement}
@@ -12,18 +12,18 @@ use Rattle.update.proofs.rows.first_landing.Tie as tie
 
 abbrev Inv-loop : tie.InvT-loop
 Inv-loop first ncol krows i₀ i =
-    (i ≤ length krows) × (firstFrom (landsAt (first .0) ncol (bytes krows)) (length krows - i) i
-    ≡ firstFrom (landsAt (first .0) ncol (bytes krows)) (length krows) 0)
+    (i ≤ length krows) × (firstFrom (landsAt (first .0) ncol (naturals krows)) (length krows - i) i
+    ≡ firstFrom (landsAt (first .0) ncol (naturals krows)) (length krows) 0)
 
 abbrev μ-loop : tie.MeasureT-loop
 μ-loop first ncol krows i₀ i = length krows - i
 
 returns : tie.Need-returns Inv-loop μ-loop
-unfolding landsAt bytes
+unfolding landsAt naturals
 returns c = search from-hit
 
 loop-again : tie.Need-loop-again Inv-loop μ-loop
-unfolding landsAt bytes
+unfolding landsAt naturals
 loop-again c = (search needs, search from-step)
 
 pub first-landing-spec : {M : Type 1} → statement M

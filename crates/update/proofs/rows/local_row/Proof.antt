@@ -4,7 +4,7 @@ use mathlib.Core.Path.{_≡_}
 use Prim.Native.Nat.{_-_, _≤_}
 use lib.ListN.{length}
 use borrow.Author.Needs.{needs}
-use Rattle.model.specs.Matrix.{bytes}
+use Rattle.model.specs.Matrix.{naturals}
 use Rattle.model.specs.Update.{placeFrom}
 use Rattle.update.proofs.Scans.{place-step, place-hit, place-end}
 use Rattle.update.proofs.rows.local_row.Statement.{statement}
@@ -12,17 +12,17 @@ use Rattle.update.proofs.rows.local_row.Tie as tie
 
 abbrev Inv-loop : tie.InvT-loop
 Inv-loop rows g i₀ i =
-    (i₀ ≤ i) × (i ≤ length rows) × (placeFrom (bytes rows) (g .0) (length rows - i) i ≡ placeFrom (bytes rows) (g .0) (length rows - i₀) i₀)
+    (i₀ ≤ i) × (i ≤ length rows) × (placeFrom (naturals rows) (g .0) (length rows - i) i ≡ placeFrom (naturals rows) (g .0) (length rows - i₀) i₀)
 
 abbrev μ-loop : tie.MeasureT-loop
 μ-loop rows g i₀ i = length rows - i
 
 returns : tie.Need-returns Inv-loop μ-loop
-unfolding bytes
+unfolding naturals
 returns c = search place-hit
 
 loop-again : tie.Need-loop-again Inv-loop μ-loop
-unfolding bytes
+unfolding naturals
 loop-again c = (search needs, search needs, search place-step)
 
 pub local-row-spec : {M : Type 1} → statement M

@@ -5,7 +5,7 @@ use Prim.Native.Nat.{ℕ, _+_, _-_}
 use native.Mathlib.Omega.{arith}
 use lib.ListN.{length, set}
 use borrow.Author.Needs.{needs}
-use Rattle.model.specs.Matrix.{bytes}
+use Rattle.model.specs.Matrix.{naturals}
 use Rattle.update.proofs.Order.{Locating, locating-none, locating-step, locating-bad, locating-end, locating-all}
 use Rattle.update.proofs.rows.locate.Statement.{statement}
 use Rattle.update.proofs.rows.locate.Tie as tie
@@ -26,13 +26,13 @@ head c = search
 step : (c : tie.Else1 Inv-loop μ-loop)
     → Locating (entered c .args .rows .now) (entered c .args .krows .now) (entered c .args .start) (length (entered c .args .places .now))
     (set (head c .loop .places) (head c .loop .i) (c .before .local-row .result .0)) (c .before .local-row .result .0 + 1) (head c .loop .i + 1)
-unfolding bytes
+unfolding naturals
 step c =
     locating-step _ _ _ _ _ (entered c .pre) _ _ _ (head c .loop .inv) (c .before .before .before .loop-test .taken) (c .before .local-row .ensures)
     (c .if1 .left)
 
 returns : tie.Need-returns Inv-loop μ-loop
-unfolding bytes
+unfolding naturals
 returns c =
     let at = c .before .before .before in
     let start : tie.Start Inv-loop μ-loop = search in (

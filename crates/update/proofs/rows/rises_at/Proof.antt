@@ -1,7 +1,7 @@
 -- `update::rows::rises_at` meets its contract: the definition by its test. Assumes nothing.
 use borrow.Author.Needs.{needs}
 use borrow.Author.Tests.{eq-eqb, ne-eqb}
-use Rattle.model.specs.Matrix.{bytes}
+use Rattle.model.specs.Matrix.{naturals}
 use Rattle.update.specs.Rows.{risesAt}
 use Rattle.update.proofs.rows.rises_at.Statement.{statement}
 use Rattle.update.proofs.rows.rises_at.Tie as tie
@@ -11,7 +11,7 @@ unfolding risesAt
 returns c = rw (eq-eqb _ _ (c .if1 .taken))
 
 returns-2 : tie.Need-returns-2
-unfolding risesAt bytes
+unfolding risesAt naturals
 returns-2 c = rw (ne-eqb _ _ (c .before .before .before .before .if1 .left))
 
 pub rises-at-spec : {M : Type 1} → statement M

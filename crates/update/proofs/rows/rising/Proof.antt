@@ -4,7 +4,7 @@ use mathlib.Core.Path.{_≡_}
 use Prim.Native.Nat.{_-_, _≤_}
 use lib.ListN.{length}
 use borrow.Author.Needs.{needs}
-use Rattle.model.specs.Matrix.{bytes}
+use Rattle.model.specs.Matrix.{naturals}
 use Rattle.model.specs.Factor.{everyFrom}
 use Rattle.update.specs.Rows.{risesAt}
 use Rattle.update.proofs.Scans.{every-none, every-step, every-bad, every-end}
@@ -13,7 +13,7 @@ use Rattle.update.proofs.rows.rising.Tie as tie
 
 abbrev Inv-loop : tie.InvT-loop
 Inv-loop rows i₀ i =
-    (i ≤ length rows) × (everyFrom (risesAt (bytes rows) (length rows)) (length rows - i) i ≡ everyFrom (risesAt (bytes rows) (length rows)) (length rows) 0)
+    (i ≤ length rows) × (everyFrom (risesAt (naturals rows) (length rows)) (length rows - i) i ≡ everyFrom (risesAt (naturals rows) (length rows)) (length rows) 0)
 
 abbrev μ-loop : tie.MeasureT-loop
 μ-loop rows i₀ i = length rows - i

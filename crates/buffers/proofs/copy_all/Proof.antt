@@ -1,13 +1,13 @@
--- `finish::copy_all` meets its contract. The invariant: the numbers before a are copied; the measure is what is left. Assumes nothing.
+-- `buffers::copy_all` meets its contract. The invariant: the numbers before a are copied; the measure is what is left. Assumes nothing.
 use Prim.Native.Nat.{_≤_, _-_}
 use mathlib.Core.Path.{_≡_}
 use lib.ListN.{length}
 use borrow.Author.Needs.{needs}
 use Rattle.model.specs.Matrix.{vec, withPart}
 use Rattle.kernels.proofs.Rules.{rule-none}
-use Rattle.finish.proofs.Buffers.{copy-step, copy-end}
-use Rattle.finish.proofs.copy_all.Statement.{statement}
-use Rattle.finish.proofs.copy_all.Tie as tie
+use Rattle.buffers.proofs.Buffers.{copy-step, copy-end}
+use Rattle.buffers.proofs.copy_all.Statement.{statement}
+use Rattle.buffers.proofs.copy_all.Tie as tie
 
 abbrev Inv-loop : tie.InvT-loop
 Inv-loop x₀ s n a₀ x a = (a ≤ n) × (n ≡ length s) × (length x ≡ length s) × (vec x ≡ withPart (vec x₀) 0 a (vec s))

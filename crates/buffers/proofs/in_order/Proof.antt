@@ -1,12 +1,12 @@
--- `finish::in_order` meets its contract. The invariant: each place before i holds itself; the measure is what is left. Assumes nothing.
+-- `buffers::in_order` meets its contract. The invariant: each place before i holds itself; the measure is what is left. Assumes nothing.
 use Prim.Native.Nat.{ℕ, _≤_, _<_, _-_}
 use mathlib.Core.Path.{_≡_}
 use lib.ListN.{length, getD}
 use borrow.Author.Count.{below-none}
 use borrow.Author.Needs.{needs}
-use Rattle.finish.proofs.Buffers.{order-step, order-end}
-use Rattle.finish.proofs.in_order.Statement.{statement}
-use Rattle.finish.proofs.in_order.Tie as tie
+use Rattle.buffers.proofs.Buffers.{order-step, order-end}
+use Rattle.buffers.proofs.in_order.Statement.{statement}
+use Rattle.buffers.proofs.in_order.Tie as tie
 
 abbrev Inv-loop : tie.InvT-loop
 Inv-loop order₀ i₀ i-end order i = (i ≤ i-end) × (i-end ≡ length order₀) × (length order ≡ i-end) × ((k : ℕ) → k < i → getD order k 0 ≡ k)

@@ -6,7 +6,7 @@ use mathlib.Core.List.{List}
 use Prim.Native.Nat.{ℕ, _+_, _*_, _<_, _≤_}
 use lib.ListN.{length}
 use Rattle.model.specs.Scalar.{reciprocalOf, isFinite}
-use Rattle.model.specs.Matrix.{bytes}
+use Rattle.model.specs.Matrix.{naturals}
 use Rattle.model.specs.declared.Block.{Block}
 
 -- a block's determinant and its reciprocal
@@ -23,7 +23,7 @@ pub record HeadPre (nrow ncol k len : ℕ) : Type 0 where
 pub record PivotsPre (n subs : ℕ) (bs : List ℕ) : Type 0 where
   pub sub : subs ≡ n
   pub blocks : length bs ≡ n
-  pub room : (k : ℕ) → k < n → bytes bs k ≡ 1 → k + 1 < n
+  pub room : (k : ℕ) → k < n → naturals bs k ≡ 1 → k + 1 < n
 
 -- a panel of nrow rows and ncol columns with its pivots
 pub record ResultPre (nrow ncol len ds subs : ℕ) (bs : List ℕ) : Type 0 where

@@ -1,4 +1,4 @@
--- `finish::first_unsound` meets its contract. The invariant: the check of the columns from k on is that of all of them. The measure is what is left.
+-- `buffers::first_unsound` meets its contract. The invariant: the check of the columns from k on is that of all of them. The measure is what is left.
 -- Assumes nothing.
 use Prim.Native.Nat.{_≤_, _-_}
 use mathlib.Core.Path.{_≡_}
@@ -6,9 +6,9 @@ use borrow.Author.Needs.{needs}
 use Rattle.model.specs.Matrix.{view}
 use Rattle.model.specs.Step.{diagonalsOf}
 use Rattle.model.specs.Factor.{resultCheck}
-use Rattle.finish.proofs.Result.{result-none, result-step, result-found, result-end}
-use Rattle.finish.proofs.first_unsound.Statement.{statement}
-use Rattle.finish.proofs.first_unsound.Tie as tie
+use Rattle.buffers.proofs.Result.{result-none, result-step, result-found, result-end}
+use Rattle.buffers.proofs.first_unsound.Statement.{statement}
+use Rattle.buffers.proofs.first_unsound.Tie as tie
 
 abbrev Inv-loop : tie.InvT-loop
 Inv-loop panel d sub blocks nrow ncol finite k₀ k =

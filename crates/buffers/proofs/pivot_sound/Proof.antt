@@ -1,8 +1,8 @@
--- `finish::pivot_sound` meets its contract: a block has its second column, so that d22 is there. Assumes nothing.
+-- `buffers::pivot_sound` meets its contract: a block has its second column, so that d22 is there. Assumes nothing.
 use borrow.Author.Needs.{needs}
-use Rattle.finish.proofs.Result.{block-pre, pivot-two, pivot-one}
-use Rattle.finish.proofs.pivot_sound.Statement.{statement}
-use Rattle.finish.proofs.pivot_sound.Tie as tie
+use Rattle.buffers.proofs.Result.{block-pre, pivot-two, pivot-one}
+use Rattle.buffers.proofs.pivot_sound.Statement.{statement}
+use Rattle.buffers.proofs.pivot_sound.Tie as tie
 
 pub pivot-sound-spec : {M : Type 1} → statement M
 pivot-sound-spec =

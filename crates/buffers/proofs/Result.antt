@@ -8,7 +8,7 @@ use borrow.Author.Tests.{eqb-true, not-true, not-false}
 use lib.ListN.{getD}
 use lib.Ieee.{Float, nan}
 use Rattle.model.specs.Scalar.{reciprocalOf, isFinite}
-use Rattle.model.specs.Matrix.{Mat, vec, bytes}
+use Rattle.model.specs.Matrix.{Mat, vec, naturals}
 use Rattle.model.specs.Step.{Diagonals, diagonalsOf, begins, endsBlock, blockAt}
 use Rattle.model.specs.Factor.{pivotSound, columnSound, resultCheck}
 use Rattle.model.specs.declared.Block.{Block}
@@ -20,7 +20,7 @@ use Rattle.grid.proofs.Laws.{col-in}
 use Rattle.scan.specs.Finite.{columnFinite, KnownFinite}
 use Rattle.scan.specs.Greatest.{DownPre}
 use Rattle.scan.proofs.Finite.{known-column}
-use Rattle.finish.specs.Result.{blockSound, HeadPre, PivotsPre, ResultPre}
+use Rattle.buffers.specs.Result.{blockSound, HeadPre, PivotsPre, ResultPre}
 
 -- ---- a pivot
 
@@ -29,15 +29,15 @@ unfolding blockSound
 block-is b q s t f e g = rw (f, g, e)
 
 -- a block has its second column
-pub block-pre : (n subs : ℕ) (bs : List ℕ) (k : ℕ) (t : Bool) → PivotsPre n subs bs → k < n → t ≡ begins (bytes bs) k → t ≡ true → BlockPre k n subs
-block-pre n subs bs k t h l e z = record { d = h .room k l (eqb-true (bytes bs k) 1 (sym e ∙ z)); sub = omega (arith, h .sub) }
+pub block-pre : (n subs : ℕ) (bs : List ℕ) (k : ℕ) (t : Bool) → PivotsPre n subs bs → k < n → t ≡ begins (naturals bs) k → t ≡ true → BlockPre k n subs
+block-pre n subs bs k t h l e z = record { d = h .room k l (eqb-true (naturals bs k) 1 (sym e ∙ z)); sub = omega (arith, h .sub) }
 
-module _ (ds subs : List Float) (bs : List ℕ) (k : ℕ) (t : Bool) (e : t ≡ begins (bytes bs) k) where
+module _ (ds subs : List Float) (bs : List ℕ) (k : ℕ) (t : Bool) (e : t ≡ begins (naturals bs) k) where
   pub pivot-two : (b : Block) (r : Bool) → t ≡ true → b ≡ blockAt (vec ds) (vec subs) k → r ≡ blockSound b → r ≡ pivotSound (diagonalsOf ds subs bs) k
   unfolding pivotSound blockSound
   pivot-two b r z h g = rw (sym e ∙ z) (g ∙ rw h)
 
-  pub pivot-one : (u f : Bool) (q : Float) → t ≡ false → u ≡ endsBlock (bytes bs) k → q ≡ reciprocalOf (getD ds k nan) → f ≡ isFinite q
+  pub pivot-one : (u f : Bool) (q : Float) → t ≡ false → u ≡ endsBlock (naturals bs) k → q ≡ reciprocalOf (getD ds k nan) → f ≡ isFinite q
       → u || f ≡ pivotSound (diagonalsOf ds subs bs) k
   unfolding pivotSound vec
   pivot-one u f q z h g i = rw (sym e ∙ z, h, i, g)

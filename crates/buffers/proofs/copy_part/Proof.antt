@@ -1,8 +1,8 @@
--- `finish::copy_part` meets its contract: what the kernel copies into the lent part, by way of the array, is copied into the whole. Assumes nothing.
+-- `buffers::copy_part` meets its contract: what the kernel copies into the lent part, by way of the array, is copied into the whole. Assumes nothing.
 use borrow.Author.Needs.{needs}
-use Rattle.finish.proofs.Buffers.{copy-through}
-use Rattle.finish.proofs.copy_part.Statement.{statement}
-use Rattle.finish.proofs.copy_part.Tie as tie
+use Rattle.buffers.proofs.Buffers.{copy-through}
+use Rattle.buffers.proofs.copy_part.Statement.{statement}
+use Rattle.buffers.proofs.copy_part.Tie as tie
 
 returns : tie.Need-returns
 returns c =

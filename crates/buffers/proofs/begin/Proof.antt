@@ -1,8 +1,8 @@
--- `finish::begin` meets its contract: each call makes one of the buffers. Assumes nothing.
+-- `buffers::begin` meets its contract: each call makes one of the buffers. Assumes nothing.
 use borrow.Author.Needs.{needs}
-use Rattle.finish.proofs.Buffers.{filled, ordered}
-use Rattle.finish.proofs.begin.Statement.{statement}
-use Rattle.finish.proofs.begin.Tie as tie
+use Rattle.buffers.proofs.Buffers.{filled, ordered}
+use Rattle.buffers.proofs.begin.Statement.{statement}
+use Rattle.buffers.proofs.begin.Tie as tie
 
 returns : tie.Need-returns
 returns c =

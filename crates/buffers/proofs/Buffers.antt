@@ -10,7 +10,7 @@ use lib.ListN.{length, getD, set, replicate, length-replicate, getD-replicate, L
 use lib.Seq.{ext-getD, getD-set-same, getD-set-other}
 use lib.Ieee.{Float, nan}
 use Rattle.model.specs.Scalar.{zeroF}
-use Rattle.model.specs.Matrix.{Row, view, vec, bytes, places, withPart, tabulate}
+use Rattle.model.specs.Matrix.{Row, view, vec, naturals, places, withPart, tabulate}
 use Rattle.model.specs.Step.{pivotsOf}
 use Rattle.model.specs.Head.{State, blank}
 use Rattle.model.specs.Factor.{Buffers, start, zeros}
@@ -18,7 +18,7 @@ use Rattle.model.proofs.Tabulated.{length-tabulateFrom, getD-tabulate, is-tabul
 use Rattle.kernels.proofs.Laws.{vec-part}
 use Rattle.model.proofs.Cases.{test}
 use Rattle.kernels.proofs.Parts.{part-lent}
-use Rattle.finish.specs.Buffers.{buffersOf, inOrder, Begun}
+use Rattle.buffers.specs.Buffers.{buffersOf, inOrder, Begun}
 
 -- ---- the copy
 
@@ -81,8 +81,8 @@ pub ordered : (xs ys : List ℕ) → ys ≡ inOrder (length xs) → ys ≡ inOrd
 ordered xs ys e = let l : length ys ≡ length xs = ap length e ∙ length-inOrder (length xs) in rw l e
 
 -- such lists as the definitions see them: no block, no lift, every row in its place
-pub bytes-zeros : (n : ℕ) → bytes (replicate n 0) ≡ (λ i. 0)
-unfolding bytes
+pub bytes-zeros : (n : ℕ) → naturals (replicate n 0) ≡ (λ i. 0)
+unfolding naturals
 bytes-zeros n =
     fun-ext λ i. test (ltb i n)
     (λ p. getD-replicate n i 0 0 (ltb-true i n p))
@@ -97,7 +97,7 @@ places-inOrder n =
 
 -- the state at the start of the run; the exchange partners are the run's own
 pub begun-start : (given panel d sub amounts : List Float) (blocks partners lifts order : List ℕ) (nrow ncol : ℕ)
-    → Begun given panel d sub blocks lifts amounts order → length d ≡ ncol → length sub ≡ ncol → length amounts ≡ ncol → bytes partners ≡ (λ i. 0)
+    → Begun given panel d sub blocks lifts amounts order → length d ≡ ncol → length sub ≡ ncol → length amounts ≡ ncol → naturals partners ≡ (λ i. 0)
     → _≡_ {A = State} (record {
       a = view nrow panel;
       mult = blank;
@@ -109,8 +109,8 @@ begun-start given panel d sub amounts blocks partners lifts order nrow ncol b l 
     let ed : vec d ≡ vec (replicate ncol zeroF) = ap vec (b .d ∙ ap (λ (k : ℕ). replicate k zeroF) l) in
     let es : vec sub ≡ vec (replicate ncol zeroF) = ap vec (b .sub ∙ ap (λ (k : ℕ). replicate k zeroF) m) in
     let ea : vec amounts ≡ vec (replicate ncol zeroF) = ap vec (b .amounts ∙ ap (λ (k : ℕ). replicate k zeroF) n) in
-    let eb : bytes blocks ≡ (λ i. 0) = ap bytes (b .blocks) ∙ bytes-zeros (length blocks) in
-    let el : bytes lifts ≡ (λ i. 0) = ap bytes (b .lifts) ∙ bytes-zeros (length lifts) in
+    let eb : naturals blocks ≡ (λ i. 0) = ap naturals (b .blocks) ∙ bytes-zeros (length blocks) in
+    let el : naturals lifts ≡ (λ i. 0) = ap naturals (b .lifts) ∙ bytes-zeros (length lifts) in
     let eo : places order ≡ (λ i. i) = ap places (b .order) ∙ places-inOrder (length order) in
     rw (b .panel, ed, es, ea, eb, el, eo, p)
 

@@ -1,8 +1,8 @@
--- `finish::column_sound` meets its contract: the product of the four tests is the definition's. Assumes nothing.
+-- `buffers::column_sound` meets its contract: the product of the four tests is the definition's. Assumes nothing.
 use borrow.Author.Needs.{needs}
-use Rattle.finish.proofs.Result.{column-head, column-pivots, column-is}
-use Rattle.finish.proofs.column_sound.Statement.{statement}
-use Rattle.finish.proofs.column_sound.Tie as tie
+use Rattle.buffers.proofs.Result.{column-head, column-pivots, column-is}
+use Rattle.buffers.proofs.column_sound.Statement.{statement}
+use Rattle.buffers.proofs.column_sound.Tie as tie
 
 pub column-sound-spec : {M : Type 1} → statement M
 column-sound-spec =
