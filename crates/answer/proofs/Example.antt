@@ -8,7 +8,8 @@ use Rattle.model.specs.Choice.{greatest, columnGreatest, rowGreatest, chooseOf}
 use Rattle.model.specs.Step.{eliminated, rowAfterStep, pastOf}
 use Rattle.model.specs.Head.{settledOne, headOne, keptOne, tryOf, lastOf, noted, panelOf, closed, passed, panelsOf}
 use Rattle.model.specs.Inertia.{oneCounted, pivotCounted, talliedFrom}
-use Rattle.model.specs.Factor.{lengthsSound, modeCheck, columnCheck, columnsCheck, settingsCheck, entryCheck, start, headRunOf, everyFrom, pivotSound, columnSound, resultCheck, headAnswerOf, factorEntry, factorOf}
+use Rattle.model.specs.Factor.{lengthsSound, modeCheck, columnCheck, columnsCheck, settingsCheck, entryCheck, start, headRunOf, everyFrom, pivotSound}
+use Rattle.model.specs.Factor.{columnSound, resultCheck, headAnswerOf, factorEntry, factorOf}
 use Rattle.little_endian.specs.LittleEndian.{le16, le32, le64, numbersOf}
 use Rattle.record.specs.Record.{recordAt, modeOf, settingsOf, panelOf as inputPanel, firstSound, sizesSound, secondSound, askedOf}
 use Rattle.text.specs.Text.{decimalFrom, decimalOf, hexFrom}

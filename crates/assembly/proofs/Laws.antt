@@ -75,7 +75,8 @@ pub added-set : (n : ℕ) (xs : List Float) (i j s : ℕ) (v : Float) → s ≡ 
 unfolding addedAt
 added-set n xs i j s v at h = rw at (own-set n xs i j (λ x. x ⊕ v) h)
 
-pub place-in : (n : ℕ) (is js : List ℕ) (xs : List Float) (k len m : ℕ) → AddPre n is js xs len → k < length is → m ≡ len → In n (naturals is k) (naturals js k) m
+pub place-in : (n : ℕ) (is js : List ℕ) (xs : List Float) (k len m : ℕ) → AddPre n is js xs len → k < length is → m ≡ len
+    → In n (naturals is k) (naturals js k) m
 place-in n is js xs k len m w h e = rw e (w .places k h)
 
 module _ (rows cols : ℕ → ℕ) (numbers : Row) (n : ℕ) where

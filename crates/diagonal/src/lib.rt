@@ -1,5 +1,6 @@
-// D, a pivot at a time: a 1x1's number or a block, and how d, subdiagonal and block bytes hold it. Every block is made by
-// `block_of`, whether its numbers come from the panel, from a lift or from the lists, so that its determinant is worked
+// D, a pivot at a time: a 1x1's number or a block, and how d, subdiagonal and block bytes hold it. Every block is made
+// by `block_of`, whether its numbers come from the panel, from a lift or from the lists, so that its determinant is
+// worked
 // out in one place and travels with it.
 ghost use mathlib.Core.Path.{_≡_};
 ghost use Prim.Native.Nat.{_+_, _<_};

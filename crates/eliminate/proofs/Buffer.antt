@@ -69,7 +69,8 @@ shift lo kb t h = omega arith
 
 -- ---- the functions that lend a column of the buffer, which begins at s, and read columns of a panel of n rows, which begin at u and v
 
-pub keep-one-lent : (nb n : ℕ) (xs ys zs : List Float) (kb ke c lo s u : ℕ) (r : Float) → s ≡ columnStart nb (c - kb) → u ≡ columnStart n c → KeepPre nb kb ke c lo (length xs) → ke ≤ n
+pub keep-one-lent : (nb n : ℕ) (xs ys zs : List Float) (kb ke c lo s u : ℕ) (r : Float) → s ≡ columnStart nb (c - kb) → u ≡ columnStart n c
+    → KeepPre nb kb ke c lo (length xs) → ke ≤ n
     → length ys ≡ length (midOf (lo - kb + s) (ke - kb + s - (lo - kb + s)) xs)
     → vec ys ≡ withPart (vec (midOf (lo - kb + s) (ke - kb + s - (lo - kb + s)) xs)) 0 (ke - kb - (lo - kb))
     (times (vec (midOf (lo + u) (ke + u - (lo + u)) zs)) r)

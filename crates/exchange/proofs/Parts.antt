@@ -96,7 +96,8 @@ in-both : (n len i j k l : ℕ) (xs : List Float) → i < n → k < n → i + j 
     → In n i j (length xs) × In n k l (length xs)
 in-both n len i j k l xs a b g h e = (record { row = a; off = omega arith }, record { row = b; off = omega arith })
 
-pub cross-step : (M : Mat) (xs ys : List Float) (n len p q s t i : ℕ) → s ≡ columnStart n p → t ≡ columnStart n i → p < q → q < n → p + 1 ≤ i → i < q → n + p * n ≤ len → n + q * n ≤ len
+pub cross-step : (M : Mat) (xs ys : List Float) (n len p q s t i : ℕ) → s ≡ columnStart n p → t ≡ columnStart n i → p < q → q < n → p + 1 ≤ i → i < q
+    → n + p * n ≤ len → n + q * n ≤ len
     → i * n ≤ q * n → length xs ≡ len → view n xs ≡ crossExchanged M p q (p + 1) i
     → ys ≡ cellsSwapped xs (i + s) (q + t) → view n ys ≡ crossExchanged M p q (p + 1) (i + 1)
 cross-step M xs ys n len p q s t i first own d b l h rp rq m e v y =
@@ -110,7 +111,8 @@ rows-step M xs ys n len p q s j at d b h rp rq m e v y =
     let r = in-both n len p j q j xs (omega arith) (omega arith) (omega arith) (omega arith) e in
     rw y (view-swapped n xs p j s q j s at at (r .0) (r .1) ∙ ap (λ (P : Mat). pair P p j q j) v ∙ rows-more M p q 0 j d (omega arith))
 
-pub diagonal-step : (xs ys : List Float) (n p q s t : ℕ) → s ≡ columnStart n p → t ≡ columnStart n q → p < q → q < n → n + p * n ≤ length xs → n + q * n ≤ length xs
+pub diagonal-step : (xs ys : List Float) (n p q s t : ℕ) → s ≡ columnStart n p → t ≡ columnStart n q → p < q → q < n → n + p * n ≤ length xs
+    → n + q * n ≤ length xs
     → ys ≡ cellsSwapped xs (p + s) (q + t) → view n ys ≡ diagonalExchanged (view n xs) p q
 diagonal-step xs ys n p q s t first second d b rp rq y =
     let r = in-both n (length xs) p p q q xs (omega arith) (omega arith) (omega arith) (omega arith) refl in

@@ -23,7 +23,8 @@ fn swap(panel: &mut [f64], x: usize, y: usize)
 // What stands between the two: column p below row p, and row q before column q, one for the other, mirrored.
 fn exchange_cross(panel: &mut [f64], nrow: usize, p: LocalRow, q: LocalRow)
     requires { ⌜ PairPre nrow (p .0) (q .0) (length (now panel)) ⌝ }
-    ensures { λ _. ⌜ view nrow (now (panel .exit)) ≡ crossExchanged (view nrow (now (panel .entry))) (p .0) (q .0) (p .0 + 1) (q .0) ⌝ }
+    ensures { λ _. ⌜ view nrow (now (panel .exit))
+        ≡ crossExchanged (view nrow (now (panel .entry))) (p .0) (q .0) (p .0 + 1) (q .0) ⌝ }
 {
     for i in (p.0 + 1)..q.0 {
         let first = column_start(nrow, p.0);
@@ -35,7 +36,8 @@ fn exchange_cross(panel: &mut [f64], nrow: usize, p: LocalRow, q: LocalRow)
 // The two diagonal entries.
 fn exchange_diagonal(panel: &mut [f64], nrow: usize, p: LocalRow, q: LocalRow)
     requires { ⌜ PairPre nrow (p .0) (q .0) (length (now panel)) ⌝ }
-    ensures { λ _. ⌜ view nrow (now (panel .exit)) ≡ diagonalExchanged (view nrow (now (panel .entry))) (p .0) (q .0) ⌝ }
+    ensures { λ _. ⌜ view nrow (now (panel .exit))
+        ≡ diagonalExchanged (view nrow (now (panel .entry))) (p .0) (q .0) ⌝ }
 {
     let first = column_start(nrow, p.0);
     let second = column_start(nrow, q.0);
@@ -45,7 +47,8 @@ fn exchange_diagonal(panel: &mut [f64], nrow: usize, p: LocalRow, q: LocalRow)
 // The two rows in the columns before p.
 fn exchange_rows(panel: &mut [f64], nrow: usize, p: LocalRow, q: LocalRow)
     requires { ⌜ PairPre nrow (p .0) (q .0) (length (now panel)) ⌝ }
-    ensures { λ _. ⌜ view nrow (now (panel .exit)) ≡ rowsExchanged (view nrow (now (panel .entry))) (p .0) (q .0) 0 (p .0) ⌝ }
+    ensures { λ _. ⌜ view nrow (now (panel .exit))
+        ≡ rowsExchanged (view nrow (now (panel .entry))) (p .0) (q .0) 0 (p .0) ⌝ }
 {
     for j in 0..p.0 {
         let start = column_start(nrow, j);

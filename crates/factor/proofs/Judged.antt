@@ -111,7 +111,8 @@ module _ (c : Settings) (input : List Float) (b : Buffers) (e : entryCheck c inp
       check = bytes-kept;
     }
 
-    judged-call : (k : check.Check) → resultCheck (c .ncol) (last .pivots .diagonals) (last .a) (c .ncol) 0 ≡ k → judgedBy k (c .nrow) (c .ncol) rounds a ≡ factorOf c input b
+    judged-call : (k : check.Check) → resultCheck (c .ncol) (last .pivots .diagonals) (last .a) (c .ncol) 0 ≡ k
+        → judgedBy k (c .nrow) (c .ncol) rounds a ≡ factorOf c input b
     unfolding tailMarks
     judged-call check.the-variants.Sound g =
         let len = checked .lengths in

@@ -1,7 +1,8 @@
-// The factor call: the LDLᵀ factorization of one supernode, refused by number and place or accepted with the factor.
-// A reader may rely on the contract of `factor` alone: its answer and every lent buffer are `factorOf` of
-// crates/model/specs/Factor.antt, on every input. It asks nothing of its caller. The functions above it are a chain, each
-// with one or two calls that pass the buffers on: eliminate (copy, panels in turn), judge (refusal 9 or accept), run.
+// The factor call: the LDLᵀ factorization of one supernode, refused by number and place or accepted with the factor. A
+// reader may rely on the contract of `factor` alone: its answer and every lent buffer are `factorOf` of
+// crates/model/specs/Factor.antt, on every input. It asks nothing of its caller. The functions above it are a chain,
+// each with one or two calls that pass the buffers on: eliminate (copy, panels in turn), judge (refusal 9 or accept),
+// run.
 ghost use mathlib.Core.Path.{_≡_};
 ghost use Prim.Native.Nat.{min, max};
 ghost use lib.ListN.{length};
@@ -229,8 +230,8 @@ fn run(
 
 // The factor call.
 // in: c, the settings; input, nrow·ncol numbers, column by column; upper positions are copied and never read
-// out: panel, nrow·ncol: L with D's own diagonal; d, sub, amounts: ncol numbers; blocks, lifts: ncol bytes; order: nrow rows;
-//      marks: nrow − ncol bytes
+// out: panel, nrow·ncol: L with D's own diagonal; d, sub, amounts: ncol numbers; blocks, lifts: ncol bytes; order: nrow
+//      rows; marks: nrow − ncol bytes
 // work: 3·nrow·(nb + 1) + nb² numbers, any on entry, +0.0 on acceptance
 // refused with 1 to 6: nothing is written; with 7, 8 or 9: every output and the working buffer hold zeros
 // origin: src/numeric/ldlt/bunch_kaufman.rs, fn ll_cdiv_emit

@@ -15,7 +15,8 @@ use Rattle.model.specs.Panel.{Panel}
 use Rattle.model.specs.Head as head
 use Rattle.model.specs.Head.{State, lastOf, noted, Progress, stopped, going, panelOf, Run, done, closed, passed, withPanel, continued, panelsOf}
 use Rattle.model.specs.Inertia.{byteSound, bytesFrom, checkBytes}
-use Rattle.model.specs.Factor.{pivotingOf, Outcome, start, headRunOf, HeadAnswer, fails, stands, judged, judgedRun, headAnswerOf, entryCheck, resultCheck, afterHead, afterCheck, factorOf}
+use Rattle.model.specs.Factor.{pivotingOf, Outcome, start, headRunOf, HeadAnswer, fails, stands, judged, judgedRun, headAnswerOf, entryCheck, resultCheck}
+use Rattle.model.specs.Factor.{afterHead, afterCheck, factorOf}
 use Rattle.model.specs.Answer.{Said, accepted, turnedAway}
 use Rattle.model.specs.Independence.{Call, PastEntry, outcomeOf}
 use Rattle.model.specs.declared.Pivoting.{Pivoting}
@@ -62,7 +63,8 @@ pub noted-kept : (ncol ke limit k : ℕ) (p : Pivots) (v : Pivot) → ke ≤ nco
     → Kept ncol (lastOf k (isBlock (v .diagonal)) + 1) (noted p k (lastOf k (isBlock (v .diagonal))) v)
 unfolding noted
 noted-kept ncol ke limit k p v h g w = record {
-  order = swapped-permutes ncol (swapped (p .notes .order) k (v .p .0)) (lastOf k (isBlock (v .diagonal))) (v .kp .0) (omega (arith, g .last)) (omega (arith, g .row))
+  order =
+      swapped-permutes ncol (swapped (p .notes .order) k (v .p .0)) (lastOf k (isBlock (v .diagonal))) (v .kp .0) (omega (arith, g .last)) (omega (arith, g .row))
       (swapped-permutes ncol (p .notes .order) k (v .p .0) (omega (arith, g .last, last-from k (isBlock (v .diagonal)))) (omega (arith, g .first)) (w .order));
   recorded = noted-recorded ke limit k p v g (w .recorded);
 }
@@ -95,7 +97,8 @@ unfolding passed
 same-pivots ncol k p u w = w
 
 -- panels in turn keep both
-pub panels-kept : (how : Pivoting) (ncol nb n kb : ℕ) (s : State) → 1 ≤ nb → kb ≤ ncol → ncol - kb ≤ n → Kept ncol kb (s .pivots) → AtEnd ncol (panelsOf how ncol nb n kb s)
+pub panels-kept : (how : Pivoting) (ncol nb n kb : ℕ) (s : State) → 1 ≤ nb → kb ≤ ncol → ncol - kb ≤ n → Kept ncol kb (s .pivots)
+    → AtEnd ncol (panelsOf how ncol nb n kb s)
 unfolding panelsOf
 panels-kept how ncol nb zero kb s b h f w = let e : kb ≡ ncol = omega arith in subst (λ (m : ℕ). Kept ncol m (s .pivots)) e w
 panels-kept how ncol nb (suc n) kb s b h f w =

@@ -13,7 +13,8 @@ use Rattle.model.specs.Scalar.{_⊕_, _⊗_, _⊘_, zeroF, squareOf, mag
 use Rattle.model.specs.Root.{sqrtOf, alpha, roundRoot, isqrt, wholeRoot}
 use Rattle.model.specs.Matrix.{Row, Mat, exchanged}
 use Rattle.model.specs.Choice.{greatest, noneYet, columnGreatest, rowGreatest, chooseOf}
-use Rattle.model.specs.Head.{settledOne, raisedFrom, settledTwo, barOf, liftStepOf, growthFloorOf, Tried, refusedBy, took, afterOne, afterTwo, tryBlock, tryBy, tryOf, lastOf}
+use Rattle.model.specs.Head.{settledOne, raisedFrom, settledTwo, barOf, liftStepOf, growthFloorOf, Tried, refusedBy, took, afterOne, afterTwo, tryBlock}
+use Rattle.model.specs.Head.{tryBy, tryOf, lastOf}
 use Rattle.model.specs.Step.{blockOf, isBlock}
 use Rattle.model.specs.declared.Mode.{Mode}
 use Rattle.model.specs.declared.Pivoting.{Pivoting}

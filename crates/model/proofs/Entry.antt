@@ -10,7 +10,8 @@ use lib.ListN.{length}
 use lib.Ieee.{Float}
 use Rattle.model.specs.Sizes.{mostColumns, mostRows, widestPanel}
 use Rattle.model.specs.Matrix.{view}
-use Rattle.model.specs.Factor.{pivotingOf, Buffers, shapeSound, workLength, lengthsOf, lengthsSound, modeCheck, columnsCheck, settingsCheck, entryCheck, headAnswerOf, afterHead, factorOf}
+use Rattle.model.specs.Factor.{pivotingOf, Buffers, shapeSound, workLength, lengthsOf, lengthsSound, modeCheck, columnsCheck, settingsCheck, entryCheck}
+use Rattle.model.specs.Factor.{headAnswerOf, afterHead, factorOf}
 use Rattle.model.specs.Answer.{orElse, refuseIf}
 use Rattle.model.specs.declared.Settings.{Settings}
 use Rattle.model.specs.declared.Refusal.{Refusal}

@@ -1,6 +1,7 @@
 -- Laws over the definitions, cited by the crates above.
 pub mod Cases
 pub mod Root
+pub mod Constants
 pub mod Nearest
 pub mod Tabulated
 pub mod Exchanged

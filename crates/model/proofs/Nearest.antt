@@ -1,6 +1,5 @@
--- What makes `sqrtOf` and the constants believable, whatever way they are worked out. The square root of a finite number above zero is the number of
--- the format that is nearest to it, and no other is as near (`sqrt-rounds`); the special cases by name; the bits of alpha, of the growth constant,
--- of 0 and of 1. Assumes nothing.
+-- What makes `sqrtOf` believable, whatever way it is worked out: the square root of a finite number above zero is the number of the format that is
+-- nearest to it, and no other is as near (`sqrt-rounds`). Its special cases are in Constants.antt. Assumes nothing.
 use mathlib.Core.Path.{_≡_, refl, sym, ap, _∙_, subst}
 use mathlib.Core.Logic.{⊎-elim}
 use mathlib.Core.Bool.{Bool, true, false, _&&_, true≢false}
@@ -21,56 +20,6 @@ use borrow.Author.Tests.{ltb-true}
 use Rattle.model.specs.Scalar.{zeroF, oneF, isFinite, growthEps}
 use Rattle.model.specs.Root.{square, wholeRoot, isqrt, roundRoot, sqrtOf, alpha}
 use Rattle.model.proofs.Root.{square-le, square-lt-back, isqrt-law, Compared, compared, le-or-lt, units-below, units-fits, sqrt-of-value}
-
--- ---- the constants
-
-pub zero-is : zeroF ≡ fin false 0 (pos 0)
-unfolding ofBits
-zero-is = refl
-
-pub one-is : oneF ≡ fin false 1 (pos 0)
-unfolding ofBits
-one-is = refl
-
-pub alpha-bits : toBits binary64 alpha ≡ 0x3FE4_7E0F_66AF_ED07
-unfolding alpha toBits div add ofBits sqrtOf roundRoot isqrt wholeRoot
-alpha-bits = refl
-
-pub growthEps-bits : toBits binary64 growthEps ≡ 0x3D06_849B_86A1_2B9B
-unfolding growthEps toBits round
-growthEps-bits = refl
-
--- ---- the square root's special cases
-
-pub sqrt-nan : sqrtOf nan ≡ nan
-unfolding sqrtOf
-sqrt-nan = refl
-
-pub sqrt-infinity : sqrtOf (inf false) ≡ inf false
-unfolding sqrtOf
-sqrt-infinity = refl
-
-pub sqrt-minus-infinity : sqrtOf (inf true) ≡ nan
-unfolding sqrtOf
-sqrt-minus-infinity = refl
-
-pub sqrt-zero : sqrtOf (fin false 0 (pos 0)) ≡ fin false 0 (pos 0)
-unfolding sqrtOf
-sqrt-zero = refl
-
-pub sqrt-minus-zero : sqrtOf (fin true 0 (pos 0)) ≡ fin true 0 (pos 0)
-unfolding sqrtOf
-sqrt-minus-zero = refl
-
-pub sqrt-below-zero : (x : Float) → lt x zeroF ≡ true → sqrtOf x ≡ nan
-unfolding sqrtOf lt ofBits
-sqrt-below-zero nan h = refl
-sqrt-below-zero (inf true) h = refl
-sqrt-below-zero (inf false) h = cc
-sqrt-below-zero (fin true zero e) h = absurd (omega (arith, ltb-true 0 (0 * up e * 1 + 0 * 1 * down e) h))
-sqrt-below-zero (fin true (suc m) e) h = refl
-sqrt-below-zero (fin false zero e) h = absurd (omega (arith, ltb-true (0 * up e * 1) (0 * 1 * down e) h))
-sqrt-below-zero (fin false (suc m) e) h = absurd (omega (arith, ltb-true (suc m * up e * 1) (0 * 1 * down e) h))
 
 -- ---- the nearest number, over whole numbers
 

@@ -66,7 +66,8 @@ step-paired f k true w = record {
     second : (c : ℕ) → c < k + 1 + 1 → k < c → stepBytes f k true c ≡ 1 → ⊥
     second c h g e = let x : c ≡ k + 1 = omega arith in omega (arith, ap (stepBytes f k true) x, bytes-second f k)
 step-paired f k false w = record {
-  byte = λ c h. cmp c k (λ l. omega (arith, bytes-before f k false c l, w .byte c l)) (λ e. omega (arith, ap (stepBytes f k false) e, bytes-at f k false)) (λ g. omega arith);
+  byte =
+      λ c h. cmp c k (λ l. omega (arith, bytes-before f k false c l, w .byte c l)) (λ e. omega (arith, ap (stepBytes f k false) e, bytes-at f k false)) (λ g. omega arith);
   room = λ c h e. cmp c k (λ l. omega (arith, w .room c l (sym (bytes-before f k false c l) ∙ e))) (λ x. absurd (own c x e)) (λ g. omega arith);
   apart = λ c h e. cmp c k
       (λ l. let r : c + 1 < k = w .room c l (sym (bytes-before f k false c l) ∙ e) in
@@ -118,7 +119,8 @@ own-ahead f q k false p kp b e s hp hk = record { first = rw b (omega arith); la
 -- no exchange goes back after a step, if none did before it
 pub step-ahead : (f q : ℕ → ℕ) (k : ℕ) (two : Bool) (p kp : ℕ) → Recorded k f q → k ≤ p → lastOf k two ≤ kp
     → (c : ℕ) → c < lastOf k two + 1 → Starts (stepBytes f k two) c → Ahead (stepBytes f k two) (stepPartners q k two p kp) c
-step-ahead f q k two p kp w hp hk c h s = cmp c k before (λ e. subst (Ahead (stepBytes f k two) (stepPartners q k two p kp)) (sym e) here) (λ g. absurd (after-it g))
+step-ahead f q k two p kp w hp hk c h s =
+    cmp c k before (λ e. subst (Ahead (stepBytes f k two) (stepPartners q k two p kp)) (sym e) here) (λ g. absurd (after-it g))
   where
     here : Ahead (stepBytes f k two) (stepPartners q k two p kp) k
     here = own-ahead (stepBytes f k two) (stepPartners q k two p kp) k two p kp (bytes-at f k two) (partners-at q k two p kp)

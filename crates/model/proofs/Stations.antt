@@ -9,9 +9,11 @@ use Rattle.model.specs.Matrix.{view, vec, naturals, headOf, rowOf, tabul
 use Rattle.model.specs.Choice.{greatest, columnGreatest, rowGreatest, chooseOf}
 use Rattle.model.specs.Step.{eliminated, rowAfterStep, pastOf, stepAt, firstOf, arrived, rowStepped, rowAfterSteps}
 use Rattle.model.specs.Panel.{timesD, sumFrom, rowDeferred, rowAfterPanel, tailRowOf}
-use Rattle.model.specs.Head.{settledOne, raisedFrom, settledTwo, headOne, headTwo, keptOne, keptTwo, tryOf, lastOf, noted, panelOf, blank, closed, passed, panelsOf}
+use Rattle.model.specs.Head.{settledOne, raisedFrom, settledTwo, headOne, headTwo, keptOne, keptTwo, tryOf, lastOf, noted, panelOf, blank, closed, passed}
+use Rattle.model.specs.Head.{panelsOf}
 use Rattle.model.specs.Inertia.{oneCounted, twoCounted, pivotCounted, talliedFrom, byteSound, bytesFrom, inertiaCheck, inertiaOf}
-use Rattle.model.specs.Factor.{lengthsSound, modeCheck, columnCheck, columnsCheck, settingsCheck, entryCheck, start, headRunOf, everyFrom, pivotSound, columnSound, resultCheck, headAnswerOf, factorRowOf, markOf, factorEntry, factorOf}
+use Rattle.model.specs.Factor.{lengthsSound, modeCheck, columnCheck, columnsCheck, settingsCheck, entryCheck, start, headRunOf, everyFrom, pivotSound}
+use Rattle.model.specs.Factor.{columnSound, resultCheck, headAnswerOf, factorRowOf, markOf, factorEntry, factorOf}
 use Rattle.model.specs.Stations.{Station, factorLines, lent, factorGives, inertiaGives, stations}
 
 pub stations-hold : map (λ (s : Station). s .gives) stations ≡ map (λ (s : Station). s .must) stations

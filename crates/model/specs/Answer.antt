@@ -3,7 +3,9 @@
 use mathlib.Core.Bool.{Bool, cond}
 use Prim.Native.Nat.{ℕ}
 use Rattle.model.specs.declared.Refusal.{Refusal}
-use Rattle.model.specs.declared.Refusal.the-variants.{Shape, Width, Length, Floor, Limit, Input, ZeroPivot, Rounds, NotFinite, AssemblyLength, AssemblyPlace, AssemblyNumber, UpdateLength, TargetRows, DescendantRows, BlockByte, AbsentRow, DescendantNumber, InertiaLength}
+use Rattle.model.specs.declared.Refusal.the-variants.{Shape, Width, Length, Floor, Limit, Input, ZeroPivot, Rounds, NotFinite, AssemblyLength}
+use Rattle.model.specs.declared.Refusal.the-variants.{AssemblyPlace, AssemblyNumber, UpdateLength, TargetRows, DescendantRows, BlockByte, AbsentRow}
+use Rattle.model.specs.declared.Refusal.the-variants.{DescendantNumber, InertiaLength}
 use Rattle.model.specs.declared.Check.{Check}
 use Rattle.model.specs.declared.Check.the-variants.{Sound, Refused}
 use Rattle.model.specs.declared.Report.{Report}

@@ -9,7 +9,8 @@ use Rattle.model.specs.Scalar.{_⊕_, _⊖_, _⊗_, zeroF, reciprocalOf,
 use Rattle.model.specs.Root.{sqrtOf}
 use Rattle.model.specs.Matrix.{Row, Mat, put, swapped, exchanged, withColumn}
 use Rattle.model.specs.Choice.{chooseOf}
-use Rattle.model.specs.Step.{one, two, Diagonals, Notes, Pivots, blockOf, blockIn, isBlock, firstNumber, lastNumber, underNumber, firstMultiplier, secondMultiplier, eliminated, rowAfterSteps}
+use Rattle.model.specs.Step.{one, two, Diagonals, Notes, Pivots, blockOf, blockIn, isBlock, firstNumber, lastNumber, underNumber, firstMultiplier}
+use Rattle.model.specs.Step.{secondMultiplier, eliminated, rowAfterSteps}
 use Rattle.model.specs.Panel.{Panel, rowAfterPanel}
 use Rattle.model.specs.declared.Mode.{Mode}
 use Rattle.model.specs.declared.Mode.the-variants.{Fail, Lift}

@@ -35,8 +35,8 @@ pub struct Settings {
     pub limit: usize,
 }
 
-// The settings that steer the pivots, beside the node's columns and the panel width: what a pivot below the floor meets,
-// and the rounds that a block's lift may take.
+// The settings that steer the pivots, beside the node's columns and the panel width: what a pivot below the floor
+// meets, and the rounds that a block's lift may take.
 pub struct Pivoting {
     pub mode: Mode,
     pub limit: usize,
@@ -114,8 +114,8 @@ pub enum TwoSettled {
     },
 }
 
-// What a step took: the row exchanged with its first column before anything else (its own but for a rook block), the row
-// exchanged with its last column, its numbers, the lift byte, the lift amount, the rounds that its lift used.
+// What a step took: the row exchanged with its first column before anything else (its own but for a rook block), the
+// row exchanged with its last column, its numbers, the lift byte, the lift amount, the rounds that its lift used.
 pub struct Pivot {
     pub p: LocalRow,
     pub kp: LocalRow,

@@ -1,5 +1,5 @@
-// What is noted of a pivot, in seven buffers: its numbers and block byte, its lift, its exchanges. `note` leaves exactly
-// `noted` of crates/model/specs/Head.antt.
+// What is noted of a pivot, in seven buffers: its numbers and block byte, its lift, its exchanges. `note` leaves
+// exactly `noted` of crates/model/specs/Head.antt.
 // origin: src/numeric/ldlt/bunch_kaufman.rs, fn ll_bk_panel_step
 ghost use mathlib.Core.Path.{_≡_};
 ghost use lib.ListN.{length};
@@ -71,8 +71,8 @@ fn stand_at(order: &mut [usize], e: Elim, row: LocalRow)
     order[at] = row.0;
 }
 
-// The exchange of position e and of the position where row kp of the panel stands. Where the two are one, as they mostly
-// are, nothing is written: what reads the place next would wait for it.
+// The exchange of position e and of the position where row kp of the panel stands. Where the two are one, as they
+// mostly are, nothing is written: what reads the place next would wait for it.
 fn put_swap(order: &mut [usize], e: Elim, kp: LocalRow)
     requires { ⌜ ColumnsPre (e .0) (kp .0) (length (now order)) ⌝ }
     ensures { λ _. ⌜ places (now (order .exit)) ≡ swapped (places (now (order .entry))) (e .0) (kp .0) ⌝ }
@@ -147,7 +147,8 @@ fn note_diagonal(d: &mut [f64], sub: &mut [f64], blocks: &mut [u8], k: Elim, e: 
 // The pivot's lift, in both of its columns.
 fn note_lift(lifts: &mut [u8], amounts: &mut [f64], k: Elim, e: Elim, lifted: u8, amount: f64)
     requires { ⌜ LiftPre (k .0) (e .0) (length (now lifts)) (length (now amounts)) ⌝ }
-    ensures { λ _. ⌜ naturals (now (lifts .exit)) ≡ put (put (naturals (now (lifts .entry))) (e .0) lifted) (k .0) lifted ⌝ }
+    ensures { λ _. ⌜ naturals (now (lifts .exit))
+        ≡ put (put (naturals (now (lifts .entry))) (e .0) lifted) (k .0) lifted ⌝ }
     ensures { λ _. ⌜ vec (now (amounts .exit)) ≡ put (put (vec (now (amounts .entry))) (e .0) amount) (k .0) amount ⌝ }
 {
     put_both_bytes(lifts, k, e, lifted, lifted);

@@ -1,6 +1,6 @@
-// The panels of a node in turn: of each its steps, the rows below it, the later columns. A reader may rely on the contract
-// of `panels`: what it leaves in the lent buffers is `wholePanelsOf` of crates/whole/specs/Whole.antt, the model's run over
-// all rows, or the refusal that stopped it. Each function passes the buffers on by one or two calls.
+// The panels of a node in turn: of each its steps, the rows below it, the later columns. A reader may rely on the
+// contract of `panels`: what it leaves in the lent buffers is `wholePanelsOf` of crates/whole/specs/Whole.antt, the
+// model's run over all rows, or the refusal that stopped it. Each function passes the buffers on by one or two calls.
 ghost use mathlib.Core.Path.{_≡_};
 ghost use Prim.Native.Nat.{_+_, _-_, _*_, _≤_, min};
 ghost use lib.ListN.{length, take};

@@ -17,7 +17,7 @@ use Rattle.model.specs.declared.OneSettled.the-variants.{Zero, Number}
 use Rattle.model.specs.declared.TwoSettled.{TwoSettled}
 use Rattle.model.specs.declared.TwoSettled.the-variants.{Low, OutOfRounds, Numbers}
 use Rattle.model.proofs.Cases.{one-left}
-use Rattle.model.proofs.Nearest.{alpha-bits, growthEps-bits}
+use Rattle.model.proofs.Constants.{alpha-bits, growthEps-bits}
 
 -- ---- the constants, by the bits that their rounded steps have
 

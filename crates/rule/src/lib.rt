@@ -61,8 +61,8 @@ impl PivotRule {
         (low * low > square) & (PivotRule::threshold(low) <= own)
     }
 
-    // The root of a square that is 0, or x's: |x|, without the root, wherever the square is neither tiny nor infinite. That
-    // it was rounded moves its root by less than half of x's last digit.
+    // The root of a square that is 0, or x's: |x|, without the root, wherever the square is neither tiny nor infinite.
+    // That it was rounded moves its root by less than half of x's last digit.
     fn root_of(square: f64, x: f64) -> f64
         requires { ⌜ SquareOf square x ⌝ }
         ensures { λ r. ⌜ r ≡ sqrtOf square ⌝ }
@@ -73,8 +73,8 @@ impl PivotRule {
         scalar::sqrt(square)
     }
 
-    // The last two tests at k, where the diagonal's magnitude, own, has lost the first against colmax, the greatest of its
-    // column, in row imax: one against the greatest of row and column imax, one of that row's own diagonal.
+    // The last two tests at k, where the diagonal's magnitude, own, has lost the first against colmax, the greatest of
+    // its column, in row imax: one against the greatest of row and column imax, one of that row's own diagonal.
     // origin: src/numeric/ldlt/bunch_kaufman.rs, fn ll_bk_panel_step
     fn choose_by_row(
         panel: &[f64],

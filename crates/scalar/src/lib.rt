@@ -1,6 +1,6 @@
-// Leaves: functions of one or two f64 numbers, each equal to its definition in model's specs/Scalar.antt or specs/Root.antt
-// at every number: not-a-numbers, infinities, zeros of either sign and subnormals too. No caller owes anything.
-// The square root is worked out in whole numbers, since the language has no operator for it.
+// Leaves: functions of one or two f64 numbers, each equal to its definition in model's specs/Scalar.antt or
+// specs/Root.antt at every number: not-a-numbers, infinities, zeros of either sign and subnormals too. No caller owes
+// anything. The square root is worked out in whole numbers, since the language has no operator for it.
 ghost use mathlib.Core.Path.{_≡_};
 ghost use Prim.Native.Nat.{_+_, _*_, _^_};
 ghost use Rattle.model.specs.Scalar.{isFinite, magnitudeOf, squareOf, maximumOf, reciprocalOf, liftOf};

@@ -220,8 +220,8 @@ fn lower_sum(panel: &[f64], ncol: usize, nrow: usize) -> f64
 }
 
 // Whether the lower positions are known to be finite, by one pass over them: if their sum is, they are, since no sum
-// loses an infinity or a not-a-number (`sum-known` of proofs/Finite.antt). False says nothing of them: the sum of finite
-// numbers can overflow.
+// loses an infinity or a not-a-number (`sum-known` of proofs/Finite.antt). False says nothing of them: the sum of
+// finite numbers can overflow.
 pub fn known_finite(panel: &[f64], ncol: usize, nrow: usize) -> bool
     requires { ⌜ PanelPre nrow ncol (length (now panel)) ⌝ }
     ensures { λ r. ⌜ r ≡ sumFinite (view nrow (now (panel .entry))) nrow ncol ⌝ }

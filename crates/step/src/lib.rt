@@ -73,7 +73,8 @@ fn single(
     })
 }
 
-// A block at k and k + 1: row kp exchanged with k + 1, settled by the mode, eliminated. Row p was exchanged with k before.
+// A block at k and k + 1: row kp exchanged with k + 1, settled by the mode, eliminated. Row p was exchanged with k
+// before.
 fn block(
     panel: &mut [f64],
     mult: &mut [f64],
@@ -87,7 +88,8 @@ fn block(
     ensures { λ r. ⌜ tried r (view (at .nrow) (now (panel .exit)))
         (inPanel (at .kb) (at .ke) (view (at .nb) (now (mult .exit))))
         ≡ twoOf (at .ke) (view (at .nrow) (now (panel .entry)))
-        (inPanel (at .kb) (at .ke) (view (at .nb) (now (mult .entry)))) (how .mode) (how .limit) (k .0) (p .0) (kp .0) ⌝ }
+        (inPanel (at .kb) (at .ke) (view (at .nb) (now (mult .entry)))) (how .mode) (how .limit) (k .0) (p .0)
+        (kp .0) ⌝ }
 {
     let mode = how.mode;
     exchange::exchange_if(panel, at.nrow, at.ncol, LocalRow(k.0 + 1), kp, at.ke);
@@ -129,7 +131,8 @@ fn moved_block(
     ensures { λ r. ⌜ tried r (view (at .nrow) (now (panel .exit)))
         (inPanel (at .kb) (at .ke) (view (at .nb) (now (mult .exit))))
         ≡ twoOf (at .ke) (exchanged (k .0) (p .0) (at .ke) (view (at .nrow) (now (panel .entry))))
-        (inPanel (at .kb) (at .ke) (view (at .nb) (now (mult .entry)))) (how .mode) (how .limit) (k .0) (p .0) (kp .0) ⌝ }
+        (inPanel (at .kb) (at .ke) (view (at .nb) (now (mult .entry)))) (how .mode) (how .limit) (k .0) (p .0)
+        (kp .0) ⌝ }
 {
     exchange::exchange_if(panel, at.nrow, at.ncol, LocalRow(k.0), p, at.ke);
     block(panel, mult, at, k, p, kp, how)

@@ -95,7 +95,8 @@ module _ (ds ss : List Float) (bs ps : List ℕ) (I : Mat) (ke : ℕ) where
       (arrived-since (naturals bs) (naturals ps) k (here .ahead .first)) (record-since k (partner-ahead ke (naturals bs) (naturals ps) k here))
 
   -- a step that makes no exchange before its own
-  stays-step : (l : ℕ) → firstOf (naturals bs) (naturals ps) l ≡ l → rowStepped (diagonalsOf ds ss bs) (naturals ps) I ke l ≡ rowAfterStep ke (stepAt (diagonalsOf ds ss bs) (naturals ps) I l)
+  stays-step : (l : ℕ) → firstOf (naturals bs) (naturals ps) l ≡ l
+      → rowStepped (diagonalsOf ds ss bs) (naturals ps) I ke l ≡ rowAfterStep ke (stepAt (diagonalsOf ds ss bs) (naturals ps) I l)
   unfolding rowStepped arrived
   stays-step l e =
       fun-ext λ r. ap (rowAfterStep ke (stepAt (diagonalsOf ds ss bs) (naturals ps) I l)) (fun-ext λ j. ap r (ap (λ (q : ℕ). exchangedPlace l q j) e ∙ place-same l j))
@@ -163,7 +164,8 @@ module _ (I J : Mat) (ke k : ℕ) (kept : (j c : ℕ) → k + j < ke → k + c <
 -- ---- the loop
 
 -- fuel past the columns that are left changes nothing
-steps-fuel : (D : Diagonals) (q : ℕ → ℕ) (m : Mat) (ke n l k : ℕ) (r : Row) → ke - k ≤ n → ke - k ≤ l → rowAfterSteps D q m ke n k r ≡ rowAfterSteps D q m ke l k r
+steps-fuel : (D : Diagonals) (q : ℕ → ℕ) (m : Mat) (ke n l k : ℕ) (r : Row) → ke - k ≤ n → ke - k ≤ l
+    → rowAfterSteps D q m ke n k r ≡ rowAfterSteps D q m ke l k r
 unfolding rowAfterSteps
 steps-fuel D q m ke zero zero k r h g = refl
 steps-fuel D q m ke zero (suc l) k r h g = rw (le-ltb k ke (omega arith))

@@ -1,7 +1,7 @@
-// The rows below a finished panel: its steps in turn, two at a time, read off the arrays that the panel step wrote. What
-// is lent to a step is the panel from row ke of its first column on: nothing above row ke of that column can be named. A
-// reader may rely on the contract of apply_bk_panel_trailing: each row from ke down goes through the model's steps, and
-// nothing else changes.
+// The rows below a finished panel: its steps in turn, two at a time, read off the arrays that the panel step wrote.
+// What is lent to a step is the panel from row ke of its first column on: nothing above row ke of that column can be
+// named. A reader may rely on the contract of apply_bk_panel_trailing: each row from ke down goes through the model's
+// steps, and nothing else changes.
 use diagonal::block_begins;
 use diagonal::diagonal_at;
 use diagonal::past;

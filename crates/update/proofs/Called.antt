@@ -28,11 +28,11 @@ use Rattle.model.proofs.Tabulated.{is-columnMajor}
 use Rattle.scan.proofs.Laws.{every-at}
 use Rattle.checks.specs.Answers.{answerOf, leaves}
 use Rattle.checks.proofs.Answers.{first-refuses, second-decides, leaves-done, leaves-refused}
-use Rattle.update.specs.Rows.{risesAt, standsAt, landsOn, landsAt, firstFrom, thereAt, LocatePre, Located}
+use Rattle.landing.specs.Rows.{risesAt, standsAt, landsOn, landsAt, firstFrom, thereAt, LocatePre, Located}
 use Rattle.update.specs.Call.{listsCheck, columnsCheck, updatedPanel, columnsOf, Sizes, ListsPre, NumbersPre}
 use Rattle.update.specs.Apply.{rowsApplied, ApplyPre}
-use Rattle.update.proofs.Scans.{First, first-is, place-all}
-use Rattle.update.proofs.Order.{Rising, rising-is, rising-one, rising-place}
+use Rattle.landing.proofs.Scans.{First, first-is, place-all}
+use Rattle.landing.proofs.Order.{Rising, rising-is, rising-one, rising-place}
 use Rattle.update.proofs.Listed.{sizes}
 use Rattle.update.proofs.Closed.{Inverse, Lands, rows-hit, rows-miss}
 

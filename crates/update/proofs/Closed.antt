@@ -11,7 +11,7 @@ use Rattle.model.specs.Scalar.{_⊖_}
 use Rattle.model.specs.Matrix.{Row, Mat, naturals}
 use Rattle.model.specs.Update.{Descendant, updateAcc}
 use Rattle.model.proofs.Cases.{test}
-use Rattle.update.specs.Rows.{landsOn}
+use Rattle.landing.specs.Rows.{landsOn}
 use Rattle.update.specs.Apply.{landingAcc, lessAt, lessFrom, rowApplied, rowsApplied}
 
 -- ---- what a column loses: `places` and `at` are inverse to each other, for rows lo up to hi of the descendant

@@ -11,7 +11,7 @@ use Rattle.model.specs.Update.{Descendant, updateAcc}
 use Rattle.model.proofs.Cases.{and-left, and-right}
 use Rattle.kernels.specs.Rules.{behind}
 use Rattle.grid.proofs.Laws.{in-panel}
-use Rattle.update.specs.Rows.{landsOn}
+use Rattle.landing.specs.Rows.{landsOn}
 use Rattle.update.specs.Apply.{weighed, accOf, fromRow, landingAcc, lessAt, lessFrom, rowApplied, rowsApplied, SumPre, SubtractPre, ApplyPre, PartPre}
 use Rattle.update.proofs.Numbers.{part-at, less-end}
 

@@ -1,6 +1,4 @@
--- Laws of the update call: scans, rising rows and places among them.
-pub mod Scans
-pub mod Order
+-- Laws of the update call.
 pub mod Listed
 pub mod Numbers
 pub mod Landing

@@ -25,7 +25,7 @@ use Rattle.scan.specs.Finite.{columnFinite}
 use Rattle.scan.specs.Greatest.{DownPre}
 use Rattle.checks.proofs.Shape.{product}
 use Rattle.grid.proofs.Laws.{col-in}
-use Rattle.update.specs.Rows.{risesAt, standsAt, ColumnsPre}
+use Rattle.landing.specs.Rows.{risesAt, standsAt, ColumnsPre}
 use Rattle.update.specs.Call.{listsCheck, Sizes, ColumnPre}
 
 -- ---- the stated lengths fit a machine word, once the descendant's sizes are sound
@@ -148,7 +148,8 @@ module _ (k : Descendant) (c : ℕ) (b : Bool) (h : b ≡ isFinite (vec (k .d) c
     unfolding descendantSound
     column-sub y = rw (← h, not-false b x, ← g, under (begins (naturals (k .blocks)) c) e y)
 
-    pub column-rest : (f : Bool) → begins (naturals (k .blocks)) c && not e ≡ false → f ≡ columnFinite (view (k .nk + k .mk) (k .panel)) c (k .nk) (k .nk + k .mk)
+    pub column-rest : (f : Bool) → begins (naturals (k .blocks)) c && not e ≡ false
+        → f ≡ columnFinite (view (k .nk + k .mk) (k .panel)) c (k .nk) (k .nk + k .mk)
         → f ≡ descendantSound k c
     unfolding descendantSound columnFinite
     column-rest f y i =

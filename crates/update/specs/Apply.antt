@@ -18,7 +18,7 @@ use Rattle.model.specs.declared.Check.the-variants.{Sound}
 use Rattle.grid.specs.Grid.{In}
 use Rattle.grid.specs.Rules.{columnOf}
 use Rattle.kernels.specs.Rules.{plusTimes}
-use Rattle.update.specs.Rows.{landsOn}
+use Rattle.landing.specs.Rows.{landsOn}
 use Rattle.update.specs.Call.{NumbersPre}
 
 -- 'v' of a landing row: the row times D; of the descendant only d, subdiagonal and block bytes play a part

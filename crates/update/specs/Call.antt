@@ -16,7 +16,7 @@ use Rattle.model.specs.Answer.{orElse, refuseIf}
 use Rattle.model.specs.declared.Refusal.the-variants.{UpdateLength, TargetRows, DescendantRows}
 use Rattle.model.specs.declared.Check.{Check}
 use Rattle.model.specs.declared.Check.the-variants.{Sound}
-use Rattle.update.specs.Rows.{risesAt, standsAt}
+use Rattle.landing.specs.Rows.{risesAt, standsAt}
 
 abbrev pub targetOf : ℕ → ℕ → ℕ → List ℕ → Target
 targetOf ncol nrow first rows = record { ncol = ncol; nrow = nrow; first = first; rows = rows }

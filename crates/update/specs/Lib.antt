@@ -1,4 +1,3 @@
--- Rows of the system among the target's, the update call's arguments and checks, and its numbers step by step.
-pub mod Rows
+-- The update call's arguments and checks, and its numbers step by step.
 pub mod Call
 pub mod Apply

@@ -14,7 +14,6 @@ ghost use Rattle.update.specs.Call.{descendantOf};
 ghost use Rattle.update.specs.Apply.{weighed, fromRow, accOf, twoAdded, lessAt, lessFrom};
 ghost use Rattle.update.specs.Apply.{rowApplied, rowsApplied, WeightPre, SumPre, SubtractPre, ApplyPre, PartPre};
 use super::Shapes;
-use super::rows;
 use grid::column_start;
 use grid::columns;
 use model::Elim;
@@ -271,10 +270,10 @@ fn update_row(
         (view (s .nrow) (now (panel .entry))) ⌝ }
 {
     let g = GlobalRow(krows[c]);
-    if !rows::lands(s.first, s.ncol, g) {
+    if !landing::lands(s.first, s.ncol, g) {
         return;
     }
-    let column = rows::column_of(s.first, g);
+    let column = landing::column_of(s.first, g);
     let mk = s.mk;
     let mut lo = c;
     while lo < mk {

@@ -15,7 +15,6 @@ use model::ROWS_MAX;
 
 mod apply;
 mod refusals;
-mod rows;
 
 // The target's columns and rows, and the global row of its first column; the descendant's columns, and rows below them.
 pub(crate) struct Shapes {
@@ -45,10 +44,10 @@ fn update_columns(
         (descendantOf (s .nk) (s .mk) (now (kpanel .entry)) (now (kd .entry)) (now (ksub .entry))
         (now (kblocks .entry)) (now (krows .entry))) (now (panel .entry)) ⌝ }
 {
-    let start = rows::first_landing(s.first, s.ncol, krows);
+    let start = landing::first_landing(s.first, s.ncol, krows);
     // the walk's one list of a limit's length: where each of the descendant's rows stands among the target's
     let mut places = [0u16; ROWS_MAX];
-    let located = rows::locate(rows, krows, start, &mut places);
+    let located = landing::locate(rows, krows, start, &mut places);
     let Check::Sound = located else {
         return checks::answer(located);
     };

@@ -8,10 +8,9 @@ ghost use Rattle.model.specs.Matrix.{naturals};
 ghost use Rattle.model.specs.Factor.{everyFrom};
 ghost use Rattle.model.specs.Assembly.{firstNot};
 ghost use Rattle.model.specs.Update.{updateSound, descendantSound, numberAt};
-ghost use Rattle.update.specs.Rows.{risesAt, standsAt, ColumnsPre};
+ghost use Rattle.landing.specs.Rows.{risesAt, standsAt, ColumnsPre};
 ghost use Rattle.update.specs.Call.{targetOf, descendantOf, listsCheck, ColumnPre, NumbersPre};
 use super::Shapes;
-use super::rows;
 use model::COLUMNS_MAX;
 use model::Check;
 use model::Elim;
@@ -57,10 +56,10 @@ fn target_sound(first: GlobalRow, rows: &[u32], ncol: usize) -> bool
     ensures { λ r. ⌜ r ≡ everyFrom (risesAt (naturals (now (rows .entry))) (length (now (rows .entry))))
         (length (now (rows .entry))) 0 && everyFrom (standsAt (first .0) (naturals (now (rows .entry)))) ncol 0 ⌝ }
 {
-    if !rows::rising(rows) {
+    if !landing::rising(rows) {
         return false;
     }
-    rows::begins_at(first, rows, ncol)
+    landing::begins_at(first, rows, ncol)
 }
 
 // Refusals 13 to 16.
@@ -84,7 +83,7 @@ pub fn lists_check(
     if !target_sound(s.first, rows, s.ncol) {
         return Check::Refused(Refusal::TargetRows);
     }
-    if !rows::rising(krows) {
+    if !landing::rising(krows) {
         return Check::Refused(Refusal::DescendantRows);
     }
     checks::first_bad_byte(kblocks)

@@ -163,7 +163,8 @@ byte-block : (b : Bool) → byteOf b ≡ 1 → b ≡ true
 byte-block true e = refl
 byte-block false e = let z : _≡_ {A = ℕ} 0 1 = e in let n : ⊥ = omega arith in absurd n
 
-noted-inside : (ke limit k : ℕ) (p : Pivots) (v : Pivot) → GoodPivot ke limit k v → PivotsInside ke p → PivotsInside ke (noted p k (lastOf k (isBlock (v .diagonal))) v)
+noted-inside : (ke limit k : ℕ) (p : Pivots) (v : Pivot) → GoodPivot ke limit k v → PivotsInside ke p
+    → PivotsInside ke (noted p k (lastOf k (isBlock (v .diagonal))) v)
 unfolding noted put
 noted-inside ke limit k p v g w =
     record {
@@ -176,7 +177,8 @@ noted-inside ke limit k p v g w =
           (λ u. rw u (w .pair j))));
     }
 
-pub panel-inside : (ke : ℕ) (how : Pivoting) (n k : ℕ) (s : State) → PivotsInside ke (s .pivots) → Went (λ t. PivotsInside ke (t .pivots)) (panelOf ke how n k s)
+pub panel-inside : (ke : ℕ) (how : Pivoting) (n k : ℕ) (s : State) → PivotsInside ke (s .pivots)
+    → Went (λ t. PivotsInside ke (t .pivots)) (panelOf ke how n k s)
 panel-inside ke how n k s w =
     panel-went ke how (λ t. PivotsInside ke (t .pivots))
     (λ t k v a m hk e p. let g : GoodPivot ke (how .limit) k v = subst (λ (o : Tried). Good ke (how .limit) k o) e (try-good ke (t .a) (t .mult) how k hk) in

@@ -13,15 +13,12 @@ use Rattle.factor.proofs.run.Tie as tie
 abbrev entry : tie.After-eliminate → tie.Start
 entry c = search
 
--- a run that stops: from its refusal to `eliminate`, and from `refusal` by `zero_all` to that
+-- a run that stops: from its refusal to `eliminate`, and from `zero_all` to that
 abbrev stopped : tie.After-enum-told → tie.After-eliminate
 stopped c = search
 
 abbrev told : tie.After-zero-all → tie.After-enum-told
 told c = search
-
-abbrev zeroed : tie.After-refusal → tie.After-zero-all
-zeroed c = search
 
 -- a run that ends: from its rounds to `eliminate`, from `judge` to the rounds, and from the end to `judge`
 abbrev ended : tie.After-ran → tie.After-eliminate
@@ -103,7 +100,7 @@ judge-lengths c =
 
 returns : tie.Need-returns
 returns c =
-    let z = zeroed c in
+    let z : tie.After-zero-all = search in
     let stop = told z .enum-told .given in
     let e = stopped (told z) in
     let s = entry e in

@@ -1,5 +1,5 @@
--- `scan::marks_of` meets its contract. Where every number is known to be finite the zeros are the marks. The invariant: the marks are those of the first j columns.
--- The measure is what is left of the columns. Assumes nothing.
+-- `scan::marks_of` meets its contract. Where every number is known to be finite the zeros are the marks. The invariant: the marks are those of the first j
+-- columns. The measure is what is left of the columns. Assumes nothing.
 use Prim.Native.Nat.{_-_, _≤_}
 use mathlib.Core.Path.{_≡_}
 use lib.ListN.{length}

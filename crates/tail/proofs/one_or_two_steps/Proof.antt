@@ -1,4 +1,5 @@
--- `tail::one_or_two_steps` meets its contract: what a step or two make of the part that is lent is made of the panel, and they are taken off the steps that are left. Assumes nothing.
+-- `tail::one_or_two_steps` meets its contract: what a step or two make of the part that is lent is made of the panel, and they are taken off the steps that are
+-- left. Assumes nothing.
 use mathlib.Core.Path.{refl}
 use native.Mathlib.Omega.{arith}
 use borrow.Author.Needs.{needs}
@@ -29,7 +30,8 @@ here c = here-pre _ _ _ _ _ (c .pre .1 .0) (c .pre .1 .1 .1 .0) (c .pre .1 .1 .1
 starts : (c : tie.After-past) → Starts (naturals (entry c .args .blocks .now)) (c .past .result)
 starts c = let s = entry c in starts-past _ _ _ _ (s .pre .1 .0 .recorded .paired) (s .pre .1 .1 .1 .0) (c .past .ensures)
 
-there : (c : tie.Then1) → HerePre (entry (c .before) .args .at .ke) (naturals (entry (c .before) .args .blocks .now)) (naturals (entry (c .before) .args .partners .now))
+there : (c : tie.Then1)
+    → HerePre (entry (c .before) .args .at .ke) (naturals (entry (c .before) .args .blocks .now)) (naturals (entry (c .before) .args .partners .now))
     (c .before .past .result)
 there c = here-pre _ _ _ _ _ (entry (c .before) .pre .1 .0) (c .if1 .taken) (starts (c .before))
 

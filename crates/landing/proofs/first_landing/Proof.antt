@@ -1,14 +1,14 @@
--- `update::rows::first_landing` meets its contract. The invariant: the scan from i on finds what the whole scan finds. The measure is what is left.
+-- `landing::first_landing` meets its contract. The invariant: the scan from i on finds what the whole scan finds. The measure is what is left.
 -- Assumes nothing.
 use mathlib.Core.Path.{_≡_}
 use Prim.Native.Nat.{_-_, _≤_}
 use lib.ListN.{length}
 use borrow.Author.Needs.{needs}
 use Rattle.model.specs.Matrix.{naturals}
-use Rattle.update.specs.Rows.{landsAt, firstFrom}
-use Rattle.update.proofs.Scans.{from-none, from-step, from-hit, from-end}
-use Rattle.update.proofs.rows.first_landing.Statement.{statement}
-use Rattle.update.proofs.rows.first_landing.Tie as tie
+use Rattle.landing.specs.Rows.{landsAt, firstFrom}
+use Rattle.landing.proofs.Scans.{from-none, from-step, from-hit, from-end}
+use Rattle.landing.proofs.first_landing.Statement.{statement}
+use Rattle.landing.proofs.first_landing.Tie as tie
 
 abbrev Inv-loop : tie.InvT-loop
 Inv-loop first ncol krows i₀ i =

@@ -1,4 +1,4 @@
--- `update::rows::rising` meets its contract. The invariant: the test of the rows from i on is the whole test. The measure is what is left.
+-- `landing::rising` meets its contract. The invariant: the test of the rows from i on is the whole test. The measure is what is left.
 -- Assumes nothing.
 use mathlib.Core.Path.{_≡_}
 use Prim.Native.Nat.{_-_, _≤_}
@@ -6,10 +6,10 @@ use lib.ListN.{length}
 use borrow.Author.Needs.{needs}
 use Rattle.model.specs.Matrix.{naturals}
 use Rattle.model.specs.Factor.{everyFrom}
-use Rattle.update.specs.Rows.{risesAt}
-use Rattle.update.proofs.Scans.{every-none, every-step, every-bad, every-end}
-use Rattle.update.proofs.rows.rising.Statement.{statement}
-use Rattle.update.proofs.rows.rising.Tie as tie
+use Rattle.landing.specs.Rows.{risesAt}
+use Rattle.landing.proofs.Scans.{every-none, every-step, every-bad, every-end}
+use Rattle.landing.proofs.rising.Statement.{statement}
+use Rattle.landing.proofs.rising.Tie as tie
 
 abbrev Inv-loop : tie.InvT-loop
 Inv-loop rows i₀ i =

@@ -1,10 +1,10 @@
--- `update::rows::rises_at` meets its contract: the definition by its test. Assumes nothing.
+-- `landing::rises_at` meets its contract: the definition by its test. Assumes nothing.
 use borrow.Author.Needs.{needs}
 use borrow.Author.Tests.{eq-eqb, ne-eqb}
 use Rattle.model.specs.Matrix.{naturals}
-use Rattle.update.specs.Rows.{risesAt}
-use Rattle.update.proofs.rows.rises_at.Statement.{statement}
-use Rattle.update.proofs.rows.rises_at.Tie as tie
+use Rattle.landing.specs.Rows.{risesAt}
+use Rattle.landing.proofs.rises_at.Statement.{statement}
+use Rattle.landing.proofs.rises_at.Tie as tie
 
 returns : tie.Need-returns
 unfolding risesAt

@@ -17,8 +17,8 @@ use Rattle.model.specs.declared.Check.the-variants.{Sound, Refused}
 use Rattle.model.proofs.Cases.{test, cmp}
 use Rattle.scan.proofs.Laws.{every-at}
 use Rattle.checks.proofs.First.{first-step, first-bad, first-end}
-use Rattle.update.specs.Rows.{risesAt, thereAt, LocatePre, Located}
-use Rattle.update.proofs.Scans.{Place, place-within, place-all, place-one}
+use Rattle.landing.specs.Rows.{risesAt, thereAt, LocatePre, Located}
+use Rattle.landing.proofs.Scans.{Place, place-within, place-all, place-one}
 
 -- each of n rows is below the next
 pub record Rising (f : ℕ → ℕ) (n : ℕ) : Type 0 where

@@ -1,9 +1,9 @@
--- `update::rows::lands` meets its contract: the definition by its tests. Assumes nothing.
+-- `landing::lands` meets its contract: the definition by its tests. Assumes nothing.
 use mathlib.Core.Path.{refl}
 use borrow.Author.Needs.{needs}
-use Rattle.update.specs.Rows.{landsOn}
-use Rattle.update.proofs.rows.lands.Statement.{statement}
-use Rattle.update.proofs.rows.lands.Tie as tie
+use Rattle.landing.specs.Rows.{landsOn}
+use Rattle.landing.proofs.lands.Statement.{statement}
+use Rattle.landing.proofs.lands.Tie as tie
 
 returns : tie.Need-returns
 unfolding landsOn

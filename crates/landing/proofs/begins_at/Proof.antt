@@ -1,14 +1,14 @@
--- `update::rows::begins_at` meets its contract. The invariant: the test of the rows from j on is the whole test. The measure is what is left.
+-- `landing::begins_at` meets its contract. The invariant: the test of the rows from j on is the whole test. The measure is what is left.
 -- Assumes nothing.
 use mathlib.Core.Path.{_≡_}
 use Prim.Native.Nat.{_-_, _≤_}
 use borrow.Author.Needs.{needs}
 use Rattle.model.specs.Matrix.{naturals}
 use Rattle.model.specs.Factor.{everyFrom}
-use Rattle.update.specs.Rows.{standsAt}
-use Rattle.update.proofs.Scans.{every-none, every-step, every-bad, every-end}
-use Rattle.update.proofs.rows.begins_at.Statement.{statement}
-use Rattle.update.proofs.rows.begins_at.Tie as tie
+use Rattle.landing.specs.Rows.{standsAt}
+use Rattle.landing.proofs.Scans.{every-none, every-step, every-bad, every-end}
+use Rattle.landing.proofs.begins_at.Statement.{statement}
+use Rattle.landing.proofs.begins_at.Tie as tie
 
 abbrev Inv-loop : tie.InvT-loop
 Inv-loop first rows ncol j₀ j =

@@ -8,7 +8,7 @@ use lib.Dec.{ltb, eqb}
 use Rattle.model.specs.Factor.{everyFrom}
 use Rattle.model.specs.Update.{placeFrom}
 use Rattle.model.proofs.Cases.{test}
-use Rattle.update.specs.Rows.{firstFrom}
+use Rattle.landing.specs.Rows.{firstFrom}
 
 one-more : (n k : ℕ) → k < n → n - k ≡ suc (n - (k + 1))
 one-more n k h = omega arith

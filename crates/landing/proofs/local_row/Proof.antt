@@ -1,4 +1,4 @@
--- `update::rows::local_row` meets its contract. The invariant: the search from i on finds what the whole search finds. The measure is what is left.
+-- `landing::local_row` meets its contract. The invariant: the search from i on finds what the whole search finds. The measure is what is left.
 -- Assumes nothing.
 use mathlib.Core.Path.{_≡_}
 use Prim.Native.Nat.{_-_, _≤_}
@@ -6,9 +6,9 @@ use lib.ListN.{length}
 use borrow.Author.Needs.{needs}
 use Rattle.model.specs.Matrix.{naturals}
 use Rattle.model.specs.Update.{placeFrom}
-use Rattle.update.proofs.Scans.{place-step, place-hit, place-end}
-use Rattle.update.proofs.rows.local_row.Statement.{statement}
-use Rattle.update.proofs.rows.local_row.Tie as tie
+use Rattle.landing.proofs.Scans.{place-step, place-hit, place-end}
+use Rattle.landing.proofs.local_row.Statement.{statement}
+use Rattle.landing.proofs.local_row.Tie as tie
 
 abbrev Inv-loop : tie.InvT-loop
 Inv-loop rows g i₀ i =

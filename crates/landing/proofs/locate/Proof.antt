@@ -1,4 +1,4 @@
--- `update::rows::locate` meets its contract. The invariant: `Locating` of Order.antt. The measure is what is left of the descendant's rows.
+-- `landing::locate` meets its contract. The invariant: `Locating` of Order.antt. The measure is what is left of the descendant's rows.
 -- Assumes nothing.
 use mathlib.Core.Path.{_≡_}
 use Prim.Native.Nat.{ℕ, _+_, _-_}
@@ -6,9 +6,9 @@ use native.Mathlib.Omega.{arith}
 use lib.ListN.{length, set}
 use borrow.Author.Needs.{needs}
 use Rattle.model.specs.Matrix.{naturals}
-use Rattle.update.proofs.Order.{Locating, locating-none, locating-step, locating-bad, locating-end, locating-all}
-use Rattle.update.proofs.rows.locate.Statement.{statement}
-use Rattle.update.proofs.rows.locate.Tie as tie
+use Rattle.landing.proofs.Order.{Locating, locating-none, locating-step, locating-bad, locating-end, locating-all}
+use Rattle.landing.proofs.locate.Statement.{statement}
+use Rattle.landing.proofs.locate.Tie as tie
 
 abbrev Inv-loop : tie.InvT-loop
 Inv-loop rows krows start places₀ from₀ i₀ places from i = Locating rows krows start (length places₀) places from i

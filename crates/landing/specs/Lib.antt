@@ -1,0 +1,2 @@
+-- Rows of the system among the target's.
+pub mod Rows
