@@ -55,7 +55,7 @@ struct call {
 
 static const struct call *call;
 static size_t size[SETTINGS];
-static bool lifts;
+static bool lift_mode;
 static double lift;
 static struct {
     const char *list; /* as its line has it */
@@ -74,7 +74,7 @@ static void *pointer(size_t buffer)
 
 static struct misuktaan_outcome factor(void)
 {
-    return misuktaan_factor(size[0], size[1], size[2], lifts, lift, size[4], LENT(double, 0), LENT(double, 1),
+    return misuktaan_factor(size[0], size[1], size[2], lift_mode, lift, size[4], LENT(double, 0), LENT(double, 1),
                             LENT(double, 2), LENT(double, 3), LENT(uint8_t, 4), LENT(uint8_t, 5), LENT(double, 6),
                             LENT(size_t, 7), LENT(uint8_t, 8), LENT(double, 9));
 }
@@ -226,7 +226,7 @@ static bool buffer_is(size_t b, const char *rest, const unsigned char *block)
 static bool setting_is(size_t s, const char *rest)
 {
     bool is_lift = strcmp(call->settings[s], "lift") == 0;
-    lifts = lifts || is_lift;
+    lift_mode = lift_mode || is_lift;
     return *rest == '=' && (is_lift ? real(rest + 1, &lift) : whole(rest + 1, &size[s]));
 }
 
@@ -341,7 +341,7 @@ static enum verdict judge(char *line, const char *sound)
     if (changes != NULL) {
         *changes = '\0';
     }
-    lifts = false;
+    lift_mode = false;
     lift = NAN;
     memset(size, 0xFF, sizeof size);
     memset(lent, 0, sizeof lent);

@@ -100,12 +100,12 @@ static size_t order[ROWS];
 
 /* The settings of the next call. */
 static size_t nb, limit;
-static bool lifts;
+static bool lift_mode;
 static double least;
 
 static struct misuktaan_outcome factor(void)
 {
-    return misuktaan_factor(COLS, ROWS, nb, lifts, least, limit, input, NUMBERS, panel, NUMBERS, d, COLS, sub, COLS,
+    return misuktaan_factor(COLS, ROWS, nb, lift_mode, least, limit, input, NUMBERS, panel, NUMBERS, d, COLS, sub, COLS,
                             blocks, COLS, lifted, COLS, amounts, COLS, order, ROWS, marks, ROWS - COLS, work,
                             misuktaan_work_len(ROWS, nb));
 }
@@ -120,7 +120,7 @@ static double *at(size_t i, size_t j)
 static void unit(size_t of_width)
 {
     nb = of_width;
-    lifts = false;
+    lift_mode = false;
     least = NAN;
     limit = 1;
     for (size_t j = 0; j < COLS; j++) {
@@ -144,7 +144,7 @@ static void pairs(void)
 /* Lifts with floor 1 and this limit. */
 static void with_lifts(size_t most)
 {
-    lifts = true;
+    lift_mode = true;
     least = 1.0;
     limit = most;
 }

@@ -113,7 +113,7 @@ static double block_last(size_t i, size_t j)
 struct call {
     const char *what;
     size_t ncol, nrow, nb;
-    bool lifts;
+    bool lift_mode;
     double floor;
     size_t limit;
     double (*lower)(size_t i, size_t j);
@@ -205,7 +205,7 @@ static void make(const struct call *c, struct made *m)
     void *const *at = m->at;
     const size_t *len = m->len;
     feclearexcept(FE_ALL_EXCEPT);
-    m->outcome = misuktaan_factor(c->ncol, c->nrow, c->nb, c->lifts, c->floor, c->limit, m->input, len[PANEL],
+    m->outcome = misuktaan_factor(c->ncol, c->nrow, c->nb, c->lift_mode, c->floor, c->limit, m->input, len[PANEL],
                                   at[PANEL], len[PANEL], at[D], len[D], at[SUB], len[SUB], at[BLOCKS], len[BLOCKS],
                                   at[LIFTED], len[LIFTED], at[AMOUNTS], len[AMOUNTS], at[ORDER], len[ORDER],
                                   at[MARKS], len[MARKS], at[WORK], len[WORK]);

@@ -10,7 +10,7 @@ use Rattle.outcome.specs.Numbers.{modeOf, factorNumbers, panelNumbers}
 use Rattle.outcome.specs.declared.Outcome.{Outcome}
 
 abbrev pub settingsOf : (ncol nrow nb : ℕ) → Bool → Float → ℕ → Settings
-settingsOf ncol nrow nb lifts floor limit = record { ncol = ncol; nrow = nrow; nb = nb; mode = modeOf lifts floor; limit = limit }
+settingsOf ncol nrow nb lift floor limit = record { ncol = ncol; nrow = nrow; nb = nb; mode = modeOf lift floor; limit = limit }
 
 -- what a factor call answers and leaves
 pub record FactorLeft : Type 0 where

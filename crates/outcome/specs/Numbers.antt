@@ -13,7 +13,7 @@ use Rattle.outcome.specs.declared.Outcome.{Outcome}
 
 -- Lift with the floor where the flag is set; else Fail, and the floor is not read
 abbrev pub modeOf : Bool → Float → Mode
-modeOf lifts floor = cond lifts (Lift floor) Fail
+modeOf lift floor = cond lift (Lift floor) Fail
 
 -- a refusal's number and place, with nothing counted
 abbrev pub refusedAs : (number a b : ℕ) → Outcome

@@ -94,8 +94,12 @@ pub fn of_panel(answer: Applied) -> Outcome
 }
 
 // Lift with the floor where the flag is set, else Fail.
-pub fn mode_of(lifts: bool, floor: f64) -> Mode
-    ensures { λ r. ⌜ r ≡ modeOf lifts floor ⌝ }
+pub fn mode_of(lift_mode: bool, floor: f64) -> Mode
+    ensures { λ r. ⌜ r ≡ modeOf lift_mode floor ⌝ }
 {
-    if lifts { Mode::Lift(floor) } else { Mode::Fail }
+    if lift_mode {
+        Mode::Lift(floor)
+    } else {
+        Mode::Fail
+    }
 }
