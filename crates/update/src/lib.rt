@@ -1,8 +1,8 @@
 // A factored descendant's update of a target node: each of its rows that lands on a column of the target subtracts its
 // part of L·D·Lᵀ from that column, from the landing row on.
-// rows.rt has the way from rows of the system to rows of the panel, refusals.rt refusals 13 to 16 and 18, apply.rt the
-// numbers. A reader may rely on `update` answering any arguments: it refuses and writes nothing, or the panel is the
-// definition's.
+// refusals.rt has refusals 13 to 16 and 18, apply.rt the numbers; crates/landing has the way from rows of the system to
+// rows of the panel. A reader may rely on `update` answering any arguments: it refuses and writes nothing, or the panel
+// is the definition's.
 ghost use mathlib.Core.Path.{_≡_};
 ghost use lib.ListN.{length};
 ghost use Rattle.model.specs.Update.{updateOf};
