@@ -115,7 +115,7 @@ static inline size_t misuktaan_work_len(size_t nrow, size_t nb)
  * Returns: number 0 with rounds and counts; or a refusal of 1 to 9.
  * In:   ncol, nrow    the node's columns and rows, 0 <= ncol <= COLUMNS_MAX, ncol <= nrow <= ROWS_MAX.
  *       nb            the panel width, 1 to WIDTH_MAX; used as min(nb, max(ncol, 1)).
- *       lift_mode     whether a pivot below the floor is lifted to it; if not, floor and limit are not read.
+ *       lift          whether a pivot below the floor is lifted to it; if not, floor and limit are not read.
  *       floor         the floor, finite and above zero.
  *       limit         the rounds that a block's lift may take, 1 to LIMIT_MAX.
  *       input         nrow * ncol: the node's panel. Upper positions may hold anything.
@@ -133,7 +133,7 @@ static inline size_t misuktaan_work_len(size_t nrow, size_t nb)
  * what they held on entry, bit for bit; after 7, 8 and 9 zeros.
  */
 struct misuktaan_outcome misuktaan_factor(
-    size_t ncol, size_t nrow, size_t nb, bool lift_mode, double floor, size_t limit,
+    size_t ncol, size_t nrow, size_t nb, bool lift, double floor, size_t limit,
     const double *input, size_t input_len,
     double *panel, size_t panel_len,
     double *d, size_t d_len,

@@ -30,7 +30,7 @@ unsafe extern "C" {
         ncol: usize,
         nrow: usize,
         nb: usize,
-        lift_mode: bool,
+        lift: bool,
         floor: f64,
         limit: usize,
         input: *const f64,
@@ -102,14 +102,14 @@ unsafe extern "C" {
 
 #[rustfmt::skip]
 pub fn factor(s: &Settings, input: &[f64], lent: Buffers<'_>) -> Outcome {
-    let (lift_mode, floor) = s.mode.flag_and_floor();
+    let (lift, floor) = s.mode.flag_and_floor();
     let Buffers { panel, d, sub, blocks, lifted, amounts, order, marks, work } = lent;
     // SAFETY: each pointer comes with the length of its own slice. The slices are live for the call, and no `&mut`
     // of them overlaps another slice. The call reads and writes within the lengths, whatever they are, and keeps no
     // pointer.
     unsafe {
         misuktaan_factor(
-            s.ncol, s.nrow, s.nb, lift_mode, floor, s.limit,
+            s.ncol, s.nrow, s.nb, lift, floor, s.limit,
             input.as_ptr(), input.len(),
             panel.as_mut_ptr(), panel.len(),
             d.as_mut_ptr(), d.len(),

@@ -76,7 +76,7 @@ pub extern "C" fn misuktaan_sqrt(x: f64) -> f64
 
 // ---- the calls
 
-// One node factored. Lift with this floor where `lift_mode`, else Fail. The definition decides all of it: the answer, and
+// One node factored. Lift with this floor where `lift`, else Fail. The definition decides all of it: the answer, and
 // what each of the nine buffers holds afterwards.
 // in: settings; input, nrow * ncol. out: panel, nrow * ncol; d, sub, blocks, lifted, amounts, ncol each; order, nrow;
 // marks, nrow - ncol. work: 3 * nrow * (nb + 1) + nb * nb, any on entry, +0.0 after acceptance.
@@ -85,7 +85,7 @@ pub extern "C" fn misuktaan_factor(
     ncol: usize,
     nrow: usize,
     nb: usize,
-    lift_mode: bool,
+    lift: bool,
     floor: f64,
     limit: usize,
     input: &[f64],
@@ -113,7 +113,7 @@ pub extern "C" fn misuktaan_factor(
         work = now (work .exit);
       };
     })
-        (factorLeft (factorOf (settingsOf ncol nrow nb lift_mode floor limit) (now (input .entry)) (record {
+        (factorLeft (factorOf (settingsOf ncol nrow nb lift floor limit) (now (input .entry)) (record {
           panel = now (panel .entry);
           d = now (d .entry);
           sub = now (sub .entry);
@@ -125,7 +125,7 @@ pub extern "C" fn misuktaan_factor(
           work = now (work .entry);
         }))) ⌝ }
 {
-    let mode = outcome::mode_of(lift_mode, floor);
+    let mode = outcome::mode_of(lift, floor);
     let c = Settings {
         ncol,
         nrow,

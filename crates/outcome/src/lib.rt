@@ -94,12 +94,8 @@ pub fn of_panel(answer: Applied) -> Outcome
 }
 
 // Lift with the floor where the flag is set, else Fail.
-pub fn mode_of(lift_mode: bool, floor: f64) -> Mode
-    ensures { λ r. ⌜ r ≡ modeOf lift_mode floor ⌝ }
+pub fn mode_of(lift: bool, floor: f64) -> Mode
+    ensures { λ r. ⌜ r ≡ modeOf lift floor ⌝ }
 {
-    if lift_mode {
-        Mode::Lift(floor)
-    } else {
-        Mode::Fail
-    }
+    if lift { Mode::Lift(floor) } else { Mode::Fail }
 }
