@@ -14,7 +14,7 @@ use Rattle.model.specs.declared.Refusal.{Refusal}
 use Rattle.model.specs.declared.Factored.{Factored}
 use Rattle.model.specs.declared.Factored.the-variants.{Accepted, Refused}
 use Rattle.buffers.specs.Buffers.{buffersOf}
-use Rattle.factor.specs.Judge.{outcomeOf}
+use Rattle.judge.specs.Judge.{outcomeOf}
 use Rattle.refusal.proofs.Laws.{turned-away}
 use Rattle.little_endian.specs.LittleEndian.{numbersOf}
 use Rattle.record.specs.Record.{panelLength, panelOf, askedOf, longest}

@@ -2,7 +2,7 @@
 use mathlib.Core.List.{List}
 use Prim.Native.Nat.{ℕ}
 use lib.Ieee.{Float}
-use Rattle.model.specs.Matrix.{Mat, view}
+use Rattle.model.specs.Matrix.{view}
 use Rattle.model.specs.Step.{Pivots}
 use Rattle.model.specs.Head.{State}
 use Rattle.model.specs.declared.Frame.{Frame}

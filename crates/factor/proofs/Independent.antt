@@ -7,7 +7,7 @@ use Rattle.model.specs.Factor.{Outcome, factorOf}
 use Rattle.model.specs.Independence.{Call, SameHead, SameTailRow}
 use Rattle.model.proofs.Independence.{tail-rows-steer-nothing}
 use Rattle.factor.specs.Independence.{Made, SameHeadLeft, SameTailRowLeft, FactorSteeredByHeadAlone}
-use Rattle.factor.specs.Judge.{outcomeOf}
+use Rattle.judge.specs.Judge.{outcomeOf}
 
 module _ (x y : Call) (m : Made x) (n : Made y) where
   -- a part of what the two calls left, from the definitions' outcomes

@@ -1,17 +1,16 @@
 -- From the elimination to the factor call's outcome: a refusal of the run, a refusal of the result, or the factor. Assumes nothing.
 use mathlib.Core.Path.{_≡_, refl, sym, _∙_, ap, subst}
 use mathlib.Core.List.{List}
-use mathlib.Core.Bool.{Bool}
-use Prim.Native.Nat.{ℕ, zero, suc, _+_, _-_, _≤_, _<_}
+use Prim.Native.Nat.{ℕ}
 use native.Mathlib.Omega.{arith}
 use lib.ListN.{length, replicate}
 use lib.Ieee.{Float}
 use Rattle.model.specs.Scalar.{zeroF}
-use Rattle.model.specs.Matrix.{Mat, view, vec, naturals}
-use Rattle.model.specs.Step.{Diagonals, diagonalsOf, Pivots, pivotsOf}
+use Rattle.model.specs.Matrix.{view, vec, naturals}
+use Rattle.model.specs.Step.{Pivots, pivotsOf}
 use Rattle.model.specs.Head.{State, Run}
 use Rattle.model.specs.Inertia.{talliedOf, bytesFrom, checkBytes}
-use Rattle.model.specs.Factor.{pivotingOf, Buffers, Outcome, columnSound, resultCheck, entryCheck, zeros, factorOf}
+use Rattle.model.specs.Factor.{pivotingOf, Buffers, Outcome, resultCheck, entryCheck, zeros, factorOf}
 use Rattle.model.specs.Answer.{turnedAway}
 use Rattle.model.specs.declared.Settings.{Settings}
 use Rattle.model.specs.declared.Refusal.{Refusal}
@@ -23,12 +22,11 @@ use Rattle.model.proofs.Accepted.{AtEnd, Kept, head-kept, bytes-sound}
 use Rattle.whole.specs.Whole.{ended}
 use Rattle.whole.proofs.Result.{Reached, run-ended, reached-pivots}
 use Rattle.scan.specs.Marks.{tailMarks}
-use Rattle.buffers.specs.Result.{ResultPre}
 use Rattle.buffers.proofs.Buffers.{zeros-same}
-use Rattle.checks.proofs.Bytes.{bytes-paired}
 use Rattle.panels.specs.Turn.{between}
 use Rattle.panels.specs.Run.{runOf}
-use Rattle.factor.specs.Judge.{outcomeOf, refusalOf, acceptOf, judgedBy, judgeOf, Eliminated, JudgePre}
+use Rattle.judge.specs.Judge.{outcomeOf, judgedBy, judgeOf, JudgePre}
+use Rattle.factor.specs.Run.{refusalOf, Eliminated}
 use Rattle.bunch_kaufman.specs.declared.Ran.{Ran}
 use Rattle.bunch_kaufman.specs.declared.Ran.the-variants.{Stopped, Done}
 use Rattle.factor.proofs.Outcome.{wholeOf, stopped-outcome, unsound-outcome, accepted-outcome}
@@ -129,32 +127,6 @@ module _ (c : Settings) (input : List Float) (b : Buffers) (e : entryCheck c inp
     pub judge-call : judgeOf (c .nrow) (c .ncol) rounds a ≡ factorOf c input b
     unfolding judgeOf
     judge-call = judged-call (resultCheck (c .ncol) (last .pivots .diagonals) (last .a) (c .ncol) 0) refl
-
--- ---- the judgement
-
--- what the look at the result asks
-pub result-pre : (nrow ncol lp ld ls lm : ℕ) (blocks : List ℕ) → JudgePre nrow ncol lp ld ls lm blocks → ResultPre nrow ncol lp ld ls blocks
-result-pre nrow ncol lp ld ls lm blocks w = record {
-  rows = w .head;
-  panel = w .panel;
-  d = w .d;
-  pivots = record {
-    sub = w .sub;
-    blocks = w .bytes;
-    room = λ k h e. omega (arith, w .bytes, bytes-paired blocks (w .check) .room k (omega (arith, w .bytes)) e);
-  };
-}
-
-module _ (nrow ncol rounds : ℕ) (b : Buffers) (found : check.Check)
-    (h : found
-    ≡ resultCheck ncol (diagonalsOf (b .d) (b .sub) (b .blocks)) (view nrow (b .panel)) ncol 0) where
-  pub judge-refused : (r : Refusal) (z : Buffers) → found ≡ check.the-variants.Refused r → z ≡ zeros b → outcomeOf (Refused r) z ≡ judgeOf nrow ncol rounds b
-  unfolding judgeOf
-  judge-refused r z e ez = rw (← h, e, ez)
-
-  pub judge-accepted : (o : Outcome) → found ≡ check.the-variants.Sound → o ≡ acceptOf nrow ncol rounds b → o ≡ judgeOf nrow ncol rounds b
-  unfolding judgeOf
-  judge-accepted o e eo = rw (← h, e) eo
 
 -- the answer to a run that stopped
 pub refusal-says : (r : Ran) (x : Refusal) (f : Factored) (z : Buffers) (o : Outcome) → f ≡ refusalOf r → r ≡ Stopped x

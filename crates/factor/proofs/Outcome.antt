@@ -10,9 +10,9 @@ use Rattle.model.specs.Matrix.{Row, Mat, view, vec, naturals, places, tabulate,
 use Rattle.model.specs.Step.{diagonalsOf, Pivots, pivotsOf}
 use Rattle.model.specs.Head.{State}
 use Rattle.model.specs.Inertia.{talliedOf}
-use Rattle.model.specs.Factor.{pivotingOf, Buffers, Outcome, start, entryCheck, resultCheck, HeadAnswer, fails, stands, headAnswerOf}
+use Rattle.model.specs.Factor.{pivotingOf, Buffers, start, entryCheck, resultCheck, HeadAnswer, fails, stands, headAnswerOf}
 use Rattle.model.specs.Factor.{factorRowOf, markOf, factorEntry, zeros, reportOf, afterHead, factorOf}
-use Rattle.model.specs.Answer.{accepted, turnedAway}
+use Rattle.model.specs.Answer.{turnedAway}
 use Rattle.model.specs.declared.Settings.{Settings}
 use Rattle.model.specs.declared.Tally.{Tally}
 use Rattle.model.specs.declared.Refusal.{Refusal}
@@ -21,10 +21,9 @@ use Rattle.model.proofs.Tabulated.{length-tabulateFrom, getD-tabulate, is-tabul
 use Rattle.model.proofs.Entry.{Passed, passed, past-entry}
 use Rattle.whole.specs.Whole.{WholeRun, stoppedBy, ended, wholePanelsOf}
 use Rattle.whole.proofs.Result.{Reached, run-stopped, run-ended, reached-answer, reached-entry, reached-mark, reached-pivots, reached-rounds}
-use Rattle.scan.specs.Marks.{tailMarks}
 use Rattle.buffers.specs.Buffers.{buffersOf}
 use Rattle.panels.specs.Turn.{between}
-use Rattle.factor.specs.Judge.{acceptOf}
+use Rattle.judge.proofs.Laws.{acceptedWith}
 
 -- ---- lists from what they show
 
@@ -50,11 +49,7 @@ places-tabulate n xs f l e = is-tabulate n f 0 xs l (λ k h. getD-any xs k 0 k (
 tabulate-same : (n : ℕ) (f g : ℕ → ℕ) → ((k : ℕ) → k < n → f k ≡ g k) → tabulate n f ≡ tabulate n g
 tabulate-same n f g h = is-tabulate n g 0 (tabulate n f) (length-tabulateFrom 0 n f) (λ k l. getD-tabulate n k f 0 l ∙ h k l)
 
--- accepted, with what is left
-abbrev acceptedWith : ℕ → Tally → Buffers → Outcome
-acceptedWith rounds tally b = record { answer = accepted (record { rounds = rounds; inertia = tally }); buffers = b }
-
--- such an outcome by its parts
+-- an accepted outcome by its parts
 outcome-same : (r r′ : ℕ) (t t′ : Tally) (p p′ d d′ s s′ a a′ w w′ : List Float) (b b′ l l′ o o′ m m′ : List ℕ)
     → r ≡ r′ → t ≡ t′ → p ≡ p′ → d ≡ d′ → s ≡ s′ → b ≡ b′ → l ≡ l′ → a ≡ a′ → o ≡ o′ → m ≡ m′ → w ≡ w′
     → acceptedWith r t (buffersOf p d s b l a o m w) ≡ acceptedWith r′ t′ (buffersOf p′ d′ s′ b′ l′ a′ o′ m′ w′)
@@ -130,11 +125,3 @@ module _ (c : Settings) (input : List Float) (b : Buffers) (e : entryCheck c inp
       (λ i l. reached-mark (pivotingOf c) (c .nrow) (c .ncol) (c .nb) given t w (c .ncol + i) (omega arith) (omega arith)))
       ew
       ∙ sym (by-head (stands (w .state) (w .panels)) (stands-answer t s h))
-
--- ---- the accepted outcome by its parts
-pub accept-is : (nrow ncol rounds : ℕ) (b : Buffers) (marks : List ℕ) (work : List Float) (t : Tally)
-    → marks ≡ tailMarks (view nrow (b .panel)) ncol nrow ncol → work ≡ replicate (length (b .work)) zeroF
-    → t ≡ talliedOf (length (b .d)) (vec (b .d)) (vec (b .sub)) (naturals (b .blocks))
-    → acceptedWith rounds t (buffersOf (b .panel) (b .d) (b .sub) (b .blocks) (b .lifts) (b .amounts) (b .order) marks work)
-    ≡ acceptOf nrow ncol rounds b
-accept-is nrow ncol rounds b marks work t em ew et = rw (em, ew, et)

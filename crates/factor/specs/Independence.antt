@@ -7,7 +7,7 @@ use Rattle.model.specs.Factor.{Buffers, factorOf}
 use Rattle.model.specs.Answer.{factoredSays}
 use Rattle.model.specs.Independence.{Call, PastEntry, Alike, SameInput}
 use Rattle.model.specs.declared.Factored.{Factored}
-use Rattle.factor.specs.Judge.{outcomeOf}
+use Rattle.judge.specs.Judge.{outcomeOf}
 
 -- a call that was made: what `factor` answered, what it left in the nine buffers, and its contract
 pub record Made (x : Call) : Type 0 where

@@ -1,3 +1,3 @@
--- The run judged, what the functions ask of their callers, and demand 3 over two calls.
-pub mod Judge
+-- What a run leaves, and demand 3 over two calls.
+pub mod Run
 pub mod Independence

@@ -1,7 +1,7 @@
 -- Laws of a list seen as a row of places, and of parts of it. Assumes nothing.
 use Prim.Native.Nat.{ℕ, _+_, _-_, _<_, _≤_}
-use mathlib.Core.Path.{_≡_, refl, _∙_, ap, fun-ext}
-use mathlib.Core.Bool.{Bool, true, false, _&&_, cond}
+use mathlib.Core.Path.{_≡_, _∙_, ap, fun-ext}
+use mathlib.Core.Bool.{cond}
 use mathlib.Core.List.{List, _++_}
 use native.Mathlib.Nat.{le-antisymm}
 use native.Mathlib.Omega.{arith}

@@ -1,15 +1,15 @@
 -- Where the pivot search can end, and what a step's pivot keeps to: its rows and columns stand within the panel, its rounds within the limit. Assumes nothing.
-use mathlib.Core.Path.{_≡_, refl, sym, _∙_, ap, subst}
+use mathlib.Core.Path.{_≡_, refl, _∙_, ap}
 use mathlib.Core.Logic.{_⊎_, inl, inr, ⊎-elim}
-use mathlib.Core.Bool.{Bool, true, false, cond, _&&_, _||_, Bool·beq}
+use mathlib.Core.Bool.{Bool, true, false, cond, _&&_, _||_}
 use Prim.Native.Nat.{ℕ, zero, suc, _+_, _-_, _*_, _≤_, _<_}
 use native.Mathlib.Omega.{arith}
 use native.Mathlib.Nat.{zero-mul}
-use borrow.Author.Tests.{lt-ltb, eq-eqb, ltb-true, ltb-false}
+use borrow.Author.Tests.{eq-eqb, ltb-false}
 use lib.Dec.{ltb, eqb}
 use lib.Count.{trailingZeros}
-use lib.Ieee.{Float, nan, inf, fin, binary64, up, down, lt, le, eq, isNan, ofBits, ofFields, odd, add, mul, div, sum, round, units, size, span, climb}
-use Rattle.model.specs.Scalar.{_⊕_, _⊗_, _⊘_, zeroF, squareOf, magnitudeOf, maximumOf, growthEps}
+use lib.Ieee.{Float, nan, inf, fin, up, lt, le, eq, isNan, ofBits, ofFields, odd, add, mul, div, sum, round, units, size, span, climb}
+use Rattle.model.specs.Scalar.{_⊕_, _⊗_, _⊘_, zeroF, squareOf, magnitudeOf, maximumOf}
 use Rattle.model.specs.Root.{sqrtOf, alpha, roundRoot, isqrt, wholeRoot}
 use Rattle.model.specs.Matrix.{Row, Mat, exchanged}
 use Rattle.model.specs.Choice.{greatest, noneYet, columnGreatest, rowGreatest, chooseOf}

@@ -12,7 +12,7 @@ use Rattle.model.specs.Scalar.{zeroF}
 use Rattle.model.specs.Matrix.{Row, Mat, view, naturals, headOf, rowOf, tabulate}
 use Rattle.model.specs.Panel.{Panel}
 use Rattle.model.specs.Head.{State}
-use Rattle.model.specs.Factor.{pivotingOf, Buffers, Outcome, HeadAnswer, fails, stands, headRunOf, headAnswerOf, factorRowOf, markOf, factorEntry}
+use Rattle.model.specs.Factor.{pivotingOf, Outcome, HeadAnswer, fails, stands, headRunOf, headAnswerOf, factorRowOf, markOf, factorEntry}
 use Rattle.model.specs.Factor.{reportOf, afterHead}
 use Rattle.model.specs.Answer.{accepted}
 use Rattle.model.specs.Independence.{Call, outcomeOf, Alike, SameHead, SameInput, SameTailRow, TailRowsSteerNothing}

@@ -12,13 +12,13 @@ use lib.Dec.{T, eqb, ltb, leb, ltb→lt, leb→le}
 use lib.Arith.{lt-of-le-ne}
 use lib.IntN.{ℤ, pos, negsuc}
 use lib.Pow.{pow-add, pow-pos, pow-mono, pow-lt, shl-lt}
-use lib.Ieee.{Float, nan, inf, fin, binary64, up, down, size, nearest, units, round, add, div, fits, lt, ofBits, toBits}
+use lib.Ieee.{Float, nan, inf, fin, binary64, up, down, size, nearest, units, fits, lt, ofBits}
 use lib.Ieee.Exact.{HasValue, units-val}
 use lib.Ieee.Fits.{nearest-le, kept-lt, down-pos, and-l, and-r}
 use lib.Ieee.Digits.{size-reaches, size-le}
 use borrow.Author.Tests.{ltb-true}
-use Rattle.model.specs.Scalar.{zeroF, oneF, isFinite, growthEps}
-use Rattle.model.specs.Root.{square, wholeRoot, isqrt, roundRoot, sqrtOf, alpha}
+use Rattle.model.specs.Scalar.{zeroF, isFinite}
+use Rattle.model.specs.Root.{square, isqrt, roundRoot, sqrtOf}
 use Rattle.model.proofs.Root.{square-le, square-lt-back, isqrt-law, Compared, compared, le-or-lt, units-below, units-fits, sqrt-of-value}
 
 -- ---- the nearest number, over whole numbers

@@ -1,7 +1,7 @@
 -- Laws of `tabulate` and `columnMajor`: what stands where, and which list it is. Assumes nothing.
 use mathlib.Core.Path.{_≡_, refl, sym, _∙_, ap}
-use mathlib.Core.List.{List, [], _∷_}
-use Prim.Native.Nat.{ℕ, zero, suc, _+_, _-_, _*_, _/_, _%_, _<_, _≤_}
+use mathlib.Core.List.{List}
+use Prim.Native.Nat.{ℕ, zero, suc, _+_, _*_, _/_, _%_, _<_}
 use native.Mathlib.Omega.{arith}
 use native.Mathlib.Nat.{mul-le-mul-right, suc-mul, mul-comm, add-mul-div-right, add-mul-mod-self-right, mod-eq-of-lt, div-eq-of-lt, div-add-mod', mod-lt}
 use native.Mathlib.Nat.{div-lt-iff-lt-mul}

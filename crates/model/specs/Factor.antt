@@ -1,7 +1,7 @@
 -- The factor call whole: refusals 1 to 9 in their order, and every lent cell at the end. From docs/SCOPE.md, "Sizes and buffers", "Refusals" and
 -- "The factor call". The head alone decides (`headAnswerOf`); a tail row follows from the panels and itself (`factorRowOf`).
 -- Definitions only. Assumes nothing.
-use mathlib.Core.Bool.{Bool, true, false, cond, not, _&&_, _||_}
+use mathlib.Core.Bool.{Bool, true, cond, not, _&&_, _||_}
 use mathlib.Core.List.{List}
 use Prim.Native.Nat.{ℕ, zero, suc, _+_, _-_, _*_, min, max}
 use lib.Dec.{leb, ltb, eqb}

@@ -1,13 +1,13 @@
 -- The head's elimination: pivots within a panel, panels in turn. From docs/SCOPE.md, "A 1x1 pivot", "A block" and "The factor call".
 -- Definitions only. Assumes nothing.
-use mathlib.Core.Bool.{Bool, true, false, cond, _&&_}
+use mathlib.Core.Bool.{Bool, cond, _&&_}
 use mathlib.Core.List.{List, [], _∷_}
 use Prim.Native.Nat.{ℕ, zero, suc, _+_, _-_, min}
 use lib.Dec.{leb, ltb, eqb}
 use lib.Ieee.{Float, lt, le, eq}
 use Rattle.model.specs.Scalar.{_⊕_, _⊖_, _⊗_, zeroF, reciprocalOf, magnitudeOf, maximumOf, liftOf, growthEps}
 use Rattle.model.specs.Root.{sqrtOf}
-use Rattle.model.specs.Matrix.{Row, Mat, put, swapped, exchanged, withColumn}
+use Rattle.model.specs.Matrix.{Mat, put, swapped, exchanged, withColumn}
 use Rattle.model.specs.Choice.{chooseOf}
 use Rattle.model.specs.Step.{one, two, Diagonals, Notes, Pivots, blockOf, blockIn, isBlock, firstNumber, lastNumber, underNumber, firstMultiplier}
 use Rattle.model.specs.Step.{secondMultiplier, eliminated, rowAfterSteps}

@@ -1,6 +1,6 @@
 -- Counts of positive, negative and zero eigenvalues of D, as ported. From docs/SCOPE.md, "Inertia", and refusals 19 and 16.
 -- Definitions only. Assumes nothing.
-use mathlib.Core.Bool.{Bool, true, false, cond, not, _&&_, _||_}
+use mathlib.Core.Bool.{Bool, cond, not, _&&_, _||_}
 use mathlib.Core.List.{List}
 use Prim.Native.Nat.{ℕ, zero, suc, _+_}
 use lib.Dec.{leb, ltb, eqb}

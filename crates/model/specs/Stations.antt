@@ -5,9 +5,8 @@ use Prim.Native.Nat.{ℕ, _-_, _*_}
 use lib.ListN.{replicate}
 use lib.Ieee.{Float, nan, binary64, toBits, ofBits}
 use Rattle.model.specs.Inertia.{inertiaOf}
-use Rattle.model.specs.Factor.{Buffers, Outcome, factorOf, workLength}
+use Rattle.model.specs.Factor.{Buffers, factorOf, workLength}
 use Rattle.model.specs.Answer.{Said, refused, accepted}
-use Rattle.model.specs.declared.Mode.{Mode}
 use Rattle.model.specs.declared.Mode.the-variants.{Fail, Lift}
 use Rattle.model.specs.declared.Settings.{Settings}
 use Rattle.model.specs.declared.Report.{Report}

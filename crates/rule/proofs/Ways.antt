@@ -1,12 +1,12 @@
 -- The ways through the tests of the choice, each as the code goes it, with the root or without it, and the rows that a choice can name. Assumes nothing.
 use mathlib.Core.Path.{_≡_, refl, sym, _∙_, subst}
-use mathlib.Core.Bool.{Bool, true, false, cond}
-use Prim.Native.Nat.{ℕ, zero, suc, _+_, _-_, _*_, _<_}
+use mathlib.Core.Bool.{true, false}
+use Prim.Native.Nat.{ℕ, _+_, _-_, _*_, _<_}
 use native.Mathlib.Omega.{arith}
-use lib.Ieee.{Float, nan, inf, fin, up, down, mul, lt, le, eq, ofBits}
+use lib.Ieee.{Float, nan, inf, fin, up, down, mul, le, eq, ofBits}
 use Rattle.model.specs.Scalar.{_⊗_, _⊘_, zeroF, magnitudeOf, squareOf, maximumOf}
 use Rattle.model.specs.Root.{sqrtOf, alpha}
-use Rattle.model.specs.Matrix.{Row, Mat}
+use Rattle.model.specs.Matrix.{Mat}
 use Rattle.model.specs.Choice.{noneYet, columnGreatest, rowGreatest, chooseOf}
 use Rattle.model.specs.declared.LocalRow.{LocalRow}
 use Rattle.model.specs.declared.Greatest.{Greatest}

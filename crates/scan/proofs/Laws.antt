@@ -1,5 +1,5 @@
 -- Laws of offsets and of tests at every place. Assumes nothing.
-use Prim.Native.Nat.{ℕ, zero, suc, _+_, _-_, _*_, _<_, _≤_}
+use Prim.Native.Nat.{ℕ, zero, suc, _+_, _*_, _<_, _≤_}
 use mathlib.Core.Path.{_≡_, refl, _∙_, ap}
 use mathlib.Core.Bool.{Bool, true, false, _&&_}
 use native.Mathlib.Nat.{mul-le-mul-right, suc-mul, not-suc-le-zero, le-of-suc-le-suc}

@@ -1,11 +1,11 @@
 -- Laws of several runs of one slice: what is read of them, and a turn of the kernels, which adds one place to each run. Assumes nothing.
 use Prim.Native.Nat.{ℕ, zero, suc, _+_, _-_, _<_, _≤_}
-use mathlib.Core.Path.{_≡_, refl, sym, _∙_, ap, fun-ext}
+use mathlib.Core.Path.{_≡_, refl, sym, _∙_, ap}
 use mathlib.Core.List.{List}
 use native.Mathlib.Omega.{arith}
 use native.Mathlib.Nat.{le-antisymm}
-use borrow.Author.Tests.{lt-leb, ltb-true, ltb-false, eqb-true, ne-eqb}
-use lib.Dec.{ltb, eqb}
+use borrow.Author.Tests.{ltb-true, ltb-false, ne-eqb}
+use lib.Dec.{ltb}
 use lib.ListN.{length, getD, set, length-set}
 use lib.Ieee.{Float, nan, binary64, sub, mul}
 use Rattle.model.specs.Matrix.{Row, vec, put, withPart}

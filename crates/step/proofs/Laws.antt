@@ -1,14 +1,13 @@
 -- Laws of one step: a 1x1 and a block in the model's words, the choice's cases, what the mode makes of them, and what the answer keeps to. Assumes nothing.
 use Prim.Native.Nat.{ℕ, _+_, _<_, _≤_}
 use mathlib.Core.Path.{_≡_, refl, sym, _∙_, ap, subst}
-use mathlib.Core.Bool.{true, false}
 use native.Mathlib.Omega.{arith}
 use lib.Ieee.{Float}
 use Rattle.model.specs.Sizes.{mostRounds}
 use Rattle.model.specs.Matrix.{Mat, exchanged}
 use Rattle.model.specs.Choice.{chooseOf}
 use Rattle.model.specs.Step.{blockOf, blockIn}
-use Rattle.model.specs.Head.{settledOne, settledTwo, headOne, headTwo, keptOne, keptTwo, Tried, afterOne, afterTwo, tryBlock, tryBy, tryOf}
+use Rattle.model.specs.Head.{settledOne, settledTwo, headOne, headTwo, keptOne, keptTwo, Tried, afterOne, afterTwo, tryBy, tryOf}
 use Rattle.model.specs.declared.Mode.{Mode}
 use Rattle.model.specs.declared.Pivoting.{Pivoting}
 use Rattle.model.specs.declared.Mode.the-variants.{Fail, Lift}

@@ -1,5 +1,5 @@
 -- The cases of a step and its declared answer in the model's words. Definitions only. Assumes nothing.
-use Prim.Native.Nat.{ℕ, _+_}
+use Prim.Native.Nat.{ℕ}
 use Rattle.model.specs.Matrix.{Mat}
 use Rattle.model.specs.Head.{settledOne, Tried, refusedBy, took, afterOne, tryBlock}
 use Rattle.model.specs.declared.Elim.{Elim}

@@ -1,6 +1,6 @@
 -- `factor::refusal` meets its contract, case by case of how the run stopped. Assumes nothing.
 use mathlib.Core.Path.{sym, ap}
-use Rattle.factor.specs.Judge.{refusalOf}
+use Rattle.factor.specs.Run.{refusalOf}
 use borrow.Author.Needs.{needs}
 use Rattle.factor.proofs.refusal.Statement.{statement}
 use Rattle.factor.proofs.refusal.Tie as tie

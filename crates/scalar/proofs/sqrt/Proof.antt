@@ -1,7 +1,7 @@
 -- `scalar::sqrt` meets its contract: the special cases by the argument's bits, a normal number by its digits and its exponent's field, a subnormal by
 -- its digits moved up until there are 53. Assumes nothing.
 use mathlib.Core.Path.{_≡_, sym, ap, _∙_}
-use Prim.Native.Nat.{ℕ, _-_, _%_, _^_, _<_}
+use Prim.Native.Nat.{ℕ, _%_, _^_, _<_}
 use native.Mathlib.Omega.{arith}
 use lib.Count.{leading-le}
 use lib.Ieee.{binary64, ofBits, toBits}

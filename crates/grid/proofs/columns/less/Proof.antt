@@ -1,5 +1,5 @@
 -- `grid::columns::less` meets its contract: what the kernel makes of the lent part is made of the whole. Assumes nothing.
-use Prim.Native.Nat.{_+_, _-_, _≤_}
+use Prim.Native.Nat.{_+_, _≤_}
 use mathlib.Core.Path.{_≡_}
 use native.Mathlib.Omega.{arith}
 use borrow.Author.Needs.{needs}

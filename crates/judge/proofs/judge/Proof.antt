@@ -1,12 +1,12 @@
--- `factor::judge` meets its contract: refusal 9 leaves zeros, else the call is accepted. Assumes nothing.
+-- `judge::judge` meets its contract: refusal 9 leaves zeros, else the call is accepted. Assumes nothing.
 use Rattle.model.specs.Factor.{Buffers, Outcome}
 use Rattle.scan.proofs.Finite.{sum-known}
 use Rattle.buffers.specs.Buffers.{buffersOf}
-use Rattle.factor.specs.Judge.{outcomeOf}
-use Rattle.factor.proofs.Judged.{result-pre, judge-refused, judge-accepted}
+use Rattle.judge.specs.Judge.{outcomeOf}
+use Rattle.judge.proofs.Laws.{result-pre, judge-refused, judge-accepted}
 use borrow.Author.Needs.{needs}
-use Rattle.factor.proofs.judge.Statement.{statement}
-use Rattle.factor.proofs.judge.Tie as tie
+use Rattle.judge.proofs.judge.Statement.{statement}
+use Rattle.judge.proofs.judge.Tie as tie
 
 -- ---- the calls that a need looks back to
 

@@ -1,9 +1,9 @@
--- `factor::accept` meets its contract: marks and counts, then the working buffer zeroed. Assumes nothing.
+-- `judge::accept` meets its contract: marks and counts, then the working buffer zeroed. Assumes nothing.
 use borrow.Author.Needs.{needs}
 use Rattle.buffers.specs.Buffers.{buffersOf}
-use Rattle.factor.proofs.Outcome.{accept-is}
-use Rattle.factor.proofs.accept.Statement.{statement}
-use Rattle.factor.proofs.accept.Tie as tie
+use Rattle.judge.proofs.Laws.{accept-is}
+use Rattle.judge.proofs.accept.Statement.{statement}
+use Rattle.judge.proofs.accept.Tie as tie
 
 -- from `tally` to `marks_of`, and from there to the function's entry
 abbrev marked : tie.After-tally → tie.After-marks-of

@@ -1,0 +1,2 @@
+-- Laws of a result that is judged.
+pub mod Laws

@@ -1,0 +1,2 @@
+-- The result of a run, judged.
+pub mod Judge
