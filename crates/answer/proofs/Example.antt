@@ -14,7 +14,8 @@ use Rattle.little_endian.specs.LittleEndian.{le16, le32, le64, numbersOf}
 use Rattle.record.specs.Record.{recordAt, modeOf, settingsOf, panelOf as inputPanel, firstSound, sizesSound, secondSound, askedOf}
 use Rattle.text.specs.Text.{decimalFrom, decimalOf, hexFrom}
 use Rattle.lines.specs.Lines.{field, number, three, each, acceptedLine, orderField, orderLine, pivotLine, pivotAt, inertiaLine, entryField, markField, rowLine}
-use Rattle.answer.specs.Lines.{acceptedLines, cleared, outcomeLines, printed}
+use Rattle.lines.specs.Lines.{acceptedLines}
+use Rattle.answer.specs.Lines.{cleared, outcomeLines, printed}
 use Rattle.answer.specs.Example.{stream, lines}
 
 pub example-holds : printed stream ≡ lines

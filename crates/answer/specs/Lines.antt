@@ -1,27 +1,15 @@
 -- What the program prints for a stream of bytes. From docs/SCOPE.md, "The program node".
 -- The lines are those of crates/lines. Definitions only. Assumes nothing.
-use mathlib.Core.List.{List, _++_}
+use mathlib.Core.List.{List}
 use Prim.Native.Nat.{ℕ, _-_, _*_}
 use lib.ListN.{replicate}
 use Rattle.model.specs.Scalar.{zeroF}
-use Rattle.model.specs.Answer.{Said, refused, accepted}
 use Rattle.model.specs.Factor.{Buffers, Outcome, workLength, factorOf}
 use Rattle.model.specs.declared.Settings.{Settings}
-use Rattle.model.specs.declared.Report.{Report}
 use Rattle.record.specs.Record.{askedOf, panelOf}
 use Rattle.record.specs.declared.Asked.{Asked}
 use Rattle.record.specs.declared.Asked.the-variants.{Factor, Refused}
-use Rattle.lines.specs.Lines.{each, refusedLine, acceptedLine, inertiaLine, orderLine, pivotAt, rowLine}
-
--- the lines of an accepted call
-unfoldable pub acceptedLines : Settings → Report → Buffers → List ℕ
-acceptedLines c r x =
-    acceptedLine (r .rounds) ++ orderLine (x .order) ++ each (pivotAt (x .d) (x .sub) (x .blocks) (x .lifts) (x .amounts)) (c .ncol)
-    ++ inertiaLine (r .inertia) ++ each (rowLine (c .nrow) (c .ncol) (x .panel) (x .marks)) (c .nrow)
-
-abbrev pub saidLines : Said Report → Settings → Buffers → List ℕ
-saidLines (refused n a b) c x = refusedLine n a b
-saidLines (accepted r) c x = acceptedLines c r x
+use Rattle.lines.specs.Lines.{refusedLine, saidLines}
 
 -- buffers of the stated lengths, with zeros in them
 unfoldable pub cleared : Settings → Buffers

@@ -1,21 +1,18 @@
 // What the program prints for a stream of bytes: a factor call's outcome, or the refusal of the stream or of the call.
 // A reader may rely on `respond` alone: what it writes is `printed` of specs/Lines.antt, whatever the bytes are. It
-// asks nothing of its caller. The functions above it are a chain: put_said (the lines of an answer), run (the factor
-// call), with_buffers (its buffers), read_and_factor (its input), factored.
+// asks nothing of its caller. The functions above it are a chain: run (the factor call, and crates/lines), with_buffers
+// (its buffers), read_and_factor (its input), factored.
 ghost use Prim.Native.Nat.{_-_, _*_, _≤_};
 ghost use mathlib.Core.Path.{_≡_};
-ghost use mathlib.Core.List.{[]};
 ghost use lib.ListN.{length, take};
-ghost use Rattle.model.specs.Answer.{factoredSays};
 ghost use Rattle.model.specs.Factor.{workLength, factorOf};
 ghost use Rattle.buffers.specs.Buffers.{buffersOf};
 ghost use Rattle.record.specs.Record.{panelLength, askedOf};
 ghost use Rattle.record.specs.declared.Asked.the-variants.{Factor};
 ghost use Rattle.text.specs.Text.{Writes};
-ghost use Rattle.answer.specs.Lines.{acceptedLines, saidLines, outcomeLines, cleared, printed};
-ghost use Rattle.answer.specs.Lengths.{SizesPre, LinesPre};
-use model::Factored;
-use model::Report;
+ghost use Rattle.answer.specs.Lines.{outcomeLines, cleared, printed};
+ghost use Rattle.lines.specs.Lengths.{LinesPre};
+ghost use Rattle.answer.specs.Lengths.{SizesPre};
 use model::Settings;
 use record::Asked;
 
@@ -30,74 +27,6 @@ const WORK: usize = 3 * ROWS * (COLUMNS + 1) + COLUMNS * COLUMNS;
 
 // Room for every answer, of which the longest has fewer than 24,000 bytes (LinesPre of specs/Lengths.antt).
 pub const ROOM: usize = 32768;
-
-// The lines of an accepted call. Nothing of its working buffer is printed.
-fn put_factor(
-    c: Settings,
-    report: Report,
-    panel: &[f64],
-    d: &[f64],
-    sub: &[f64],
-    blocks: &[u8],
-    lifts: &[u8],
-    amounts: &[f64],
-    order: &[usize],
-    marks: &[u8],
-    out: &mut [u8],
-) -> usize
-    requires { ⌜ LinesPre c (length (now panel)) (length (now d)) (length (now sub)) (length (now blocks))
-        (length (now lifts)) (length (now amounts)) (length (now order)) (length (now marks)) (length (now out)) ⌝ }
-    ensures { λ r. ⌜ Writes (now (out .entry)) 0 (acceptedLines c report (buffersOf (now (panel .entry))
-        (now (d .entry)) (now (sub .entry)) (now (blocks .entry)) (now (lifts .entry)) (now (amounts .entry))
-        (now (order .entry)) (now (marks .entry)) [])) (now (out .exit)) r ⌝ }
-{
-    let accepted = lines::put_accepted(report.rounds, out, 0);
-    let ordered = lines::put_order(order, out, accepted);
-    let pivots = lines::put_pivots(d, sub, blocks, lifts, amounts, out, ordered);
-    let inertia = lines::put_inertia(report.inertia, out, pivots);
-    lines::put_rows(panel, marks, c.nrow, c.ncol, out, inertia)
-}
-
-// What a factor call answered, with what it left.
-fn put_said(
-    c: Settings,
-    answer: Factored,
-    panel: &[f64],
-    d: &[f64],
-    sub: &[f64],
-    blocks: &[u8],
-    lifts: &[u8],
-    amounts: &[f64],
-    order: &[usize],
-    marks: &[u8],
-    out: &mut [u8],
-) -> usize
-    requires { ⌜ LinesPre c (length (now panel)) (length (now d)) (length (now sub)) (length (now blocks))
-        (length (now lifts)) (length (now amounts)) (length (now order)) (length (now marks)) (length (now out)) ⌝ }
-    ensures { λ r. ⌜ Writes (now (out .entry)) 0 (saidLines (factoredSays answer) c (buffersOf (now (panel .entry))
-        (now (d .entry)) (now (sub .entry)) (now (blocks .entry)) (now (lifts .entry)) (now (amounts .entry))
-        (now (order .entry)) (now (marks .entry)) [])) (now (out .exit)) r ⌝ }
-{
-    match answer {
-        Factored::Accepted(report) => put_factor(
-            c,
-            report,
-            panel,
-            d,
-            sub,
-            blocks,
-            lifts,
-            amounts,
-            order,
-            marks,
-            out,
-        ),
-        Factored::Refused(why) => {
-            let n = refusal::numbered(why);
-            lines::put_refused(n.number, n.a, n.b, out, 0)
-        }
-    }
-}
 
 // The factor call, and what it says.
 fn run(
@@ -134,7 +63,7 @@ fn run(
         marks,
         work,
     );
-    put_said(
+    lines::put_said(
         c,
         answer,
         panel,

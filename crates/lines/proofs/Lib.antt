@@ -1,2 +1,3 @@
--- Laws of the lines.
+-- Laws of the lines, and of all lines of an answer.
 pub mod Laws
+pub mod Said

@@ -7,6 +7,10 @@ use lib.Dec.{ltb}
 use lib.ListN.{length}
 use lib.Ieee.{Float, binary64, toBits}
 use Rattle.model.specs.Matrix.{view, vec, naturals}
+use Rattle.model.specs.Answer.{Said, refused, accepted}
+use Rattle.model.specs.Factor.{Buffers}
+use Rattle.model.specs.declared.Settings.{Settings}
+use Rattle.model.specs.declared.Report.{Report}
 use Rattle.model.specs.declared.Tally.{Tally}
 use Rattle.text.specs.Text.{word, decimalOf, hexOf}
 
@@ -71,3 +75,15 @@ markField ncol marks i = cond (ltb i ncol) [] (field (naturals marks (i - ncol))
 -- its number, its columns, and a tail row's mark
 unfoldable pub rowLine : (nrow ncol : ℕ) → List Float → List ℕ → ℕ → List ℕ
 rowLine nrow ncol panel marks i = word "row" ++ field i ++ each (entryField nrow panel i) ncol ++ markField ncol marks i ++ newline
+
+-- ---- all lines of a factor call's answer
+
+-- the lines of an accepted call
+unfoldable pub acceptedLines : Settings → Report → Buffers → List ℕ
+acceptedLines c r x =
+    acceptedLine (r .rounds) ++ orderLine (x .order) ++ each (pivotAt (x .d) (x .sub) (x .blocks) (x .lifts) (x .amounts)) (c .ncol)
+    ++ inertiaLine (r .inertia) ++ each (rowLine (c .nrow) (c .ncol) (x .panel) (x .marks)) (c .nrow)
+
+abbrev pub saidLines : Said Report → Settings → Buffers → List ℕ
+saidLines (refused n a b) c x = refusedLine n a b
+saidLines (accepted r) c x = acceptedLines c r x

@@ -4,11 +4,18 @@
 // most 21 bytes in decimal and 17 in hexadecimal.
 ghost use Prim.Native.Nat.{_+_, _*_, _≤_, _<_};
 ghost use mathlib.Core.Path.{_≡_};
+ghost use mathlib.Core.List.{[]};
 ghost use lib.ListN.{length};
+ghost use Rattle.model.specs.Answer.{factoredSays};
+ghost use Rattle.buffers.specs.Buffers.{buffersOf};
 ghost use Rattle.text.specs.Text.{Writes};
 ghost use Rattle.lines.specs.Lines.{field, number, three, each, refusedLine, acceptedLine, inertiaLine};
 ghost use Rattle.lines.specs.Lines.{orderField, orderLine, pivotLine, pivotAt, entryField, markField, rowLine};
-ghost use Rattle.lines.specs.Lengths.{PivotsPre, EntriesPre, RowsPre};
+ghost use Rattle.lines.specs.Lines.{acceptedLines, saidLines};
+ghost use Rattle.lines.specs.Lengths.{PivotsPre, EntriesPre, RowsPre, LinesPre};
+use model::Factored;
+use model::Report;
+use model::Settings;
 use model::Tally;
 
 const SPACE: u8 = b' ';
@@ -248,4 +255,74 @@ pub fn put_rows(
         end = put_row(panel, marks, nrow, ncol, i, out, end);
     }
     end
+}
+
+// ---- all lines of a factor call's answer
+
+// The lines of an accepted call. Nothing of its working buffer is printed.
+fn put_factor(
+    c: Settings,
+    report: Report,
+    panel: &[f64],
+    d: &[f64],
+    sub: &[f64],
+    blocks: &[u8],
+    lifts: &[u8],
+    amounts: &[f64],
+    order: &[usize],
+    marks: &[u8],
+    out: &mut [u8],
+) -> usize
+    requires { ⌜ LinesPre c (length (now panel)) (length (now d)) (length (now sub)) (length (now blocks))
+        (length (now lifts)) (length (now amounts)) (length (now order)) (length (now marks)) (length (now out)) ⌝ }
+    ensures { λ r. ⌜ Writes (now (out .entry)) 0 (acceptedLines c report (buffersOf (now (panel .entry))
+        (now (d .entry)) (now (sub .entry)) (now (blocks .entry)) (now (lifts .entry)) (now (amounts .entry))
+        (now (order .entry)) (now (marks .entry)) [])) (now (out .exit)) r ⌝ }
+{
+    let accepted = put_accepted(report.rounds, out, 0);
+    let ordered = put_order(order, out, accepted);
+    let pivots = put_pivots(d, sub, blocks, lifts, amounts, out, ordered);
+    let inertia = put_inertia(report.inertia, out, pivots);
+    put_rows(panel, marks, c.nrow, c.ncol, out, inertia)
+}
+
+// What a factor call answered, with what it left.
+pub fn put_said(
+    c: Settings,
+    answer: Factored,
+    panel: &[f64],
+    d: &[f64],
+    sub: &[f64],
+    blocks: &[u8],
+    lifts: &[u8],
+    amounts: &[f64],
+    order: &[usize],
+    marks: &[u8],
+    out: &mut [u8],
+) -> usize
+    requires { ⌜ LinesPre c (length (now panel)) (length (now d)) (length (now sub)) (length (now blocks))
+        (length (now lifts)) (length (now amounts)) (length (now order)) (length (now marks)) (length (now out)) ⌝ }
+    ensures { λ r. ⌜ Writes (now (out .entry)) 0 (saidLines (factoredSays answer) c (buffersOf (now (panel .entry))
+        (now (d .entry)) (now (sub .entry)) (now (blocks .entry)) (now (lifts .entry)) (now (amounts .entry))
+        (now (order .entry)) (now (marks .entry)) [])) (now (out .exit)) r ⌝ }
+{
+    match answer {
+        Factored::Accepted(report) => put_factor(
+            c,
+            report,
+            panel,
+            d,
+            sub,
+            blocks,
+            lifts,
+            amounts,
+            order,
+            marks,
+            out,
+        ),
+        Factored::Refused(why) => {
+            let n = refusal::numbered(why);
+            put_refused(n.number, n.a, n.b, out, 0)
+        }
+    }
 }

@@ -1,10 +1,10 @@
--- `answer::put_factor` meets its contract: its lines one after another, each found where its call returned. Assumes nothing.
+-- `lines::put_factor` meets its contract: its lines one after another, each found where its call returned. Assumes nothing.
 use mathlib.Core.List.{[]}
 use borrow.Author.Needs.{needs}
 use Rattle.buffers.specs.Buffers.{buffersOf}
-use Rattle.answer.proofs.Calls.{factor-is}
-use Rattle.answer.proofs.put_factor.Statement.{statement}
-use Rattle.answer.proofs.put_factor.Tie as tie
+use Rattle.lines.proofs.Said.{factor-is}
+use Rattle.lines.proofs.put_factor.Statement.{statement}
+use Rattle.lines.proofs.put_factor.Tie as tie
 
 returns : tie.Need-returns
 returns c =

@@ -1,8 +1,8 @@
--- `answer::put_said` meets its contract: the lines of an accepted call, or the line of its refusal. Assumes nothing.
+-- `lines::put_said` meets its contract: the lines of an accepted call, or the line of its refusal. Assumes nothing.
 use borrow.Author.Needs.{needs}
-use Rattle.answer.proofs.Calls.{said-accepted, said-refused}
-use Rattle.answer.proofs.put_said.Statement.{statement}
-use Rattle.answer.proofs.put_said.Tie as tie
+use Rattle.lines.proofs.Said.{said-accepted, said-refused}
+use Rattle.lines.proofs.put_said.Statement.{statement}
+use Rattle.lines.proofs.put_said.Tie as tie
 
 pub put-said-spec : {M : Type 1} → statement M
 put-said-spec =
