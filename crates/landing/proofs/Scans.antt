@@ -7,22 +7,19 @@ use borrow.Author.Tests.{eq-eqb, ne-eqb, eqb-true, eqb-false, ltb-true, ltb-fals
 use lib.Dec.{ltb, eqb}
 use Rattle.model.specs.Factor.{everyFrom}
 use Rattle.model.specs.Update.{placeFrom}
-use Rattle.model.proofs.Cases.{test}
+use Rattle.model.proofs.Cases.{test, one-left}
 use Rattle.landing.specs.Rows.{firstFrom}
-
-one-more : (n k : ℕ) → k < n → n - k ≡ suc (n - (k + 1))
-one-more n k h = omega arith
 
 -- ---- f holds at each of n places: b is the test's answer at k
 
 module _ (f : ℕ → Bool) (n k : ℕ) (w : Bool) where
   pub every-step : (b : Bool) → k < n → b ≡ f k → not b ≡ false → everyFrom f (n - k) k ≡ w → everyFrom f (n - (k + 1)) (k + 1) ≡ w
   unfolding everyFrom
-  every-step b h s t e = let y : f k ≡ true = sym s ∙ not-false b t in rw (one-more n k h, y) at e
+  every-step b h s t e = let y : f k ≡ true = sym s ∙ not-false b t in rw (one-left n k h, y) at e
 
   pub every-bad : (b : Bool) → k < n → b ≡ f k → not b ≡ true → everyFrom f (n - k) k ≡ w → false ≡ w
   unfolding everyFrom
-  every-bad b h s t e = let y : f k ≡ false = sym s ∙ not-true b t in rw (one-more n k h, y) at e
+  every-bad b h s t e = let y : f k ≡ false = sym s ∙ not-true b t in rw (one-left n k h, y) at e
 
   pub every-end : n ≤ k → everyFrom f (n - k) k ≡ w → true ≡ w
   unfolding everyFrom
@@ -36,11 +33,11 @@ every-none f n = let e : n - 0 ≡ n = omega arith in rw e
 module _ (f : ℕ → Bool) (n k w : ℕ) where
   pub from-step : (b : Bool) → k < n → b ≡ f k → b ≡ false → firstFrom f (n - k) k ≡ w → firstFrom f (n - (k + 1)) (k + 1) ≡ w
   unfolding firstFrom
-  from-step b h s t e = let y : f k ≡ false = sym s ∙ t in rw (one-more n k h, y) at e
+  from-step b h s t e = let y : f k ≡ false = sym s ∙ t in rw (one-left n k h, y) at e
 
   pub from-hit : (b : Bool) → k < n → b ≡ f k → b ≡ true → firstFrom f (n - k) k ≡ w → k ≡ w
   unfolding firstFrom
-  from-hit b h s t e = let y : f k ≡ true = sym s ∙ t in rw (one-more n k h, y) at e
+  from-hit b h s t e = let y : f k ≡ true = sym s ∙ t in rw (one-left n k h, y) at e
 
   pub from-end : n ≤ k → firstFrom f (n - k) k ≡ w → k ≡ w
   unfolding firstFrom
@@ -75,11 +72,11 @@ first-is f (suc m) i =
 module _ (f : ℕ → ℕ) (g n k w : ℕ) where
   pub place-step : k < n → (f k ≡ g → ⊥) → placeFrom f g (n - k) k ≡ w → placeFrom f g (n - (k + 1)) (k + 1) ≡ w
   unfolding placeFrom
-  place-step h s e = let y : eqb (f k) g ≡ false = ne-eqb (f k) g s in rw (one-more n k h, y) at e
+  place-step h s e = let y : eqb (f k) g ≡ false = ne-eqb (f k) g s in rw (one-left n k h, y) at e
 
   pub place-hit : k < n → f k ≡ g → placeFrom f g (n - k) k ≡ w → k ≡ w
   unfolding placeFrom
-  place-hit h s e = let y : eqb (f k) g ≡ true = eq-eqb (f k) g s in rw (one-more n k h, y) at e
+  place-hit h s e = let y : eqb (f k) g ≡ true = eq-eqb (f k) g s in rw (one-left n k h, y) at e
 
   pub place-end : n ≤ k → placeFrom f g (n - k) k ≡ w → k ≡ w
   unfolding placeFrom
