@@ -18,8 +18,9 @@ ghost use Rattle.several.specs.Several.{FourRunsPre, TwoRunsPre, Columns
 // Where four runs begin, each past the one before it.
 struct FourRuns(usize, usize, usize, usize);
 
-// Four runs of n numbers, which begin where `to` says: each less the slice's first n numbers, then less the n from p
-// on, times its own multipliers, a to d in turn. The loop vectorises: no branch, no call.
+// Two runs of n numbers are read, at 0 and at p; four are written, which begin where `to` says. Number i of each run
+// written loses number i of the first run read times its first multiplier, then number i of the second times its
+// second. The multipliers of the four are a to d in turn. The loop vectorises: no branch, no call.
 fn four_less_two(
     x: &mut [f64],
     p: usize,
@@ -50,8 +51,9 @@ fn four_less_two(
     }
 }
 
-// Two runs of n numbers, from q and from y on: each less the slice's first n numbers, then less the n from p on, then
-// less the n from r on, times its own multipliers, a and b. The loop vectorises in the same way.
+// Three runs of n numbers are read, at 0, at p and at r; two are written, at q and at y. Number i of each run written
+// loses number i of the runs read, in that order, each times its own multiplier: a's are those of the run at q, b's
+// those of the run at y. The loop vectorises in the same way.
 fn two_less_three(
     x: &mut [f64],
     p: usize,
