@@ -2,12 +2,14 @@
 // answer's number, place, rounds or counts do, or the bits of a buffer. data/answers has the cases; data/LEGEND says
 // what made them, what they meet and how they are written.
 // Proved is that the program is safe and ends. What stands in a file no contract can say: the run is the test.
-// calls.rt has one function a call, but for the factor call, which is crates/factor_case; crates/recorded reads the
-// file.
+// Nothing of it is public: what one module has of another is the crate's own, pub(crate).
+// file.rt reads lists and holds buffers to them, calls.rt has one function a call, sum.rt the checksum by which a
+// damaged or short file is noticed.
 mod calls;
+mod file;
+mod sum;
 
 use libc::STDOUT_FILENO;
-use recorded::file;
 
 enum Call {
     Factor,
@@ -19,7 +21,7 @@ enum Call {
 // Whether the next case, of this call, is answered as recorded.
 fn same(fd: i32, call: Call) -> bool {
     match call {
-        Call::Factor => factor_case::factor_case(fd),
+        Call::Factor => calls::factor_case(fd),
         Call::Inertia => calls::inertia_case(fd),
         Call::Assembly => calls::assembly_case(fd),
         Call::Update => calls::update_case(fd),
@@ -66,7 +68,7 @@ fn main() {
         os::fail(path);
         return;
     }
-    if !recorded::sum::intact(path) {
+    if !sum::intact(path) {
         io::write_all(STDOUT_FILENO, b"the answers are damaged\n");
     }
     replay_all(fd);

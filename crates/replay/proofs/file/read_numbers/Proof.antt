@@ -1,11 +1,11 @@
--- `recorded::file::read_numbers` is safe and ends.
+-- `replay::file::read_numbers` is safe and ends.
 -- The invariant: the list keeps its length, and the place is at most that. The measure is what is left. Assumes nothing.
 use Prim.Native.Nat.{_-_, _≤_}
 use mathlib.Core.Path.{_≡_}
 use lib.ListN.{length}
 use borrow.Author.Needs.{needs}
-use Rattle.recorded.proofs.file.read_numbers.Statement.{statement}
-use Rattle.recorded.proofs.file.read_numbers.Tie as tie
+use Rattle.replay.proofs.file.read_numbers.Statement.{statement}
+use Rattle.replay.proofs.file.read_numbers.Tie as tie
 
 abbrev Inv-loop : tie.InvT-loop
 Inv-loop fd out₀ at₀ out at = (length out ≡ length out₀) × (at ≤ length out)

@@ -7,24 +7,24 @@ ghost use lib.ListN.{length};
 // The most numbers, global rows, counts and bytes of a chunk.
 const NUMBERS: usize = 512;
 
-pub const GLOBAL_ROWS: usize = 1024;
+pub(crate) const GLOBAL_ROWS: usize = 1024;
 
 const COUNTS: usize = 2048;
 
 const BYTES: usize = 4096;
 
 // What lent buffers hold before a call: this byte throughout, so this number and, of two bytes, this count.
-pub const HELD_BYTE: u8 = 0x42;
+pub(crate) const HELD_BYTE: u8 = 0x42;
 
-pub const HELD: f64 = 156842099844.51764;
+pub(crate) const HELD: f64 = 156842099844.51764;
 
-pub const HELD_COUNT: usize = 0x4242;
+pub(crate) const HELD_COUNT: usize = 0x4242;
 
 // A byte that the file lacks.
 const LACKING: u8 = 0xff;
 
 // What a call is to leave in a buffer: what the file has next, zeros, or what it held.
-pub enum Left {
+pub(crate) enum Left {
     Recorded,
     Zeros,
     Held,
@@ -50,17 +50,17 @@ fn chunk_of(byte: u8) -> [u8; 4096]
 
 // ---- the first n places of a room, or all that it has
 
-pub fn first_numbers<'a>(n: usize, room: &'a mut [f64]) -> &'a mut [f64] {
+pub(crate) fn first_numbers<'a>(n: usize, room: &'a mut [f64]) -> &'a mut [f64] {
     let most = least(n, room.len());
     &mut room[0..most]
 }
 
-pub fn first_counts<'a>(n: usize, room: &'a mut [usize]) -> &'a mut [usize] {
+pub(crate) fn first_counts<'a>(n: usize, room: &'a mut [usize]) -> &'a mut [usize] {
     let most = least(n, room.len());
     &mut room[0..most]
 }
 
-pub fn first_bytes<'a>(n: usize, room: &'a mut [u8]) -> &'a mut [u8] {
+pub(crate) fn first_bytes<'a>(n: usize, room: &'a mut [u8]) -> &'a mut [u8] {
     let most = least(n, room.len());
     &mut room[0..most]
 }
@@ -84,7 +84,7 @@ fn read_numbers(fd: i32, out: &mut [f64]) {
     }
 }
 
-pub fn numbers<'a>(fd: i32, n: usize, room: &'a mut [f64]) -> &'a mut [f64] {
+pub(crate) fn numbers<'a>(fd: i32, n: usize, room: &'a mut [f64]) -> &'a mut [f64] {
     let list = first_numbers(n, room);
     read_numbers(fd, list);
     list
@@ -98,7 +98,7 @@ fn counts_of(chunk: &[u8], out: &mut [usize])
     }
 }
 
-pub fn counts<'a>(fd: i32, n: usize, room: &'a mut [usize]) -> &'a mut [usize] {
+pub(crate) fn counts<'a>(fd: i32, n: usize, room: &'a mut [usize]) -> &'a mut [usize] {
     let most = least(least(n, COUNTS), room.len());
     let mut chunk = chunk_of(LACKING);
     io::read_full(fd, first_bytes(most * 2, &mut chunk));
@@ -114,7 +114,7 @@ fn global_rows_of(chunk: &[u8], out: &mut [u32])
     }
 }
 
-pub fn global_rows<'a>(fd: i32, n: usize, room: &'a mut [u32]) -> &'a mut [u32] {
+pub(crate) fn global_rows<'a>(fd: i32, n: usize, room: &'a mut [u32]) -> &'a mut [u32] {
     let most = least(least(n, GLOBAL_ROWS), room.len());
     let mut chunk = chunk_of(LACKING);
     io::read_full(fd, first_bytes(most * 4, &mut chunk));
@@ -122,7 +122,7 @@ pub fn global_rows<'a>(fd: i32, n: usize, room: &'a mut [u32]) -> &'a mut [u32] 
     &mut room[0..most]
 }
 
-pub fn bytes<'a>(fd: i32, n: usize, room: &'a mut [u8]) -> &'a mut [u8] {
+pub(crate) fn bytes<'a>(fd: i32, n: usize, room: &'a mut [u8]) -> &'a mut [u8] {
     let list = first_bytes(n, room);
     io::read_full(fd, list);
     list
@@ -171,7 +171,7 @@ fn same_counts(want: &[u8], got: &[usize]) -> bool
     true
 }
 
-pub fn same_bytes(want: &[u8], got: &[u8]) -> bool
+pub(crate) fn same_bytes(want: &[u8], got: &[u8]) -> bool
     requires { ⌜ length (now got) ≤ length (now want) ⌝ }
 {
     let n = got.len();
@@ -186,7 +186,7 @@ fn some_numbers_left(fd: i32, left: Left, got: &[f64]) -> bool
     same_numbers(&want, got)
 }
 
-pub fn numbers_left(fd: i32, left: Left, got: &[f64]) -> bool {
+pub(crate) fn numbers_left(fd: i32, left: Left, got: &[f64]) -> bool {
     let mut same = true;
     let mut at = 0;
     while at < got.len() {
@@ -197,7 +197,7 @@ pub fn numbers_left(fd: i32, left: Left, got: &[f64]) -> bool {
     same
 }
 
-pub fn counts_left(fd: i32, left: Left, got: &[usize]) -> bool {
+pub(crate) fn counts_left(fd: i32, left: Left, got: &[usize]) -> bool {
     if got.len() > COUNTS {
         return false;
     }
@@ -206,7 +206,7 @@ pub fn counts_left(fd: i32, left: Left, got: &[usize]) -> bool {
     same_counts(&want, got)
 }
 
-pub fn bytes_left(fd: i32, left: Left, got: &[u8]) -> bool {
+pub(crate) fn bytes_left(fd: i32, left: Left, got: &[u8]) -> bool {
     if got.len() > BYTES {
         return false;
     }

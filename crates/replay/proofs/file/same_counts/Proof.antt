@@ -1,11 +1,11 @@
--- `recorded::file::same_counts` is safe and ends.
+-- `replay::file::same_counts` is safe and ends.
 -- The invariant: the loop stays within the list. The measure is what is left of it. Assumes nothing.
 use Prim.Native.Nat.{_-_, _≤_}
 use mathlib.Core.Path.{_≡_}
 use lib.ListN.{length}
 use borrow.Author.Needs.{needs}
-use Rattle.recorded.proofs.file.same_counts.Statement.{statement}
-use Rattle.recorded.proofs.file.same_counts.Tie as tie
+use Rattle.replay.proofs.file.same_counts.Statement.{statement}
+use Rattle.replay.proofs.file.same_counts.Tie as tie
 
 abbrev Inv-loop : tie.InvT-loop
 Inv-loop want got i₀ i-end i = (i ≤ i-end) × (i-end ≡ length got)

@@ -1,8 +1,8 @@
--- `recorded::sum::sum_rest` is safe and ends.
+-- `replay::sum::sum_rest` is safe and ends.
 -- Nothing has to hold from turn to turn. The measure is the number of turns left. Assumes nothing.
 use borrow.Author.Needs.{needs}
-use Rattle.recorded.proofs.sum.sum_rest.Statement.{statement}
-use Rattle.recorded.proofs.sum.sum_rest.Tie as tie
+use Rattle.replay.proofs.sum.sum_rest.Statement.{statement}
+use Rattle.replay.proofs.sum.sum_rest.Tie as tie
 
 abbrev Inv-loop : tie.InvT-loop
 Inv-loop fd sums₀ turns₀ sums turns = Unit {0}

@@ -1,10 +1,10 @@
--- `recorded::file::numbers_left` is safe and ends.
+-- `replay::file::numbers_left` is safe and ends.
 -- The invariant: the place is at most the length. The measure is what is left. Assumes nothing.
 use Prim.Native.Nat.{_-_, _≤_}
 use lib.ListN.{length}
 use borrow.Author.Needs.{needs}
-use Rattle.recorded.proofs.file.numbers_left.Statement.{statement}
-use Rattle.recorded.proofs.file.numbers_left.Tie as tie
+use Rattle.replay.proofs.file.numbers_left.Statement.{statement}
+use Rattle.replay.proofs.file.numbers_left.Tie as tie
 
 abbrev Inv-loop : tie.InvT-loop
 Inv-loop fd left got same₀ at₀ same at = (at ≤ length got)

@@ -56,7 +56,7 @@ fn sum_rest(fd: i32) -> u64 {
     0
 }
 
-pub fn intact(path: &[u8]) -> bool {
+pub(crate) fn intact(path: &[u8]) -> bool {
     let fd = os::open_read(path);
     let mut head = [0u8; 12];
     file::bytes(fd, 12, &mut head);
