@@ -12,11 +12,11 @@ use borrow.Rule.Slice.PartMut.{midOf, putMid}
 use lib.Ieee.{Float, nan, eq, ne}
 use Rattle.model.specs.Scalar.{zeroF}
 use Rattle.model.specs.Matrix.{Row, Mat, columnStart, view, vec, withColumn, withPart}
-use Rattle.kernels.specs.Rules.{behind, ahead, lessAll, lessRuns, plusTimes, times, combined, MoreAheadPre}
+use Rattle.kernels.specs.Rules.{behind, ahead, lessAll, lessRuns, times, combined, MoreAheadPre}
 use Rattle.kernels.proofs.Laws.{vec-put, vec-part}
 use Rattle.model.proofs.Cases.{test, cmp, no}
 use Rattle.kernels.proofs.Rules.{all-same}
-use Rattle.kernels.proofs.Parts.{part, back, mid-count, back-at, part-lent, part-bounds, run-back, runs-back, runs-same}
+use Rattle.kernels.proofs.Parts.{part, back, mid-count, back-at, part-bounds, run-back, runs-back, runs-same}
 use Rattle.grid.specs.Rules.{columnOf, lessTimes, lessTimesIf, LaterPre, RowsPre}
 
 -- ---- any rule
@@ -71,14 +71,6 @@ column-lent n xs ys j s lo hi f N′ N at room u h ly e same =
     (λ a l g. ap (λ (x : ℕ). vec ys x) {x = a + s - (lo + s)} {y = a - lo} (omega arith) ∙ back-at ys f N′ N lo hi a l g e same)
 
 -- ---- the functions that lend
-
-pub plus-lent : (n : ℕ) (xs ys zs : List Float) (j s lo hi : ℕ) (m : Float) → s ≡ columnStart n j → lo ≤ hi → hi ≤ n → hi ≤ length xs
-    → length ys ≡ length (part xs lo hi)
-    → vec ys ≡ withPart (vec (part xs lo hi)) 0 (hi - lo) (plusTimes (vec (part xs lo hi)) (vec (columnPart zs s lo hi)) m)
-    → vec (back xs lo hi ys) ≡ withPart (vec xs) lo hi (plusTimes (vec xs) (columnOf (view n zs) j) m)
-unfolding plusTimes columnOf
-plus-lent n xs ys zs j s lo hi m at u h g ly e =
-    part-lent xs ys lo hi _ _ _ u g ly e (λ t l. rw (vec-part lo hi xs t l, column-at n zs j s lo hi t at h l))
 
 pub scale-lent : (n : ℕ) (xs ys : List Float) (j s lo hi : ℕ) (r : Float) → s ≡ columnStart n j → hi + j * n ≤ length xs → lo ≤ hi → hi ≤ n
     → length ys ≡ length (columnPart xs s lo hi)

@@ -39,13 +39,7 @@ pub record PartPre (lo hi len : ℕ) : Type 0 where
   pub up : lo ≤ hi
   pub places : hi ≤ len
 
--- ---- what the functions over a column of n rows ask: column j is there, lo up to hi are rows of it and places of the vectors
-
-pub record ColumnPre (n j lo hi len slen : ℕ) : Type 0 where
-  pub col : n + j * n ≤ len
-  pub up : lo ≤ hi
-  pub rows : hi ≤ n
-  pub places : hi ≤ slen
+-- ---- what the functions over a column of n rows ask: lo up to hi are rows of it
 
 -- columns k and, past it, j, each there as far as row hi: of a part of a panel that ends within a column, no more than that is asked
 pub record LaterPre (n k j lo hi len : ℕ) : Type 0 where

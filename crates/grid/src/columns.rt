@@ -1,6 +1,5 @@
-// Rows lo up to hi of columns of a column-major panel, lent to a kernel as a part of the panel. A vector that goes with
-// them holds number i for row i. A reader may rely on the contracts: nothing else of the panel or of the vector
-// changes.
+// Rows lo up to hi of columns of a column-major panel, lent to a kernel as a part of the panel; and a part of a vector.
+// A reader may rely on the contracts: nothing else of the panel or of the vector changes.
 use super::column_start;
 use kernels::FourMultipliers;
 use kernels::ThreeMultipliers;
@@ -11,9 +10,9 @@ ghost use lib.ListN.{length};
 ghost use mir.Syntax.{w64};
 ghost use mir.Val.{Fits};
 ghost use Rattle.model.specs.Matrix.{view, vec, withColumn, withPart};
-ghost use Rattle.kernels.specs.Rules.{zeroed, plusTimes, times, combined};
+ghost use Rattle.kernels.specs.Rules.{zeroed, times, combined};
 ghost use Rattle.grid.specs.Rules.{columnOf, lessTimes, lessTimesIf, lessTwo, lessThree, lessFour};
-ghost use Rattle.grid.specs.Rules.{columnsExchanged, PartPre, ColumnPre, LaterPre, RowsPre, ExchangePre};
+ghost use Rattle.grid.specs.Rules.{columnsExchanged, PartPre, LaterPre, RowsPre, ExchangePre};
 
 // Numbers lo up to hi of x become +0.0.
 pub fn zero(x: &mut [f64], lo: usize, hi: usize)
@@ -21,19 +20,6 @@ pub fn zero(x: &mut [f64], lo: usize, hi: usize)
     ensures { λ _. ⌜ vec (now (x .exit)) ≡ withPart (vec (now (x .entry))) lo hi zeroed ⌝ }
 {
     kernels::zero(&mut x[lo..hi]);
-}
-
-// Numbers lo up to hi of x gain those rows of column j times l.
-pub fn plus(x: &mut [f64], panel: &[f64], nrow: usize, j: usize, lo: usize, hi: usize, l: f64)
-    requires { ⌜ ColumnPre nrow j lo hi (length (now panel)) (length (now x)) ⌝ }
-    ensures { λ _. ⌜ vec (now (x .exit))
-        ≡ withPart (vec (now (x .entry))) lo hi
-        (plusTimes (vec (now (x .entry))) (columnOf (view nrow (now (panel .entry))) j) l) ⌝ }
-{
-    let start = column_start(nrow, j);
-    let a = lo + start;
-    let b = hi + start;
-    kernels::plus(&mut x[lo..hi], &panel[a..b], hi - lo, l);
 }
 
 // Rows lo up to hi of column j become r times as large.
