@@ -3,7 +3,7 @@
 use Prim.Native.Nat.{ℕ, _+_, _-_, _*_, _<_, _≤_}
 use mathlib.Core.Path.{_≡_}
 use Rattle.model.specs.Matrix.{Row, Mat}
-use Rattle.model.specs.Step.{Diagonals, firstOf, rowStepped}
+use Rattle.model.specs.Step.{Diagonals, firstOf, pastOf, rowStepped}
 use Rattle.model.specs.Kept.{Starts, Ahead, Recorded}
 
 -- what f makes of a row, its columns counted from k on
@@ -41,6 +41,20 @@ pub record HerePre (ke : ℕ) (blocks partners : ℕ → ℕ) (k : ℕ) : Type 0
   pub partner : partners k < ke
   pub first : firstOf blocks partners k < ke
   pub ahead : Ahead blocks partners k
+
+-- a step begins at k, among the columns from kb to ke
+pub record BeginsPre (kb ke : ℕ) (blocks : ℕ → ℕ) (k : ℕ) : Type 0 where
+  pub from : kb ≤ k
+  pub inside : k < ke
+  pub starts : Starts blocks k
+
+-- the steps at k and, right after it, at l, which makes no exchange before its own
+pub record BothPre (ke : ℕ) (blocks partners : ℕ → ℕ) (k l : ℕ) : Type 0 where
+  pub first : HerePre ke blocks partners k
+  pub second : HerePre ke blocks partners l
+  pub next : l ≡ pastOf blocks k
+  pub inside : l < ke
+  pub stays : firstOf blocks partners l ≡ l
 
 -- what is lent to the steps from k on: the rows from ke down of the panel's columns
 pub record LentPre (nrow ke k len : ℕ) : Type 0 where

@@ -20,12 +20,12 @@ ghost use lib.ListN.{length};
 ghost use mir.Syntax.{w64};
 ghost use mir.Val.{Fits};
 ghost use Rattle.model.specs.Matrix.{columnStart, view, naturals};
-ghost use Rattle.model.specs.Step.{diagonalsOf, pastOf, firstOf, arrived, rowStepped, rowAfterSteps};
+ghost use Rattle.model.specs.Step.{diagonalsOf, firstOf, arrived, rowStepped, rowAfterSteps};
 ghost use Rattle.model.specs.Kept.{Starts};
 ghost use Rattle.whole.specs.Whole.{below};
 ghost use Rattle.eliminate.specs.Eliminate.{inPanel};
 ghost use Rattle.tail.specs.Tail.{fromColumn, rowSteppedTwice};
-ghost use Rattle.tail.specs.Tail.{TailPre, StepsPre, HerePre, LentPre, ReadPre};
+ghost use Rattle.tail.specs.Tail.{TailPre, StepsPre, HerePre, BeginsPre, BothPre, LentPre, ReadPre};
 
 // A partner, as it is listed.
 fn listed_row(partner: u16) -> LocalRow
@@ -144,10 +144,7 @@ fn tail_pair(
     requires { ⌜ LentPre (at .nrow) (at .ke) (k .0) (length (now part)) ⌝ }
     requires { ⌜ ReadPre (at .nb) (at .kb) (at .ke) (k .0) (length (now mult)) (length (now d)) (length (now sub))
         (length (now blocks)) (length (now partners)) ⌝ }
-    requires { ⌜ HerePre (at .ke) (naturals (now blocks)) (naturals (now partners)) (k .0) ⌝ }
-    requires { ⌜ HerePre (at .ke) (naturals (now blocks)) (naturals (now partners)) (l .0) ⌝ }
-    requires { ⌜ (l .0 ≡ pastOf (naturals (now blocks)) (k .0)) × (l .0 < at .ke) ⌝ }
-    requires { ⌜ firstOf (naturals (now blocks)) (naturals (now partners)) (l .0) ≡ l .0 ⌝ }
+    requires { ⌜ BothPre (at .ke) (naturals (now blocks)) (naturals (now partners)) (k .0) (l .0) ⌝ }
     ensures { λ _. ⌜ view (at .nrow) (now (part .exit))
         ≡ below 0 (at .nrow - at .ke) (fromColumn (k .0) (rowSteppedTwice
         (diagonalsOf (now (d .entry)) (now (sub .entry)) (now (blocks .entry))) (naturals (now (partners .entry)))
@@ -199,7 +196,7 @@ fn one_or_two_steps(
     requires { ⌜ TailPre (at .nrow) (at .ncol) (at .nb) (at .kb) (at .ke) (length (now panel)) (length (now mult))
         (length (now d)) (length (now sub)) (length (now blocks)) (length (now partners)) ⌝ }
     requires { ⌜ StepsPre (at .kb) (at .ke) (naturals (now blocks)) (naturals (now partners)) ⌝ }
-    requires { ⌜ (at .kb ≤ k .0) × ((k .0 < at .ke) × Starts (naturals (now blocks)) (k .0)) ⌝ }
+    requires { ⌜ BeginsPre (at .kb) (at .ke) (naturals (now blocks)) (k .0) ⌝ }
     ensures { λ r. ⌜ below (at .ke) (at .nrow) (rowAfterSteps
         (diagonalsOf (now (d .entry)) (now (sub .entry)) (now (blocks .entry))) (naturals (now (partners .entry)))
         (inPanel (at .kb) (at .ke) (view (at .nb) (now (mult .entry)))) (at .ke) (at .ke - r) r)

@@ -60,7 +60,7 @@ loop-again c =
     let stepped : tie.After-step Inv-loop μ-loop = search in
     let inside = stepped .before .before .before in
     let inv = inside .before .loop .inv in
-    let note = noted .note in
+    let (d, (sub, (blocks, (partners, (lifts, (amounts, (order, rest))))))) = noted .note .kept in
     let step = stepped .step in
     let told = took .taken .given .1 in
     let e = last .last-column .ensures in (
@@ -70,14 +70,14 @@ loop-again c =
       next-few _ _ _ _ _ _ (step .ensures .1) told e (inv .3),
       step .kept .0 ∙ inv .4,
       step .kept .1 .0 ∙ inv .5,
-      note .kept .0 ∙ inv .6,
-      note .kept .1 .0 ∙ inv .7,
-      note .kept .1 .1 .0 ∙ inv .8,
-      note .kept .1 .1 .1 .0 ∙ inv .9,
-      note .kept .1 .1 .1 .1 .0 ∙ inv .10,
-      note .kept .1 .1 .1 .1 .1 .0 ∙ inv .11,
-      note .kept .1 .1 .1 .1 .1 .1 .0 ∙ inv .12,
-      panel-step _ _ _ _ _ _ _ _ _ _ _ (inv .13) (inside .loop-test .taken) (step .ensures .0) told e (note .ensures),
+      d ∙ inv .6,
+      sub ∙ inv .7,
+      blocks ∙ inv .8,
+      partners ∙ inv .9,
+      lifts ∙ inv .10,
+      amounts ∙ inv .11,
+      order ∙ inv .12,
+      panel-step _ _ _ _ _ _ _ _ _ _ _ (inv .13) (inside .loop-test .taken) (step .ensures .0) told e (noted .note .ensures),
     )
 
 returns-2 : tie.Need-returns-2 Inv-loop μ-loop
@@ -85,7 +85,8 @@ returns-2 c =
     let head = c .before in
     let inv = head .loop .inv in
     let start = entered head in
-    (search panel-end, notes-end _ _ _ _ _ _ _ (start .pre .1 .1 .1) (start .pre .0 .here) (inv .13) (c .loop-test .left) (inv .2) (inv .3))
+    let (sizes, (holds, (limit, noted))) = start .pre in
+    (search panel-end, notes-end _ _ _ _ _ _ _ noted (sizes .here) (inv .13) (c .loop-test .left) (inv .2) (inv .3))
 
 pub ll-bk-panel-step-spec : {M : Type 1} → statement M
 ll-bk-panel-step-spec =

@@ -1,6 +1,7 @@
 -- `factor::eliminate` meets its contract: the buffers as they begin are the start of the run, and the panels are its rest. Assumes nothing.
 use mathlib.Core.Path.{refl, _∙_}
-use Prim.Native.Nat.{min, max}
+use Prim.Native.Nat.{ℕ, min, max}
+use mathlib.Core.List.{List}
 use lib.ListN.{length}
 use borrow.Author.Needs.{needs}
 use Rattle.model.specs.Matrix.{view}
@@ -39,13 +40,20 @@ lent c =
     buffersOf (a .panel .now) (a .d .now) (a .sub .now) (a .blocks .now) (a .lifts .now) (a .amounts .now) (a .order .now)
     (a .marks .now) (a .work .now)
 
+-- the block bytes as they begin
+abbrev blocks-begun : tie.After-begin → List ℕ
+blocks-begun b = let (input, (panel, (d, (sub, (blocks, rest))))) = b .begin .last in blocks
+
 -- the run that the panels make, of what they leave
 abbrev made : tie.After-panels → WholeRun
 made p =
-    let l = p .panels .last in
-    runOf (p .panels .result) (between (entry (begun (sized p) .before) .args .c .nrow) (l .0)
-    (pivotsOf (l .1 .1 .0) (l .1 .1 .1 .0) (l .1 .1 .1 .1 .0) (l .1 .1 .1 .1 .1 .0) (l .1 .1 .1 .1 .1 .1 .0) (l .1 .1 .1 .1 .1 .1 .1 .0)
-    (l .1 .1 .1 .1 .1 .1 .1 .1 .0)))
+    let (panel, (work, (d, (sub, (blocks, (partners, (lifts, (amounts, (order, rest))))))))) = p .panels .last in
+    runOf (p .panels .result)
+    (between (entry (begun (sized p) .before) .args .c .nrow) panel (pivotsOf d sub blocks partners lifts amounts order))
+
+-- the partners of its exchanges
+abbrev partners-left : tie.After-panels → List ℕ
+partners-left p = let (panel, (work, (d, (sub, (blocks, (partners, rest)))))) = p .panels .last in partners
 
 -- ---- the needs
 
@@ -56,14 +64,13 @@ panels-requires : tie.Need-panels-requires
 panels-requires c κs =
     let w : tie.After-width = search in
     let b = begun w in
-    let kept = b .begin .kept in
+    let (input, (panel, (d, (sub, (blocks, (lifts, (amounts, (order, rest)))))))) = b .begin .kept in
     let e = entry (b .before) in
     let a = e .args in (
-      run-pre (a .c) (a .input .now) (lent e) _ _ _ (e .pre) (w .width .ensures) (kept .1 .0) refl,
+      run-pre (a .c) (a .input .now) (lent e) _ _ _ (e .pre) (w .width .ensures) panel refl,
       (
-        holds-pre (a .c) (a .input .now) (lent e) _ _ _ _ _ _ _ (e .pre) (kept .1 .1 .0) (kept .1 .1 .1 .0) (kept .1 .1 .1 .1 .0) refl
-            (kept .1 .1 .1 .1 .1 .0) (kept .1 .1 .1 .1 .1 .1 .0) (kept .1 .1 .1 .1 .1 .1 .1 .0),
-        noted-none (length (b .begin .last .1 .1 .1 .1 .0)) _ _ (b .begin .ensures .blocks) refl,
+        holds-pre (a .c) (a .input .now) (lent e) _ _ _ _ _ _ _ (e .pre) d sub blocks refl lifts amounts order,
+        noted-none (length (blocks-begun b)) _ _ (b .begin .ensures .blocks) refl,
       ),
     )
 
@@ -74,18 +81,16 @@ returns : tie.Need-returns
 returns c =
     let p = called c in
     let b = begun (sized p) in
-    let l = b .begin .last in
-    let kept = b .begin .kept in
+    let (input, (panel, (d, (sub, (blocks, (lifts, (amounts, (order, rest)))))))) = b .begin .last in
+    let (i, (as-panel, (as-d, (as-sub, (as-blocks, (as-lifts, (as-amounts, more))))))) = b .begin .kept in
     let e = entry (b .before) in
     let a = e .args in
     let s = a .c in
     record {
-      partners = p .panels .last .1 .1 .1 .1 .1 .0;
+      partners = partners-left p;
       run = run-is (pivotingOf s) (s .nrow) (s .ncol) (sized p .width .result) (min (s .nb) (max (s .ncol) 1)) (made p) _
           (start (s .ncol) (view (s .nrow) (a .input .now))) (sized p .width .ensures)
-          (start-is s (a .input .now) (lent e) (l .1 .0) (l .1 .1 .0) (l .1 .1 .1 .0) (l .1 .1 .1 .1 .1 .1 .0) (l .1 .1 .1 .1 .0)
-          (l .1 .1 .1 .1 .1 .0) (l .1 .1 .1 .1 .1 .1 .1 .0) _ (e .pre) (b .begin .ensures) (kept .1 .1 .0) (kept .1 .1 .1 .0)
-          (kept .1 .1 .1 .1 .1 .1 .0) refl)
+          (start-is s (a .input .now) (lent e) panel d sub amounts blocks lifts order _ (e .pre) (b .begin .ensures) as-d as-sub as-amounts refl)
           (p .panels .ensures);
     }
 

@@ -46,54 +46,51 @@ lent c =
 -- after `eliminate`
 abbrev left : tie.After-eliminate → Buffers
 left c =
-    let l = c .eliminate .last in
-    buffersOf (l .1 .1 .0) (l .1 .1 .1 .0) (l .1 .1 .1 .1 .0) (l .1 .1 .1 .1 .1 .0) (l .1 .1 .1 .1 .1 .1 .0) (l .1 .1 .1 .1 .1 .1 .1 .0)
-    (l .1 .1 .1 .1 .1 .1 .1 .1 .0) (entry c .args .marks .now) (l .1 .1 .1 .1 .1 .1 .1 .1 .1 .1 .0)
+    let (panel, (d, (sub, (blocks, (lifts, (amounts, (order, (marks, (work, rest))))))))) = c .eliminate .last .1 .1 in
+    buffersOf panel d sub blocks lifts amounts order (entry c .args .marks .now) work
 
 -- after `zero_all`
 abbrev cleared : tie.After-zero-all → Buffers
 cleared c =
-    let l = c .zero-all .last in
-    buffersOf (l .0) (l .1 .0) (l .1 .1 .0) (l .1 .1 .1 .0) (l .1 .1 .1 .1 .0) (l .1 .1 .1 .1 .1 .0) (l .1 .1 .1 .1 .1 .1 .0)
-    (l .1 .1 .1 .1 .1 .1 .1 .0) (l .1 .1 .1 .1 .1 .1 .1 .1 .0)
+    let (panel, (d, (sub, (blocks, (lifts, (amounts, (order, (marks, (work, rest))))))))) = c .zero-all .last in
+    buffersOf panel d sub blocks lifts amounts order marks work
 
 -- the elimination keeps every length
 same-lengths : (c : tie.After-eliminate) → SameLengths (left c) (lent (entry c))
 same-lengths c =
-    let kept = c .eliminate .kept in
+    let (panel, (d, (sub, (blocks, (lifts, (amounts, (order, (marks, (work, rest))))))))) = c .eliminate .kept .1 .1 in
     record {
-      panel = kept .1 .1 .0;
-      d = kept .1 .1 .1 .0;
-      sub = kept .1 .1 .1 .1 .0;
-      blocks = kept .1 .1 .1 .1 .1 .0;
-      lifts = kept .1 .1 .1 .1 .1 .1 .0;
-      amounts = kept .1 .1 .1 .1 .1 .1 .1 .0;
-      order = kept .1 .1 .1 .1 .1 .1 .1 .1 .0;
+      panel = panel;
+      d = d;
+      sub = sub;
+      blocks = blocks;
+      lifts = lifts;
+      amounts = amounts;
+      order = order;
       marks = refl;
-      work = kept .1 .1 .1 .1 .1 .1 .1 .1 .1 .1 .0;
+      work = work;
     }
 
 -- after `judge`
 abbrev settled : tie.After-judge → Buffers
 settled c =
-    let l = c .judge .last .1 .1 in
-    buffersOf (l .0) (l .1 .0) (l .1 .1 .0) (l .1 .1 .1 .0) (l .1 .1 .1 .1 .0) (l .1 .1 .1 .1 .1 .0) (l .1 .1 .1 .1 .1 .1 .0)
-    (l .1 .1 .1 .1 .1 .1 .1 .0) (l .1 .1 .1 .1 .1 .1 .1 .1 .0)
+    let (panel, (d, (sub, (blocks, (lifts, (amounts, (order, (marks, (work, rest))))))))) = c .judge .last .1 .1 in
+    buffersOf panel d sub blocks lifts amounts order marks work
 
 -- and so does the judgement
 judge-lengths : (c : tie.After-judge) → SameLengths (settled c) (left (ended (ran (c .before))))
 judge-lengths c =
-    let kept = c .judge .kept .1 .1 in
+    let (panel, (d, (sub, (blocks, (lifts, (amounts, (order, (marks, (work, rest))))))))) = c .judge .kept .1 .1 in
     record {
-      panel = kept .0;
-      d = kept .1 .0;
-      sub = kept .1 .1 .0;
-      blocks = kept .1 .1 .1 .0;
-      lifts = kept .1 .1 .1 .1 .0;
-      amounts = kept .1 .1 .1 .1 .1 .0;
-      order = kept .1 .1 .1 .1 .1 .1 .0;
-      marks = kept .1 .1 .1 .1 .1 .1 .1 .0;
-      work = kept .1 .1 .1 .1 .1 .1 .1 .1 .0;
+      panel = panel;
+      d = d;
+      sub = sub;
+      blocks = blocks;
+      lifts = lifts;
+      amounts = amounts;
+      order = order;
+      marks = marks;
+      work = work;
     }
 
 -- ---- the needs

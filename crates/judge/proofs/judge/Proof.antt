@@ -40,17 +40,16 @@ lent c =
 -- after `zero_all`
 abbrev cleared : tie.After-zero-all → Buffers
 cleared z =
-    let l = z .zero-all .last in
-    buffersOf (l .0) (l .1 .0) (l .1 .1 .0) (l .1 .1 .1 .0) (l .1 .1 .1 .1 .0) (l .1 .1 .1 .1 .1 .0) (l .1 .1 .1 .1 .1 .1 .0)
-    (l .1 .1 .1 .1 .1 .1 .1 .0) (l .1 .1 .1 .1 .1 .1 .1 .1 .0)
+    let (panel, (d, (sub, (blocks, (lifts, (amounts, (order, (marks, (work, rest))))))))) = z .zero-all .last in
+    buffersOf panel d sub blocks lifts amounts order marks work
 
 -- after `accept`, with its answer
 abbrev outcome : tie.After-accept → Outcome
 outcome c =
     let a = entry (clean c .before .before .before) .args in
-    let l = c .accept .last in
+    let (s, (rounds, (finite, (panel, (d, (sub, (blocks, (lifts, (amounts, (order, (marks, (work, rest)))))))))))) = c .accept .last in
     outcomeOf (c .accept .result) (buffersOf (a .panel .now) (a .d .now) (a .sub .now) (a .blocks .now) (a .lifts .now) (a .amounts .now)
-    (a .order .now) (l .1 .1 .1 .1 .1 .1 .1 .1 .1 .1 .0) (l .1 .1 .1 .1 .1 .1 .1 .1 .1 .1 .1 .0))
+    (a .order .now) marks work)
 
 -- ---- the needs
 

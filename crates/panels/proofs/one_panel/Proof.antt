@@ -49,19 +49,18 @@ first c = stepped (went (lowered (updated c)))
 
 -- after `steps`: the working buffer, the record of pivots, its block bytes and partners
 abbrev work-left : tie.After-steps → List Float
-work-left s = s .steps .last .1 .0
+work-left s = let (panel, (work, rest)) = s .steps .last in work
 
 abbrev blocks-left : tie.After-steps → List ℕ
-blocks-left s = s .steps .last .1 .1 .1 .1 .0
+blocks-left s = let (panel, (work, (d, (sub, (blocks, rest))))) = s .steps .last in blocks
 
 abbrev partners-left : tie.After-steps → List ℕ
-partners-left s = s .steps .last .1 .1 .1 .1 .1 .0
+partners-left s = let (panel, (work, (d, (sub, (blocks, (partners, rest)))))) = s .steps .last in partners
 
 abbrev pivots-left : tie.After-steps → Pivots
 pivots-left s =
-    let l = s .steps .last in
-    pivotsOf (l .1 .1 .0) (l .1 .1 .1 .0) (blocks-left s) (partners-left s) (l .1 .1 .1 .1 .1 .1 .0) (l .1 .1 .1 .1 .1 .1 .1 .0)
-    (l .1 .1 .1 .1 .1 .1 .1 .1 .0)
+    let (panel, (work, (d, (sub, (blocks, (partners, (lifts, (amounts, (order, rest))))))))) = s .steps .last in
+    pivotsOf d sub blocks partners lifts amounts order
 
 -- the multipliers that the steps kept
 abbrev kept-part : tie.After-steps → List Float
@@ -93,11 +92,11 @@ shown s = between (entry s .args .at .nrow) (s .steps .last .0) (pivots-left s)
 sizes : (s : tie.After-steps) (len : ℕ) → len ≡ length (entry s .args .panel .now) → TurnPre (entry s .args .at) len (length (work-left s))
 sizes s len e = sizes-kept _ _ _ _ _ (entry s .pre .0) e (s .steps .kept .1 .0)
 
-diagonals : (s : tie.After-steps) → DiagonalsHold (entry s .args .at .ncol) (length (s .steps .last .1 .1 .0)) (length (s .steps .last .1 .1 .1 .0))
-    (length (blocks-left s)) (length (partners-left s))
+diagonals : (s : tie.After-steps) → let (panel, (work, (d, (sub, rest)))) = s .steps .last in
+    DiagonalsHold (entry s .args .at .ncol) (length d) (length sub) (length (blocks-left s)) (length (partners-left s))
 diagonals s =
-    let kept = s .steps .kept in
-    diagonals-kept _ _ _ _ _ _ _ _ _ (entry s .pre .1 .0 .diagonals) (kept .1 .1 .0) (kept .1 .1 .1 .0) (kept .1 .1 .1 .1 .0) (kept .1 .1 .1 .1 .1 .0)
+    let (panel, (work, (d, (sub, (blocks, (partners, rest)))))) = s .steps .kept in
+    diagonals-kept _ _ _ _ _ _ _ _ _ (entry s .pre .1 .0 .diagonals) d sub blocks partners
 
 noted : (g : tie.After-ran) → StepsPre (entry (stepped g) .args .at .kb) (entry (stepped g) .args .at .ke) (naturals (blocks-left (stepped g)))
     (naturals (partners-left (stepped g)))
@@ -167,7 +166,7 @@ one-panel-spec =
     later-columns-requires
     same-length-10
     same-length-11
-    (λ c. first c .steps .kept .1 .1 .0)
-    (λ c. first c .steps .kept .1 .1 .1 .0)
+    (λ c. let (panel, (work, (d, rest))) = first c .steps .kept in d)
+    (λ c. let (panel, (work, (d, (sub, rest)))) = first c .steps .kept in sub)
     (λ c. search needs) (λ c. search needs) (λ c. search needs) (λ c. search needs) (λ c. search needs)
     returns-2)

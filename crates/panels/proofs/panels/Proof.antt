@@ -80,17 +80,15 @@ held c =
 -- after `one_panel`, by the rounds
 abbrev left : tie.After-one-panel Inv-loop μ-loop → ℕ → State
 left c =
-    let l = c .one-panel .last in
-    between (entry (looped (bounded c)) .args .c .nrow) (l .0)
-    (pivotsOf (l .1 .1 .0) (l .1 .1 .1 .0) (l .1 .1 .1 .1 .0) (l .1 .1 .1 .1 .1 .0) (l .1 .1 .1 .1 .1 .1 .0) (l .1 .1 .1 .1 .1 .1 .1 .0)
-    (l .1 .1 .1 .1 .1 .1 .1 .1 .0))
+    let (panel, (work, (d, (sub, (blocks, (partners, (lifts, (amounts, (order, rest))))))))) = c .one-panel .last in
+    between (entry (looped (bounded c)) .args .c .nrow) panel (pivotsOf d sub blocks partners lifts amounts order)
 
 -- its block bytes and exchange partners
 abbrev blocks-left : tie.After-one-panel Inv-loop μ-loop → ℕ → ℕ
-blocks-left c = naturals (c .one-panel .last .1 .1 .1 .1 .0)
+blocks-left c = let (panel, (work, (d, (sub, (blocks, rest))))) = c .one-panel .last in naturals blocks
 
 abbrev partners-left : tie.After-one-panel Inv-loop μ-loop → ℕ → ℕ
-partners-left c = naturals (c .one-panel .last .1 .1 .1 .1 .1 .0)
+partners-left c = let (panel, (work, (d, (sub, (blocks, (partners, rest)))))) = c .one-panel .last in naturals partners
 
 -- ---- the needs
 
@@ -149,18 +147,18 @@ loop-again c =
     let start = entry (looped p) in
     let a = start .args in
     let inv = l .inv in
-    let kept = t .one-panel .kept in
+    let (panel, (work, (d, (sub, (blocks, (partners, (lifts, (amounts, (order, rest))))))))) = t .one-panel .kept in
     let told = c .before .ran .given .1 in (
       inside _ _ _ _ (p .panel-end .ensures),
-      kept .0 ∙ inv .1,
-      kept .1 .0 ∙ inv .2,
-      kept .1 .1 .0 ∙ inv .3,
-      kept .1 .1 .1 .0 ∙ inv .4,
-      kept .1 .1 .1 .1 .0 ∙ inv .5,
-      kept .1 .1 .1 .1 .1 .0 ∙ inv .6,
-      kept .1 .1 .1 .1 .1 .1 .0 ∙ inv .7,
-      kept .1 .1 .1 .1 .1 .1 .1 .0 ∙ inv .8,
-      kept .1 .1 .1 .1 .1 .1 .1 .1 .0 ∙ inv .9,
+      panel ∙ inv .1,
+      work ∙ inv .2,
+      d ∙ inv .3,
+      sub ∙ inv .4,
+      blocks ∙ inv .5,
+      partners ∙ inv .6,
+      lifts ∙ inv .7,
+      amounts ∙ inv .8,
+      order ∙ inv .9,
       run-more (pivotingOf (a .c)) (a .c .nrow) (a .c .ncol) (a .c .nb) (start .pre .0 .some) (l .kb) (p .panel-end .result) _ (held (looped p)) (left t)
           (t .one-panel .result) (whole start) (inv .10) (p .before .loop-test .taken) (p .panel-end .ensures) (t .one-panel .ensures .0) told,
       done-leaves (l .kb) (p .panel-end .result) _ (t .one-panel .result) (blocks-left t) (partners-left t) (t .one-panel .ensures .1) told,

@@ -31,10 +31,8 @@ back s = putMid 0 (square s - 0) (lent s) (s .ll-bk-panel-step .last .1 .0)
 ll-bk-panel-step-requires : tie.Need-ll-bk-panel-step-requires
 ll-bk-panel-step-requires c κs =
     let start : tie.Start = search in
-    let pre = start .pre in (
-      panel-pre _ _ (start .args .work .now) (pre .0),
-      (holds-ke _ _ _ _ _ _ _ _ _ _ (pre .0) (pre .1 .0), (pre .1 .1 .0, pre .1 .1 .1)),
-    )
+    let (sizes, (holds, how-and-noted)) = start .pre in
+    (panel-pre _ _ (start .args .work .now) sizes, (holds-ke _ _ _ _ _ _ _ _ _ _ sizes holds, how-and-noted))
 
 -- the multipliers are given back as the steps left them
 returned : (s : tie.After-ll-bk-panel-step) → take (square s) (back s) ≡ s .ll-bk-panel-step .last .1 .0
@@ -46,11 +44,10 @@ returns : tie.Need-returns
 returns c =
     let s = called c in
     let a = entry s .args in
-    let l = s .ll-bk-panel-step .last in (
-      steps-is (a .how) (a .at) (a .before) (s .ll-bk-panel-step .result) (a .panel .now) (l .0) (lent s) (l .1 .0) (take (square s) (back s))
+    let (panel, (mult, (d, (sub, (blocks, (partners, (lifts, (amounts, (order, rest))))))))) = s .ll-bk-panel-step .last in (
+      steps-is (a .how) (a .at) (a .before) (s .ll-bk-panel-step .result) (a .panel .now) panel (lent s) mult (take (square s) (back s))
           (pivotsOf (a .d .now) (a .sub .now) (a .blocks .now) (a .partners .now) (a .lifts .now) (a .amounts .now) (a .order .now))
-          (pivotsOf (l .1 .1 .0) (l .1 .1 .1 .0) (l .1 .1 .1 .1 .0) (l .1 .1 .1 .1 .1 .0) (l .1 .1 .1 .1 .1 .1 .0) (l .1 .1 .1 .1 .1 .1 .1 .0)
-          (l .1 .1 .1 .1 .1 .1 .1 .1 .0))
+          (pivotsOf d sub blocks partners lifts amounts order)
           (s .ll-bk-panel-step .ensures .0) (returned s),
       s .ll-bk-panel-step .ensures .1,
     )

@@ -33,7 +33,7 @@ one-or-two-steps-requires c κs =
     let turn = c .before in
     let start : tie.Start Inv-loop μ-loop = search in
     let inv = turn .before .loop .inv in
-    (sizes-kept _ _ _ _ _ _ _ _ _ _ _ _ (start .pre .0) (inv .2), (start .pre .1, (inv .0, (turn .loop-test .taken, inv .1))))
+    (sizes-kept _ _ _ _ _ _ _ _ _ _ _ _ (start .pre .0) (inv .2), (start .pre .1, record { from = inv .0; inside = turn .loop-test .taken; starts = inv .1 }))
 
 loop-less : tie.Need-loop-less Inv-loop μ-loop
 loop-less c =

@@ -24,11 +24,11 @@ paired c = c .before .before
 
 -- the step at k
 here : (c : tie.Start) → HerePre (c .args .at .ke) (naturals (c .args .blocks .now)) (naturals (c .args .partners .now)) (c .args .k .0)
-here c = here-pre _ _ _ _ _ (c .pre .1 .0) (c .pre .1 .1 .1 .0) (c .pre .1 .1 .1 .1)
+here c = here-pre _ _ _ _ _ (c .pre .1 .0) (c .pre .1 .1 .inside) (c .pre .1 .1 .starts)
 
 -- after it another begins, before ke
 starts : (c : tie.After-past) → Starts (naturals (entry c .args .blocks .now)) (c .past .result)
-starts c = let s = entry c in starts-past _ _ _ _ (s .pre .1 .0 .recorded .paired) (s .pre .1 .1 .1 .0) (c .past .ensures)
+starts c = let s = entry c in starts-past _ _ _ _ (s .pre .1 .0 .recorded .paired) (s .pre .1 .1 .inside) (c .past .ensures)
 
 there : (c : tie.Then1)
     → HerePre (entry (c .before) .args .at .ke) (naturals (entry (c .before) .args .blocks .now)) (naturals (entry (c .before) .args .partners .now))
@@ -40,7 +40,7 @@ there c = here-pre _ _ _ _ _ (entry (c .before) .pre .1 .0) (c .if1 .taken) (sta
 place-requires : tie.Need-place-requires
 place-requires c κs =
     let s : tie.Start = search in
-    let room = lent-start _ _ _ _ _ _ _ _ _ _ _ _ (s .pre .0) (s .pre .1 .1 .1 .0) in
+    let room = lent-start _ _ _ _ _ _ _ _ _ _ _ _ (s .pre .0) (s .pre .1 .1 .inside) in
     search needs
 
 stays-requires : tie.Need-stays-requires
@@ -51,39 +51,36 @@ stays-requires c κs =
 mul-tail-pair : tie.Need-mul-tail-pair
 mul-tail-pair c =
     let s = entry (paired c .before) in
-    let room = lent-start _ _ _ _ _ _ _ _ _ _ _ _ (s .pre .0) (s .pre .1 .1 .1 .0) in
+    let room = lent-start _ _ _ _ _ _ _ _ _ _ _ _ (s .pre .0) (s .pre .1 .1 .inside) in
     search needs
 
 sub-tail-pair : tie.Need-sub-tail-pair
 sub-tail-pair c =
     let s = entry (paired c .before) in
-    let room = lent-start _ _ _ _ _ _ _ _ _ _ _ _ (s .pre .0) (s .pre .1 .1 .1 .0) in
+    let room = lent-start _ _ _ _ _ _ _ _ _ _ _ _ (s .pre .0) (s .pre .1 .1 .inside) in
     search needs
 
 part-tail-pair-start : tie.Need-part-tail-pair-start
 part-tail-pair-start c =
     let s = entry (paired c .before) in
-    let room = lent-start _ _ _ _ _ _ _ _ _ _ _ _ (s .pre .0) (s .pre .1 .1 .1 .0) in
+    let room = lent-start _ _ _ _ _ _ _ _ _ _ _ _ (s .pre .0) (s .pre .1 .1 .inside) in
     search needs
 
 tail-pair-requires : tie.Need-tail-pair-requires
 tail-pair-requires c κs =
     let t = paired (c .before) in
     let s = entry (t .before) in
-    let k-in = s .pre .1 .1 .1 .0 in (
+    let k-in = s .pre .1 .1 .inside in (
       lent-pre _ _ _ _ _ _ _ _ _ _ _ _ (s .pre .0) k-in _ (part-count _ _ (s .args .panel .now) refl _ (t .before .before .place .ensures)),
       (
-        read-pre _ _ _ _ _ _ _ _ _ _ _ _ (s .pre .0) k-in (s .pre .1 .1 .0),
-        (
-          here s,
-          (
-            there t,
-            (
-              (t .before .past .ensures, t .if1 .taken),
-              still-first _ _ _ (c .before .before .stays .ensures) (c .before .if2 .taken),
-            ),
-          ),
-        ),
+        read-pre _ _ _ _ _ _ _ _ _ _ _ _ (s .pre .0) k-in (s .pre .1 .1 .from),
+        record {
+          first = here s;
+          second = there t;
+          next = t .before .past .ensures;
+          inside = t .if1 .taken;
+          stays = still-first _ _ _ (c .before .before .stays .ensures) (c .before .if2 .taken);
+        },
       ),
     )
 
@@ -92,7 +89,7 @@ returns c =
     let p = c .before .before .before in
     let t = paired (p .before .before) in
     let s = entry (t .before) in
-    let k-in = s .pre .1 .1 .1 .0 in
+    let k-in = s .pre .1 .1 .inside in
     let room = lent-place _ _ _ _ _ _ _ _ _ _ _ _ (s .pre .0) k-in _ (t .before .before .place .ensures) in
     let more = past-later _ _ _ (t .before .past .ensures) in
     let after = past-later _ _ _ (c .past2 .ensures) in
@@ -106,27 +103,27 @@ returns c =
 mul-tail-step : tie.Need-mul-tail-step
 mul-tail-step c =
     let s = entry (c .before) in
-    let room = lent-start _ _ _ _ _ _ _ _ _ _ _ _ (s .pre .0) (s .pre .1 .1 .1 .0) in
+    let room = lent-start _ _ _ _ _ _ _ _ _ _ _ _ (s .pre .0) (s .pre .1 .1 .inside) in
     search needs
 
 sub-tail-step : tie.Need-sub-tail-step
 sub-tail-step c =
     let s = entry (c .before) in
-    let room = lent-start _ _ _ _ _ _ _ _ _ _ _ _ (s .pre .0) (s .pre .1 .1 .1 .0) in
+    let room = lent-start _ _ _ _ _ _ _ _ _ _ _ _ (s .pre .0) (s .pre .1 .1 .inside) in
     search needs
 
 part-tail-step-start : tie.Need-part-tail-step-start
 part-tail-step-start c =
     let s = entry (c .before) in
-    let room = lent-start _ _ _ _ _ _ _ _ _ _ _ _ (s .pre .0) (s .pre .1 .1 .1 .0) in
+    let room = lent-start _ _ _ _ _ _ _ _ _ _ _ _ (s .pre .0) (s .pre .1 .1 .inside) in
     search needs
 
 tail-step-requires : tie.Need-tail-step-requires
 tail-step-requires c κs =
     let s = entry (c .before .before) in
-    let k-in = s .pre .1 .1 .1 .0 in (
+    let k-in = s .pre .1 .1 .inside in (
       lent-pre _ _ _ _ _ _ _ _ _ _ _ _ (s .pre .0) k-in _ (part-count _ _ (s .args .panel .now) refl _ (c .before .before .before .place .ensures)),
-      (read-pre _ _ _ _ _ _ _ _ _ _ _ _ (s .pre .0) k-in (s .pre .1 .1 .0), here s),
+      (read-pre _ _ _ _ _ _ _ _ _ _ _ _ (s .pre .0) k-in (s .pre .1 .1 .from), here s),
     )
 
 returns-2 : tie.Need-returns-2
@@ -134,7 +131,7 @@ returns-2 c =
     let t = c .before .before in
     let p = t .before .before .before in
     let s = entry p in
-    let k-in = s .pre .1 .1 .1 .0 in
+    let k-in = s .pre .1 .1 .inside in
     let room = lent-place _ _ _ _ _ _ _ _ _ _ _ _ (s .pre .0) k-in _ (p .before .place .ensures) in
     let more = past-later _ _ _ (p .past .ensures) in
     let rows = lent-pre _ _ _ _ _ _ _ _ _ _ _ _ (s .pre .0) k-in _ (part-count _ _ (s .args .panel .now) refl _ (p .before .place .ensures)) in (

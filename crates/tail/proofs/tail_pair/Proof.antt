@@ -38,18 +38,18 @@ start c = entry (begun (first c))
 diagonal-at-requires : tie.Need-diagonal-at-requires
 diagonal-at-requires c κs =
     let s = entry (c .before .before) in
-    pivot-pre _ _ _ _ _ _ _ _ _ _ _ _ (s .pre .1 .0) refl (s .pre .0 .here) (s .pre .1 .1 .0)
+    pivot-pre _ _ _ _ _ _ _ _ _ _ _ _ (s .pre .1 .0) refl (s .pre .0 .here) (s .pre .1 .1 .first)
 
 diagonal-at-requires-2 : tie.Need-diagonal-at-requires-2
 diagonal-at-requires-2 c κs =
     let s = entry (c .before .before .before) in
-    let after = s .pre .1 .1 .1 in
-    pivot-pre _ _ _ _ _ _ _ _ _ _ _ _ (s .pre .1 .0) refl (after .1 .0 .1) (after .0)
+    let both = s .pre .1 .1 in
+    pivot-pre _ _ _ _ _ _ _ _ _ _ _ _ (s .pre .1 .0) refl (both .inside) (both .second)
 
 past-requires : tie.Need-past-requires
 past-requires c κs =
     let s = entry (begun (c .before)) in
-    omega (arith, s .pre .1 .1 .1 .1 .0 .1, s .pre .1 .0 .inBlocks)
+    omega (arith, s .pre .1 .1 .inside, s .pre .1 .0 .inBlocks)
 
 sub-last : tie.Need-sub-last
 sub-last c = let more = past-later _ _ _ (c .past .ensures) in search needs
@@ -91,36 +91,36 @@ part-below-pair-start c =
 sub-below-pair-2 : tie.Need-sub-below-pair-2
 sub-below-pair-2 c =
     let p = read (c .before .before .before) in
-    let more = past-later _ _ _ (start p .pre .1 .1 .1 .1 .0 .0) in
+    let more = past-later _ _ _ (start p .pre .1 .1 .next) in
     search needs
 
 sub-below-pair-3 : tie.Need-sub-below-pair-3
 sub-below-pair-3 c =
     let p = read (c .before .before .before .before) in
-    let more = past-later _ _ _ (start p .pre .1 .1 .1 .1 .0 .0) in
+    let more = past-later _ _ _ (start p .pre .1 .1 .next) in
     let last = past-later _ _ _ (p .past .ensures) in
     search needs
 
 column-from-requires : tie.Need-column-from-requires
 column-from-requires c κs =
     let p = first (read (c .before .before .before .before)) in
-    row-ahead _ _ _ _ _ _ (entry (begun p) .pre .1 .1 .0) (omega arith) (p .partner .ensures)
+    row-ahead _ _ _ _ _ _ (entry (begun p) .pre .1 .1 .first) (omega arith) (p .partner .ensures)
 
 column-from-requires-2 : tie.Need-column-from-requires-2
 column-from-requires-2 c κs =
     let p = counted c in
-    let after = start p .pre .1 .1 .1 in
-    let more = past-later _ _ _ (after .1 .0 .0) in
-    row-ahead _ _ _ _ _ _ (after .0) (omega arith) (p .before .partner2 .ensures)
+    let both = start p .pre .1 .1 in
+    let more = past-later _ _ _ (both .next) in
+    row-ahead _ _ _ _ _ _ (both .second) (omega arith) (p .before .partner2 .ensures)
 
 below-pair-requires : tie.Need-below-pair-requires
 below-pair-requires c κs =
     let p = counted (c .before) in
     let b = begun (first p) in
     let s = entry b in
-    let after = s .pre .1 .1 .1 in
-    pair-pre _ _ _ _ _ _ _ _ _ _ _ _ _ _ (lent-kept _ _ _ _ _ (s .pre .0) (b .arrive .kept .0)) (s .pre .1 .0) (s .pre .1 .1 .0)
-    (part-count _ _ (s .args .mult .now) refl _ (placed (c .before) .place .ensures)) _ _ _ _ _ _ _ _ _ _ (after .1 .0 .0) (after .1 .0 .1) (after .0)
+    let both = s .pre .1 .1 in
+    pair-pre _ _ _ _ _ _ _ _ _ _ _ _ _ _ (lent-kept _ _ _ _ _ (s .pre .0) (b .arrive .kept .0)) (s .pre .1 .0) (both .first)
+    (part-count _ _ (s .args .mult .now) refl _ (placed (c .before) .place .ensures)) _ _ _ _ _ _ _ _ _ _ (both .next) (both .inside) (both .second)
     (first p .before .before .diagonal-at .ensures) (first p .before .diagonal-at2 .ensures) (p .past .ensures) refl refl
     (column-is _ _ _ _ (c .before .column-from .ensures) (first p .partner .ensures)) (column-is _ _ _ _ (c .column-from2 .ensures) (p .before .partner2 .ensures))
 
@@ -131,10 +131,10 @@ returns c =
     let b = begun (first p) in
     let s = entry b in
     let r = s .pre .1 .0 in
-    let after = s .pre .1 .1 .1 in
-    let more = past-later _ _ _ (after .1 .0 .0) in
-    pair-done _ _ _ _ (kept-from _ _ _ _ _ _ (s .args .mult .now) (r .from) (r .width) (placed (f .before) .place .ensures) refl) _ _ _ _ _ _ _ _ (s .pre .1 .1 .0) (b .arrive .ensures) _ _ _ _ _ _
-    (omega arith) (after .0) (after .1 .1) (first p .before .before .diagonal-at .ensures) (first p .before .diagonal-at2 .ensures)
+    let both = s .pre .1 .1 in
+    let more = past-later _ _ _ (both .next) in
+    pair-done _ _ _ _ (kept-from _ _ _ _ _ _ (s .args .mult .now) (r .from) (r .width) (placed (f .before) .place .ensures) refl) _ _ _ _ _ _ _ _ (both .first) (b .arrive .ensures) _ _ _ _ _ _
+    (omega arith) (both .second) (both .stays) (first p .before .before .diagonal-at .ensures) (first p .before .diagonal-at2 .ensures)
     (column-is _ _ _ _ (f .before .column-from .ensures) (first p .partner .ensures)) (column-is _ _ _ _ (f .column-from2 .ensures) (p .before .partner2 .ensures)) refl
     (c .before .before .below-pair .ensures)
 
