@@ -203,7 +203,16 @@ module _ (nrow ncol nb kb ke k len lenM ld ls lb lp : ℕ) (sizes : TailPre nrow
         height = omega (arith, sizes .cols, sizes .head);
         here = here;
         room =
-            omega (arith, mul-le-mul-right nrow few, add-mul (k + (ke - k - 1)) 1 nrow, add-mul k (ke - k - 1) nrow, mul-comm nrow ncol, sizes .size, sizes .cols, sizes .head);
+            omega (
+              arith,
+              mul-le-mul-right nrow few,
+              add-mul (k + (ke - k - 1)) 1 nrow,
+              add-mul k (ke - k - 1) nrow,
+              mul-comm nrow ncol,
+              sizes .size,
+              sizes .cols,
+              sizes .head,
+            );
       }
 
   pub read-pre : kb ≤ k → ReadPre nb kb ke k lenM ld ls lb lp

@@ -100,7 +100,8 @@ module _ (k kp end : ℕ) (m1 m2 : Row) (h : k ≤ kp) where
   pub step-since : (x : Diagonal) → Since k (rowAfterStep end (stepOf k kp x m1 m2))
   unfolding rowAfterStep
   step-since (One d) =
-      since-then k (λ r j. r (exchangedPlace k kp j)) (eliminated (stepOf k kp (One d) m1 m2) end) (since-exchange k k kp (omega arith) h) (eliminated-since (One d))
+      since-then k (λ r j. r (exchangedPlace k kp j)) (eliminated (stepOf k kp (One d) m1 m2) end)
+      (since-exchange k k kp (omega arith) h) (eliminated-since (One d))
   step-since (Two b) =
       since-then k (λ r j. r (exchangedPlace (k + 1) kp j)) (eliminated (stepOf k kp (Two b) m1 m2) end) (since-exchange k (k + 1) kp (omega arith) h)
       (eliminated-since (Two b))

@@ -77,7 +77,8 @@ module _ (M : Mat) (blocks partners : ℕ → ℕ) (rows k : ℕ) (t : Bool) (e 
 
 -- the record's step at l by its pivot
 step-at : (ds ss : List Float) (bs ps : List ℕ) (I : Mat) (l : ℕ)
-    → stepAt (diagonalsOf ds ss bs) (naturals ps) I l ≡ stepOf l (naturals ps l) (diagonalAt (vec ds) (vec ss) (naturals bs) l) (columnOf I l) (columnOf I (l + 1))
+    → stepAt (diagonalsOf ds ss bs) (naturals ps) I l
+    ≡ stepOf l (naturals ps l) (diagonalAt (vec ds) (vec ss) (naturals bs) l) (columnOf I l) (columnOf I (l + 1))
 unfolding stepAt diagonalAt columnOf
 step-at ds ss bs ps I l = test (begins (naturals bs) l) (λ t. rw t) (λ t. rw t)
 
@@ -99,7 +100,8 @@ module _ (ds ss : List Float) (bs ps : List ℕ) (I : Mat) (ke : ℕ) where
       → rowStepped (diagonalsOf ds ss bs) (naturals ps) I ke l ≡ rowAfterStep ke (stepAt (diagonalsOf ds ss bs) (naturals ps) I l)
   unfolding rowStepped arrived
   stays-step l e =
-      fun-ext λ r. ap (rowAfterStep ke (stepAt (diagonalsOf ds ss bs) (naturals ps) I l)) (fun-ext λ j. ap r (ap (λ (q : ℕ). exchangedPlace l q j) e ∙ place-same l j))
+      fun-ext λ r. ap (rowAfterStep ke (stepAt (diagonalsOf ds ss bs) (naturals ps) I l))
+      (fun-ext λ j. ap r (ap (λ (q : ℕ). exchangedPlace l q j) e ∙ place-same l j))
 
   pub both-since : (k l : ℕ) → HerePre ke (naturals bs) (naturals ps) k → HerePre ke (naturals bs) (naturals ps) l → k ≤ l
       → Since k (rowSteppedTwice (diagonalsOf ds ss bs) (naturals ps) I ke k l)
@@ -123,7 +125,8 @@ module _ (I J : Mat) (ke k : ℕ) (kept : (j c : ℕ) → k + j < ke → k + c <
   module _ (ds ss : List Float) (bs ps : List ℕ) where
     -- the record's step at l, which is column c
     counted-at : (l q c : ℕ) (x : Diagonal) → k ≤ l → k ≤ naturals ps l → x ≡ diagonalAt (vec ds) (vec ss) (naturals bs) l → q ≡ naturals ps l - k → c ≡ l - k
-        → fromColumn k (rowAfterStep ke (stepAt (diagonalsOf ds ss bs) (naturals ps) I l)) ≡ rowAfterStep (ke - k) (stepOf c q x (columnOf J c) (columnOf J (c + 1)))
+        → fromColumn k (rowAfterStep ke (stepAt (diagonalsOf ds ss bs) (naturals ps) I l))
+        ≡ rowAfterStep (ke - k) (stepOf c q x (columnOf J c) (columnOf J (c + 1)))
     counted-at l q c x hl hp e d f = rw (step-at ds ss bs ps I l, ← e, counted l (naturals ps l) x hl hp, d, f)
 
     module _ (M E T : Mat) (rows : ℕ) (here : HerePre ke (naturals bs) (naturals ps) k)
@@ -134,7 +137,8 @@ module _ (I J : Mat) (ke k : ℕ) (kept : (j c : ℕ) → k + j < ke → k + c <
       unfolding rowStepped
       first-counted q x e d r =
           let ahead = partner-ahead ke (naturals bs) (naturals ps) k here in
-          sym (from-then k (arrived (naturals bs) (naturals ps) k) (rowAfterStep ke (stepAt (diagonalsOf ds ss bs) (naturals ps) I k)) (record-since ds ss bs ps I ke k ahead) r
+          sym (from-then k (arrived (naturals bs) (naturals ps) k) (rowAfterStep ke (stepAt (diagonalsOf ds ss bs) (naturals ps) I k))
+          (record-since ds ss bs ps I ke k ahead) r
           ∙ ap (λ (f : Row → Row). f (fromColumn k (arrived (naturals bs) (naturals ps) k) r)) (counted-at k q 0 x (omega arith) ahead e d (omega arith)))
 
       pub step-done : (q : ℕ) (x : Diagonal) → x ≡ diagonalAt (vec ds) (vec ss) (naturals bs) k → q ≡ naturals ps k - k
@@ -159,7 +163,8 @@ module _ (I J : Mat) (ke k : ℕ) (kept : (j c : ℕ) → k + j < ke → k + c <
           ap (rowAfterStep (ke - k) (stepOf c s y (columnOf J c) (columnOf J (c + 1)))) (first-counted q x e d r)
           ∙ ap (λ (z : Row → Row). z (fromColumn k (rowStepped (diagonalsOf ds ss bs) (naturals ps) I ke k) r))
           (sym (ap (fromColumn k) (stays-step ds ss bs ps I ke l still) ∙ counted-at l s c y h (omega arith) g o f))
-          ∙ sym (from-then k (rowStepped (diagonalsOf ds ss bs) (naturals ps) I ke k) second (since-later k l second h (stepped-since ds ss bs ps I ke l there)) r))
+          ∙ sym (from-then k (rowStepped (diagonalsOf ds ss bs) (naturals ps) I ke k) second
+          (since-later k l second h (stepped-since ds ss bs ps I ke l there)) r))
 
 -- ---- the loop
 
@@ -196,11 +201,13 @@ steps-more D q m M N R n ke k e h s =
 -- one step taken off, or two
 module _ (ds ss : List Float) (bs ps : List ℕ) (m M N : Mat) (n ke k l : ℕ) (here : k < ke) (el : l ≡ pastOf (naturals bs) k) where
   pub turned-step : N ≡ below ke n (rowStepped (diagonalsOf ds ss bs) (naturals ps) m ke k) M
-      → below ke n (rowAfterSteps (diagonalsOf ds ss bs) (naturals ps) m ke (ke - l) l) N ≡ below ke n (rowAfterSteps (diagonalsOf ds ss bs) (naturals ps) m ke (ke - k) k) M
+      → below ke n (rowAfterSteps (diagonalsOf ds ss bs) (naturals ps) m ke (ke - l) l) N
+      ≡ below ke n (rowAfterSteps (diagonalsOf ds ss bs) (naturals ps) m ke (ke - k) k) M
   turned-step s = rw el (steps-more (diagonalsOf ds ss bs) (naturals ps) m M N _ n ke k refl here s)
 
   pub turned-both : (r : ℕ) → l < ke → r ≡ pastOf (naturals bs) l → N ≡ below ke n (rowSteppedTwice (diagonalsOf ds ss bs) (naturals ps) m ke k l) M
-      → below ke n (rowAfterSteps (diagonalsOf ds ss bs) (naturals ps) m ke (ke - r) r) N ≡ below ke n (rowAfterSteps (diagonalsOf ds ss bs) (naturals ps) m ke (ke - k) k) M
+      → below ke n (rowAfterSteps (diagonalsOf ds ss bs) (naturals ps) m ke (ke - r) r) N
+      ≡ below ke n (rowAfterSteps (diagonalsOf ds ss bs) (naturals ps) m ke (ke - k) k) M
   unfolding rowSteppedTwice
   turned-both r h er s =
       let D = diagonalsOf ds ss bs in

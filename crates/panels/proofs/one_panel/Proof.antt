@@ -102,8 +102,8 @@ noted : (g : tie.After-ran) → StepsPre (entry (stepped g) .args .at .kb) (entr
     (naturals (partners-left (stepped g)))
 noted g =
     let s = stepped g in
-    steps-pre (entry s .args .at .kb) (entry s .args .at .ke) _ (s .steps .result) (naturals (blocks-left s)) (naturals (partners-left s)) (s .steps .ensures .1)
-    (g .ran .given .1)
+    steps-pre (entry s .args .at .kb) (entry s .args .at .ke) _ (s .steps .result) (naturals (blocks-left s)) (naturals (partners-left s))
+    (s .steps .ensures .1) (g .ran .given .1)
 
 -- those multipliers are not read
 forgotten : (c : tie.Start) → let at = c .args .at in

@@ -46,7 +46,8 @@ loop-again c =
     let called = c .before .before in
     let turn = called .before .before in
     let inv = turn .before .loop .inv in
-    (turn-from _ _ _ (inv .0) (called .one-or-two-steps .ensures .1 .0), called .one-or-two-steps .ensures .1 .1, search needs, called .one-or-two-steps .ensures .0 ∙ inv .3)
+    let steps = called .one-or-two-steps .ensures in
+    (turn-from _ _ _ (inv .0) (steps .1 .0), steps .1 .1, search needs, steps .0 ∙ inv .3)
 
 pub apply-bk-panel-trailing-spec : {M : Type 1} → statement M
 apply-bk-panel-trailing-spec =

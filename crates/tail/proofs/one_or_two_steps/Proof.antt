@@ -136,7 +136,8 @@ returns-2 c =
     let more = past-later _ _ _ (p .past .ensures) in
     let rows = lent-pre _ _ _ _ _ _ _ _ _ _ _ _ (s .pre .0) k-in _ (part-count _ _ (s .args .panel .now) refl _ (p .before .place .ensures)) in (
       turned-step _ _ _ _ _ _ _ _ _ _ _ k-in (p .past .ensures)
-          (lent-rows _ _ _ _ _ _ (rows .height) (p .before .place .ensures) refl _ _ room (t .tail-step .kept .0) (stepped-since _ _ _ _ _ _ _ (here s)) (t .tail-step .ensures)),
+          (lent-rows _ _ _ _ _ _ (rows .height) (p .before .place .ensures) refl _ _ room (t .tail-step .kept .0)
+          (stepped-since _ _ _ _ _ _ _ (here s)) (t .tail-step .ensures)),
       (omega arith, starts p),
     )
 

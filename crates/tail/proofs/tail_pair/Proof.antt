@@ -122,7 +122,8 @@ below-pair-requires c κs =
     pair-pre _ _ _ _ _ _ _ _ _ _ _ _ _ _ (lent-kept _ _ _ _ _ (s .pre .0) (b .arrive .kept .0)) (s .pre .1 .0) (both .first)
     (part-count _ _ (s .args .mult .now) refl _ (placed (c .before) .place .ensures)) _ _ _ _ _ _ _ _ _ _ (both .next) (both .inside) (both .second)
     (first p .before .before .diagonal-at .ensures) (first p .before .diagonal-at2 .ensures) (p .past .ensures) refl refl
-    (column-is _ _ _ _ (c .before .column-from .ensures) (first p .partner .ensures)) (column-is _ _ _ _ (c .column-from2 .ensures) (p .before .partner2 .ensures))
+    (column-is _ _ _ _ (c .before .column-from .ensures) (first p .partner .ensures))
+    (column-is _ _ _ _ (c .column-from2 .ensures) (p .before .partner2 .ensures))
 
 returns : tie.Need-returns
 returns c =
@@ -133,9 +134,11 @@ returns c =
     let r = s .pre .1 .0 in
     let both = s .pre .1 .1 in
     let more = past-later _ _ _ (both .next) in
-    pair-done _ _ _ _ (kept-from _ _ _ _ _ _ (s .args .mult .now) (r .from) (r .width) (placed (f .before) .place .ensures) refl) _ _ _ _ _ _ _ _ (both .first) (b .arrive .ensures) _ _ _ _ _ _
+    pair-done _ _ _ _ (kept-from _ _ _ _ _ _ (s .args .mult .now) (r .from) (r .width) (placed (f .before) .place .ensures) refl)
+    _ _ _ _ _ _ _ _ (both .first) (b .arrive .ensures) _ _ _ _ _ _
     (omega arith) (both .second) (both .stays) (first p .before .before .diagonal-at .ensures) (first p .before .diagonal-at2 .ensures)
-    (column-is _ _ _ _ (f .before .column-from .ensures) (first p .partner .ensures)) (column-is _ _ _ _ (f .column-from2 .ensures) (p .before .partner2 .ensures)) refl
+    (column-is _ _ _ _ (f .before .column-from .ensures) (first p .partner .ensures))
+    (column-is _ _ _ _ (f .column-from2 .ensures) (p .before .partner2 .ensures)) refl
     (c .before .before .below-pair .ensures)
 
 pub tail-pair-spec : {M : Type 1} → statement M

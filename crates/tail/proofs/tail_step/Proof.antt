@@ -70,7 +70,8 @@ returns c =
     let b = begun p in
     let s = entry b in
     let r = s .pre .1 .0 in
-    step-done _ _ _ _ (kept-from _ _ _ _ _ _ (s .args .mult .now) (r .from) (r .width) (f .before .before .before .place .ensures) refl) _ _ _ _ _ _ _ _ (s .pre .1 .1) (b .arrive .ensures) _ _
+    step-done _ _ _ _ (kept-from _ _ _ _ _ _ (s .args .mult .now) (r .from) (r .width) (f .before .before .before .place .ensures) refl)
+    _ _ _ _ _ _ _ _ (s .pre .1 .1) (b .arrive .ensures) _ _
     (p .before .diagonal-at .ensures) (column-is _ _ _ _ (f .column-from .ensures) (p .partner .ensures)) (c .before .before .below-step .ensures)
 
 pub tail-step-spec : {M : Type 1} → statement M
