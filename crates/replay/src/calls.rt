@@ -6,6 +6,7 @@ ghost use lib.ListN.{length};
 use crate::file;
 use crate::file::Left;
 use model::Applied;
+use model::Lengths;
 use model::Settings;
 use outcome::Outcome;
 
@@ -76,9 +77,27 @@ fn work_after(number: usize) -> Left {
     }
 }
 
+fn read_lengths(fd: i32) -> Lengths {
+    let mut n = [0usize; 10];
+    file::counts(fd, 10, &mut n);
+    Lengths {
+        input: n[0],
+        panel: n[1],
+        d: n[2],
+        sub: n[3],
+        blocks: n[4],
+        lifts: n[5],
+        amounts: n[6],
+        order: n[7],
+        marks: n[8],
+        work: n[9],
+    }
+}
+
 fn factor_left(
     fd: i32,
     number: usize,
+    n: Lengths,
     panel: &[f64],
     d: &[f64],
     sub: &[f64],
@@ -90,66 +109,21 @@ fn factor_left(
     work: &[f64],
 ) -> bool {
     let left = outputs_after(number);
-    let mut same = file::numbers_left(fd, left, panel);
-    same = file::numbers_left(fd, left, d) & same;
-    same = file::numbers_left(fd, left, sub) & same;
-    same = file::bytes_left(fd, left, blocks) & same;
-    same = file::bytes_left(fd, left, lifts) & same;
-    same = file::numbers_left(fd, left, amounts) & same;
-    same = file::counts_left(fd, left, order) & same;
-    same = file::bytes_left(fd, left, marks) & same;
-    file::numbers_left(fd, work_after(number), work) & same
-}
-
-fn factor_same(
-    fd: i32,
-    recorded: Outcome,
-    c: Settings,
-    input: &[f64],
-    panel: &mut [f64],
-    d: &mut [f64],
-    sub: &mut [f64],
-    blocks: &mut [u8],
-    lifts: &mut [u8],
-    amounts: &mut [f64],
-    order: &mut [usize],
-    marks: &mut [u8],
-    work: &mut [f64],
-) -> bool {
-    let factored = factor::factor(
-        c,
-        input,
-        panel,
-        d,
-        sub,
-        blocks,
-        lifts,
-        amounts,
-        order,
-        marks,
-        work,
-    );
-    let left = factor_left(
-        fd,
-        recorded.number,
-        panel,
-        d,
-        sub,
-        blocks,
-        lifts,
-        amounts,
-        order,
-        marks,
-        work,
-    );
-    same(outcome::of_factor(factored), recorded) & left
+    let mut same = file::numbers_left(fd, left, n.panel, panel);
+    same = file::numbers_left(fd, left, n.d, d) & same;
+    same = file::numbers_left(fd, left, n.sub, sub) & same;
+    same = file::bytes_left(fd, left, n.blocks, blocks) & same;
+    same = file::bytes_left(fd, left, n.lifts, lifts) & same;
+    same = file::numbers_left(fd, left, n.amounts, amounts) & same;
+    same = file::counts_left(fd, left, n.order, order) & same;
+    same = file::bytes_left(fd, left, n.marks, marks) & same;
+    file::numbers_left(fd, work_after(number), n.work, work) & same
 }
 
 pub(crate) fn factor_case(fd: i32) -> bool {
     let recorded = read_answer(fd);
     let c = read_settings(fd);
-    let mut n = [0usize; 10];
-    file::counts(fd, 10, &mut n);
+    let n = read_lengths(fd);
     let mut of_input = room(0.0);
     let mut of_panel = room(file::HELD);
     let mut of_d = [file::HELD; COLUMNS];
@@ -160,36 +134,65 @@ pub(crate) fn factor_case(fd: i32) -> bool {
     let mut of_order = [file::HELD_COUNT; ROWS];
     let mut of_marks = [file::HELD_BYTE; ROWS];
     let mut of_work = room(file::HELD);
-    let input = file::numbers(fd, n[0], &mut of_input);
-    factor_same(
-        fd,
-        recorded,
+    let input = file::numbers(fd, n.input, &mut of_input);
+    let factored = factor::factor(
         c,
         input,
-        file::first_numbers(n[1], &mut of_panel),
-        file::first_numbers(n[2], &mut of_d),
-        file::first_numbers(n[3], &mut of_sub),
-        file::first_bytes(n[4], &mut of_blocks),
-        file::first_bytes(n[5], &mut of_lifts),
-        file::first_numbers(n[6], &mut of_amounts),
-        file::first_counts(n[7], &mut of_order),
-        file::first_bytes(n[8], &mut of_marks),
-        file::first_numbers(n[9], &mut of_work),
-    )
+        file::first_numbers(n.panel, &mut of_panel),
+        file::first_numbers(n.d, &mut of_d),
+        file::first_numbers(n.sub, &mut of_sub),
+        file::first_bytes(n.blocks, &mut of_blocks),
+        file::first_bytes(n.lifts, &mut of_lifts),
+        file::first_numbers(n.amounts, &mut of_amounts),
+        file::first_counts(n.order, &mut of_order),
+        file::first_bytes(n.marks, &mut of_marks),
+        file::first_numbers(n.work, &mut of_work),
+    );
+    let left = factor_left(
+        fd,
+        recorded.number,
+        n,
+        &of_panel,
+        &of_d,
+        &of_sub,
+        &of_blocks,
+        &of_lifts,
+        &of_amounts,
+        &of_order,
+        &of_marks,
+        &of_work,
+    );
+    same(outcome::of_factor(factored), recorded) & left
 }
 
 // ---- inertia
 
-pub(crate) fn inertia_case(fd: i32) -> bool {
-    let recorded = read_answer(fd);
+// The lengths of its lists.
+struct Pivots {
+    d: usize,
+    sub: usize,
+    blocks: usize,
+}
+
+fn read_pivots(fd: i32) -> Pivots {
     let mut n = [0usize; 3];
     file::counts(fd, 3, &mut n);
+    Pivots {
+        d: n[0],
+        sub: n[1],
+        blocks: n[2],
+    }
+}
+
+pub(crate) fn inertia_case(fd: i32) -> bool {
+    let recorded = read_answer(fd);
+    let n = read_pivots(fd);
     let mut of_d = [0.0; COLUMNS];
     let mut of_sub = [0.0; COLUMNS];
     let mut of_blocks = [0u8; COLUMNS];
-    let d = file::numbers(fd, n[0], &mut of_d);
-    let sub = file::numbers(fd, n[1], &mut of_sub);
-    let blocks = file::bytes(fd, n[2], &mut of_blocks);
+    let d = file::numbers(fd, n.d, &mut of_d);
+    let sub = file::numbers(fd, n.sub, &mut of_sub);
+    let blocks = file::bytes(fd, n.blocks, &mut of_blocks);
     same(
         outcome::of_inertia(inertia::inertia(d, sub, blocks)),
         recorded,
@@ -199,34 +202,90 @@ pub(crate) fn inertia_case(fd: i32) -> bool {
 // ---- assembly and update
 
 fn panel_same(fd: i32, recorded: Outcome, applied: Applied, panel: &[f64]) -> bool {
-    let left = file::numbers_left(fd, Left::Recorded, panel);
+    let left = file::numbers_left(fd, Left::Recorded, panel.len(), panel);
     same(outcome::of_panel(applied), recorded) & left
+}
+
+// A target's shape, and the lengths of the lists of entries and of its panel.
+struct Entries {
+    ncol: usize,
+    nrow: usize,
+    rows: usize,
+    cols: usize,
+    numbers: usize,
+    panel: usize,
+}
+
+fn read_entries(fd: i32) -> Entries {
+    let mut n = [0usize; 6];
+    file::counts(fd, 6, &mut n);
+    Entries {
+        ncol: n[0],
+        nrow: n[1],
+        rows: n[2],
+        cols: n[3],
+        numbers: n[4],
+        panel: n[5],
+    }
 }
 
 pub(crate) fn assembly_case(fd: i32) -> bool {
     let recorded = read_answer(fd);
-    let mut n = [0usize; 6];
-    file::counts(fd, 6, &mut n);
+    let n = read_entries(fd);
     let mut of_rows = [0usize; COLUMNS];
     let mut of_cols = [0usize; COLUMNS];
     let mut of_numbers = [0.0; COLUMNS];
     let mut of_panel = room(0.0);
-    let rows = file::counts(fd, n[2], &mut of_rows);
-    let cols = file::counts(fd, n[3], &mut of_cols);
-    let numbers = file::numbers(fd, n[4], &mut of_numbers);
-    let panel = file::numbers(fd, n[5], &mut of_panel);
-    let applied = assembly::assemble(n[0], n[1], rows, cols, numbers, panel);
+    let rows = file::counts(fd, n.rows, &mut of_rows);
+    let cols = file::counts(fd, n.cols, &mut of_cols);
+    let numbers = file::numbers(fd, n.numbers, &mut of_numbers);
+    let panel = file::numbers(fd, n.panel, &mut of_panel);
+    let applied = assembly::assemble(n.ncol, n.nrow, rows, cols, numbers, panel);
     panel_same(fd, recorded, applied, panel)
 }
 
-pub(crate) fn update_case(fd: i32) -> bool {
-    let recorded = read_answer(fd);
+// The shapes of a target and a descendant, the row of the target's first column, and the lengths of their lists.
+struct Nodes {
+    ncol: usize,
+    nrow: usize,
+    nk: usize,
+    mk: usize,
+    first: u32,
+    rows: usize,
+    panel: usize,
+    kpanel: usize,
+    kd: usize,
+    ksub: usize,
+    kblocks: usize,
+    krows: usize,
+}
+
+fn read_nodes(fd: i32) -> Nodes {
     let mut n = [0usize; 4];
     let mut first = [0u32; 1];
     let mut m = [0usize; 7];
     file::counts(fd, 4, &mut n);
     file::global_rows(fd, 1, &mut first);
     file::counts(fd, 7, &mut m);
+    Nodes {
+        ncol: n[0],
+        nrow: n[1],
+        nk: n[2],
+        mk: n[3],
+        first: first[0],
+        rows: m[0],
+        panel: m[1],
+        kpanel: m[2],
+        kd: m[3],
+        ksub: m[4],
+        kblocks: m[5],
+        krows: m[6],
+    }
+}
+
+pub(crate) fn update_case(fd: i32) -> bool {
+    let recorded = read_answer(fd);
+    let n = read_nodes(fd);
     let mut of_rows = [0u32; file::GLOBAL_ROWS];
     let mut of_panel = room(0.0);
     let mut of_kpanel = room(0.0);
@@ -234,21 +293,21 @@ pub(crate) fn update_case(fd: i32) -> bool {
     let mut of_ksub = [0.0; COLUMNS];
     let mut of_kblocks = [0u8; COLUMNS];
     let mut of_krows = [0u32; file::GLOBAL_ROWS];
-    let rows = file::global_rows(fd, m[0], &mut of_rows);
-    let panel = file::numbers(fd, m[1], &mut of_panel);
-    let kpanel = file::numbers(fd, m[2], &mut of_kpanel);
-    let kd = file::numbers(fd, m[3], &mut of_kd);
-    let ksub = file::numbers(fd, m[4], &mut of_ksub);
-    let kblocks = file::bytes(fd, m[5], &mut of_kblocks);
-    let krows = file::global_rows(fd, m[6], &mut of_krows);
+    let rows = file::global_rows(fd, n.rows, &mut of_rows);
+    let panel = file::numbers(fd, n.panel, &mut of_panel);
+    let kpanel = file::numbers(fd, n.kpanel, &mut of_kpanel);
+    let kd = file::numbers(fd, n.kd, &mut of_kd);
+    let ksub = file::numbers(fd, n.ksub, &mut of_ksub);
+    let kblocks = file::bytes(fd, n.kblocks, &mut of_kblocks);
+    let krows = file::global_rows(fd, n.krows, &mut of_krows);
     let applied = update::update(
-        n[0],
-        n[1],
-        first[0],
+        n.ncol,
+        n.nrow,
+        n.first,
         rows,
         panel,
-        n[2],
-        n[3],
+        n.nk,
+        n.mk,
         kpanel,
         kd,
         ksub,

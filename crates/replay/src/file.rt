@@ -186,31 +186,36 @@ fn some_numbers_left(fd: i32, left: Left, got: &[f64]) -> bool
     same_numbers(&want, got)
 }
 
-pub(crate) fn numbers_left(fd: i32, left: Left, got: &[f64]) -> bool {
+// Whether the first n places of a room, or all that it has, hold what is to be left.
+
+pub(crate) fn numbers_left(fd: i32, left: Left, n: usize, room: &[f64]) -> bool {
+    let most = least(n, room.len());
     let mut same = true;
     let mut at = 0;
-    while at < got.len() {
-        let end = at + least(got.len() - at, NUMBERS);
-        same = some_numbers_left(fd, left, &got[at..end]) & same;
+    while at < most {
+        let end = at + least(most - at, NUMBERS);
+        same = some_numbers_left(fd, left, &room[at..end]) & same;
         at = end;
     }
     same
 }
 
-pub(crate) fn counts_left(fd: i32, left: Left, got: &[usize]) -> bool {
-    if got.len() > COUNTS {
+pub(crate) fn counts_left(fd: i32, left: Left, n: usize, room: &[usize]) -> bool {
+    let most = least(n, room.len());
+    if most > COUNTS {
         return false;
     }
     let mut want = blank(left);
-    fill(fd, left, got.len() * 2, &mut want);
-    same_counts(&want, got)
+    fill(fd, left, most * 2, &mut want);
+    same_counts(&want, &room[0..most])
 }
 
-pub(crate) fn bytes_left(fd: i32, left: Left, got: &[u8]) -> bool {
-    if got.len() > BYTES {
+pub(crate) fn bytes_left(fd: i32, left: Left, n: usize, room: &[u8]) -> bool {
+    let most = least(n, room.len());
+    if most > BYTES {
         return false;
     }
     let mut want = blank(left);
-    fill(fd, left, got.len(), &mut want);
-    same_bytes(&want, got)
+    fill(fd, left, most, &mut want);
+    same_bytes(&want, &room[0..most])
 }
