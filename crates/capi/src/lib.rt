@@ -10,7 +10,7 @@ ghost use Rattle.model.specs.Inertia.{inertiaOf};
 ghost use Rattle.model.specs.Assembly.{assemblyOf};
 ghost use Rattle.model.specs.Update.{updateOf};
 ghost use Rattle.assembly.specs.Call.{entriesOf};
-ghost use Rattle.update.specs.Call.{targetOf, descendantOf};
+ghost use Rattle.landing.specs.Nodes.{targetOf, descendantOf};
 ghost use Rattle.outcome.specs.Numbers.{inertiaNumbers};
 ghost use Rattle.capi.specs.Left.{settingsOf, FactorLeft, factorLeft, PanelLeft, panelLeft};
 use model::Settings;

@@ -1,6 +1,6 @@
 // Rows of the system (GlobalRow), rows of the target's panel (LocalRow) and its columns (Elim) are three types.
 // `local_row` is the one way from the first to the second, `column_of` the one way from the first to the third.
-// Both lists of rows rise, so a search goes on where the one before it ended.
+// Both lists of rows rise, so a search goes on where the one before it ended. `Shapes` has the sizes of both nodes.
 ghost use mathlib.Core.Path.{_≡_};
 ghost use Prim.Native.Nat.{_+_, _-_, _<_, _≤_, _^_};
 ghost use lib.Dec.{eqb};
@@ -18,6 +18,15 @@ use model::Elim;
 use model::GlobalRow;
 use model::LocalRow;
 use model::Refusal;
+
+// The target's columns and rows, and the global row of its first column; the descendant's columns, and rows below them.
+pub struct Shapes {
+    pub ncol: usize,
+    pub nrow: usize,
+    pub first: GlobalRow,
+    pub nk: usize,
+    pub mk: usize,
+}
 
 // Row i is below the one after it, if there is one.
 fn rises_at(rows: &[u32], i: usize) -> bool

@@ -28,13 +28,15 @@ use Rattle.model.proofs.Tabulated.{is-columnMajor}
 use Rattle.scan.proofs.Laws.{every-at}
 use Rattle.checks.specs.Answers.{answerOf, leaves}
 use Rattle.checks.proofs.Answers.{first-refuses, second-decides, leaves-done, leaves-refused}
+use Rattle.landing.specs.Nodes.{NumbersPre}
 use Rattle.landing.specs.Rows.{risesAt, standsAt, landsOn, landsAt, firstFrom, thereAt, LocatePre, Located}
-use Rattle.update.specs.Call.{listsCheck, columnsCheck, updatedPanel, columnsOf, Sizes, ListsPre, NumbersPre}
-use Rattle.update.specs.Apply.{rowsApplied, ApplyPre}
 use Rattle.landing.proofs.Scans.{First, first-is, place-all}
 use Rattle.landing.proofs.Order.{Rising, rising-is, rising-one, rising-place}
-use Rattle.update.proofs.Listed.{sizes}
-use Rattle.update.proofs.Closed.{Inverse, Lands, rows-hit, rows-miss}
+use Rattle.update_checks.specs.Lists.{listsCheck, Sizes}
+use Rattle.update_checks.proofs.Listed.{sizes}
+use Rattle.update_rows.specs.Apply.{rowsApplied, ApplyPre}
+use Rattle.update_rows.proofs.Closed.{Inverse, Lands, rows-hit, rows-miss}
+use Rattle.update.specs.Call.{columnsCheck, updatedPanel, columnsOf, ListsPre}
 
 -- ---- refusal 17: the rows from the first landing on, each sought among the target's
 

@@ -1,3 +1,2 @@
--- The update call's arguments and checks, and its numbers step by step.
+-- Refusals 17 and 18, what the update call leaves, and what its steps ask of their callers.
 pub mod Call
-pub mod Apply

@@ -1,29 +1,18 @@
 // A factored descendant's update of a target node: each of its rows that lands on a column of the target subtracts its
-// part of L·D·Lᵀ from that column, from the landing row on.
-// refusals.rt has refusals 13 to 16 and 18, apply.rt the numbers; crates/landing has the way from rows of the system to
-// rows of the panel. A reader may rely on `update` answering any arguments: it refuses and writes nothing, or the panel
-// is the definition's.
+// part of L·D·Lᵀ from that column, from the landing row on. Refusals 13 to 16 and 18 are update_checks', 17 is
+// landing's, the numbers update_rows'. A reader may rely on `update` answering any arguments: it refuses and writes
+// nothing, or the panel is the definition's.
 ghost use mathlib.Core.Path.{_≡_};
 ghost use lib.ListN.{length};
 ghost use Rattle.model.specs.Update.{updateOf};
 ghost use Rattle.checks.specs.Answers.{leaves};
-ghost use Rattle.update.specs.Call.{targetOf, descendantOf, columnsOf, ListsPre};
+ghost use Rattle.landing.specs.Nodes.{targetOf, descendantOf};
+ghost use Rattle.update.specs.Call.{columnsOf, ListsPre};
+use landing::Shapes;
 use model::Applied;
 use model::Check;
 use model::GlobalRow;
 use model::ROWS_MAX;
-
-mod apply;
-mod refusals;
-
-// The target's columns and rows, and the global row of its first column; the descendant's columns, and rows below them.
-pub(crate) struct Shapes {
-    pub ncol: usize,
-    pub nrow: usize,
-    pub first: GlobalRow,
-    pub nk: usize,
-    pub mk: usize,
-}
 
 // Refusals 17 and 18 and the update itself, of a descendant that has columns.
 fn update_columns(
@@ -51,11 +40,11 @@ fn update_columns(
     let Check::Sound = located else {
         return checks::answer(located);
     };
-    let checked = refusals::first_bad_column(s.nk, s.mk, kpanel, kd, ksub, kblocks);
+    let checked = update_checks::first_bad_column(s.nk, s.mk, kpanel, kd, ksub, kblocks);
     let Check::Sound = checked else {
         return checks::answer(checked);
     };
-    apply::update_rows(s, panel, kpanel, kd, ksub, kblocks, krows, &places, start);
+    update_rows::update_rows(s, panel, kpanel, kd, ksub, kblocks, krows, &places, start);
     Applied::Done
 }
 
@@ -90,7 +79,7 @@ pub fn update(
         nk,
         mk,
     };
-    let checked = refusals::lists_check(s, rows, &panel[..], kpanel, kd, ksub, kblocks, krows);
+    let checked = update_checks::lists_check(s, rows, &panel[..], kpanel, kd, ksub, kblocks, krows);
     let Check::Sound = checked else {
         return checks::answer(checked);
     };

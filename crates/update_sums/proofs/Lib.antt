@@ -1,0 +1,2 @@
+-- Laws of the sums of a landing row.
+pub mod Numbers

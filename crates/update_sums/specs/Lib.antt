@@ -1,0 +1,2 @@
+-- The sums of a landing row, and what their steps ask of their callers.
+pub mod Acc
