@@ -1,6 +1,4 @@
--- Laws of a column less the parts of one pivot or of two, of the sweeps over columns, of several columns at once, and that columns make the model's rows.
-pub mod Column
-pub mod Sweeps
-pub mod Several
+-- Laws of what the calls ask and of the pivots' own columns, of a step column by column, and that columns make the model's rows.
+pub mod Calls
 pub mod Steps
 pub mod Rows

@@ -12,15 +12,17 @@ use Rattle.model.specs.Head.{lastOf}
 use Rattle.model.specs.declared.Diagonal.{Diagonal}
 use Rattle.model.specs.declared.Diagonal.the-variants.{One, Two}
 use Rattle.model.proofs.Cases.{test}
+use Rattle.model.proofs.Exchanged.{place-same, place-under}
+use Rattle.model.proofs.Recorded.{last-from}
 use Rattle.grid.specs.Rules.{columnOf, columnsExchanged}
 use Rattle.whole.specs.Whole.{below}
 use Rattle.whole.proofs.Masked.{ranged}
-use Rattle.pairs.specs.Pairs.{stepOf, rowAfterBoth, lessAt, sweptFirst, sweptBoth, ownBy}
-use Rattle.model.proofs.Recorded.{last-from}
-use Rattle.model.proofs.Exchanged.{place-same, place-under}
-use Rattle.pairs.proofs.Sweeps.{place-other, place-from, less-same}
-use Rattle.pairs.proofs.Steps.{own-same, step-own, step-later, step-before, step-past, strip-in, strip-left, strip-right, strip-out}
-use Rattle.pairs.proofs.Steps.{own-in, own-left, own-right, own-out}
+use Rattle.less.specs.Less.{lessAt}
+use Rattle.less.proofs.Column.{less-same}
+use Rattle.swept.specs.Swept.{sweptFirst, sweptBoth}
+use Rattle.swept.proofs.Sweeps.{place-other, place-from, strip-in, strip-left, strip-right, strip-out}
+use Rattle.pairs.specs.Pairs.{stepOf, rowAfterBoth, ownBy}
+use Rattle.pairs.proofs.Steps.{own-same, step-own, step-later, step-before, step-past, own-in, own-left, own-right, own-out}
 
 -- ---- the exchange of a step by its kind
 

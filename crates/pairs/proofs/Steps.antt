@@ -1,4 +1,4 @@
--- A step by its kind, column by column, and what the sweeps and the own columns leave, place by place. Assumes nothing.
+-- A step by its kind, column by column, and what the own columns leave, place by place. Assumes nothing.
 use Prim.Native.Nat.{ℕ, _+_, _<_, _≤_}
 use mathlib.Core.Path.{_≡_}
 use mathlib.Core.Bool.{false, cond}
@@ -15,7 +15,8 @@ use Rattle.model.specs.declared.Diagonal.the-variants.{One, Two}
 use Rattle.model.proofs.Cases.{test, no}
 use Rattle.kernels.specs.Rules.{times, combined}
 use Rattle.grid.specs.Rules.{columnOf}
-use Rattle.pairs.specs.Pairs.{stepOf, lessAt, strip, ownBy}
+use Rattle.less.specs.Less.{lessAt}
+use Rattle.pairs.specs.Pairs.{stepOf, ownBy}
 
 -- ---- a step by its kind, column by column
 
@@ -50,24 +51,7 @@ module _ (k kp end : ℕ) (m1 m2 r : Row) (j : ℕ) where
   step-past (One d) h g = rw (ne-eqb j k (λ x. omega arith), le-ltb j end g, no (leb (k + 1) j))
   step-past (Two b) h g = rw (ne-eqb j k (λ x. omega arith), ne-eqb j (k + 1) (λ x. omega arith), le-ltb j end g, no (leb (k + 2) j))
 
--- ---- what the sweeps and the own columns leave, place by place
-
-module _ (M : Mat) (c e lo hi : ℕ) (F : ℕ → ℕ → Float → Float) (i j : ℕ) where
-  pub strip-in : c ≤ j → j < e → lo ≤ i → i < hi → strip M c e lo hi F i j ≡ F i j (M i j)
-  unfolding strip
-  strip-in h g v w = rw (le-leb c j h, lt-ltb j e g, le-leb lo i v, lt-ltb i hi w)
-
-  pub strip-left : j < c → strip M c e lo hi F i j ≡ M i j
-  unfolding strip
-  strip-left h = rw (lt-leb c j h)
-
-  pub strip-right : e ≤ j → strip M c e lo hi F i j ≡ M i j
-  unfolding strip
-  strip-right h = rw (le-ltb j e h, no (leb c j))
-
-  pub strip-out : within lo hi i ≡ false → strip M c e lo hi F i j ≡ M i j
-  unfolding strip
-  strip-out w = rw (w, no (within c e j))
+-- ---- what the own columns leave, place by place
 
 module _ (M : Mat) (k lo hi : ℕ) (i j : ℕ) where
   pub own-in : (x : Diagonal) → lo ≤ i → i < hi → k ≤ j → j ≤ lastOf k (isBlock x) → ownBy M k lo hi x i j ≡ ownAt x (M i) k j

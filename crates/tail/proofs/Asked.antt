@@ -18,7 +18,8 @@ use Rattle.diagonal.specs.Diagonal.{PivotPre}
 use Rattle.model.proofs.Cases.{test}
 use Rattle.grid.specs.Rules.{ExchangePre}
 use Rattle.model.proofs.Tabulated.{off-lt}
-use Rattle.pairs.specs.Pairs.{PartPre, StepPre, PairPre}
+use Rattle.swept.specs.Swept.{PartPre, PairPre}
+use Rattle.pairs.specs.Pairs.{StepPre}
 use Rattle.tail.specs.Tail.{TailPre, StepsPre, HerePre, LentPre, ReadPre}
 
 -- ---- the record of pivots

@@ -12,8 +12,8 @@ use Rattle.model.specs.declared.Diagonal.{Diagonal}
 use Rattle.model.specs.declared.Diagonal.the-variants.{One, Two}
 use Rattle.model.proofs.Cases.{test}
 use Rattle.whole.proofs.Masked.{one-alike, two-alike}
+use Rattle.swept.proofs.Sweeps.{place-from}
 use Rattle.pairs.specs.Pairs.{stepOf}
-use Rattle.pairs.proofs.Sweeps.{place-from}
 use Rattle.tail.specs.Tail.{fromColumn}
 
 -- ---- from k on

@@ -3,7 +3,8 @@ use mathlib.Core.Path.{_≡_, refl, _∙_}
 use native.Mathlib.Omega.{arith}
 use lib.ListN.{length}
 use borrow.Author.Needs.{needs}
-use Rattle.pairs.proofs.Sweeps.{placed, first-exchange, second-exchange, first-sweep, both-sweep, first-own, second-own, first-fits, last-fits}
+use Rattle.swept.proofs.Sweeps.{placed}
+use Rattle.pairs.proofs.Calls.{first-exchange, second-exchange, first-sweep, both-sweep, first-own, second-own, first-fits, last-fits}
 use Rattle.pairs.proofs.Rows.{pair-rows}
 use Rattle.pairs.proofs.below_pair.Statement.{statement}
 use Rattle.pairs.proofs.below_pair.Tie as tie

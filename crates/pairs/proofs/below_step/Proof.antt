@@ -1,7 +1,7 @@
 -- `pairs::below_step` meets its contract: the exchange, the sweep and the own columns make the model's rows. Assumes nothing.
 use mathlib.Core.Path.{_∙_}
 use borrow.Author.Needs.{needs}
-use Rattle.pairs.proofs.Sweeps.{last-in, step-exchange, step-sweep, step-own, first-fits}
+use Rattle.pairs.proofs.Calls.{last-in, step-exchange, step-sweep, step-own, first-fits}
 use Rattle.pairs.proofs.Rows.{step-rows}
 use Rattle.pairs.proofs.below_step.Statement.{statement}
 use Rattle.pairs.proofs.below_step.Tie as tie

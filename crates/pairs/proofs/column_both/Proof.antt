@@ -1,6 +1,7 @@
 -- `pairs::column_both` meets its contract: the first pivot's multipliers are those of the row that the column stood in. Assumes nothing.
 use borrow.Author.Needs.{needs}
-use Rattle.pairs.proofs.Sweeps.{placed, both-kept, both-kept-next, second-kept, second-kept-next, later-than-both, both-turn}
+use Rattle.less.proofs.Column.{both-turn}
+use Rattle.swept.proofs.Sweeps.{placed, both-kept, both-kept-next, second-kept, second-kept-next, later-than-both}
 use Rattle.pairs.proofs.column_both.Statement.{statement}
 use Rattle.pairs.proofs.column_both.Tie as tie
 

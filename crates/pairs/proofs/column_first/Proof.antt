@@ -1,6 +1,7 @@
 -- `pairs::column_first` meets its contract: the multipliers are those of the row that the column stood in. Assumes nothing.
 use borrow.Author.Needs.{needs}
-use Rattle.pairs.proofs.Sweeps.{first-kept, first-kept-next, later-than-first, first-turn}
+use Rattle.less.proofs.Column.{first-turn}
+use Rattle.pairs.proofs.Calls.{first-kept, first-kept-next, later-than-first}
 use Rattle.pairs.proofs.column_first.Statement.{statement}
 use Rattle.pairs.proofs.column_first.Tie as tie
 

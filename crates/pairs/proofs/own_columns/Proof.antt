@@ -1,6 +1,6 @@
 -- `pairs::own_columns` meets its contract, for a 1x1 and for a block. Assumes nothing.
 use borrow.Author.Needs.{needs}
-use Rattle.pairs.proofs.Sweeps.{rows-one, rows-two, fits-two, own-one, own-two}
+use Rattle.pairs.proofs.Calls.{rows-one, rows-two, fits-two, own-one, own-two}
 use Rattle.pairs.proofs.own_columns.Statement.{statement}
 use Rattle.pairs.proofs.own_columns.Tie as tie
 

@@ -5,9 +5,9 @@ use native.Mathlib.Omega.{arith}
 use lib.ListN.{length}
 use borrow.Author.Needs.{needs}
 use Rattle.model.specs.Matrix.{view}
-use Rattle.pairs.specs.Pairs.{sweptBoth}
-use Rattle.pairs.proofs.Sweeps.{placed, both-none, both-end}
-use Rattle.pairs.proofs.Several.{both-join}
+use Rattle.swept.specs.Swept.{sweptBoth}
+use Rattle.swept.proofs.Sweeps.{placed, both-none, both-end}
+use Rattle.swept.proofs.Several.{both-join}
 use Rattle.pairs.proofs.sweep_both.Statement.{statement}
 use Rattle.pairs.proofs.sweep_both.Tie as tie
 

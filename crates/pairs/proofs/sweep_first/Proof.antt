@@ -5,8 +5,9 @@ use native.Mathlib.Omega.{arith}
 use lib.ListN.{length}
 use borrow.Author.Needs.{needs}
 use Rattle.model.specs.Matrix.{view}
-use Rattle.pairs.specs.Pairs.{sweptFirst}
-use Rattle.pairs.proofs.Sweeps.{sweep-column, first-none, first-step, first-end}
+use Rattle.swept.specs.Swept.{sweptFirst}
+use Rattle.swept.proofs.Sweeps.{first-none, first-step, first-end}
+use Rattle.pairs.proofs.Calls.{sweep-column}
 use Rattle.pairs.proofs.sweep_first.Statement.{statement}
 use Rattle.pairs.proofs.sweep_first.Tie as tie
 

@@ -1,6 +1,6 @@
 -- `pairs::sweep_next` meets its contract: several columns, or one. Assumes nothing.
 use borrow.Author.Needs.{needs}
-use Rattle.pairs.proofs.Several.{both-more}
+use Rattle.swept.proofs.Several.{both-more}
 use Rattle.pairs.proofs.sweep_next.Statement.{statement}
 use Rattle.pairs.proofs.sweep_next.Tie as tie
 

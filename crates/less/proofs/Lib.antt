@@ -1,0 +1,2 @@
+-- Laws of a column less the parts of one pivot or of two.
+pub mod Column
