@@ -1,3 +1,4 @@
--- Laws of scans over rows, and of the descendant's places among the target's rows.
+-- Laws of scans over rows, of the descendant's places among the target's rows, and of refusal 17.
 pub mod Scans
 pub mod Order
+pub mod Absent

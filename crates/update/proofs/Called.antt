@@ -1,9 +1,9 @@
--- Laws of the update call: refusal 17 from the places that were sought, the panel from the rows that were applied, and what the call leaves.
+-- Laws of the update call: the panel from the rows that were applied, and what the call leaves.
 -- Assumes nothing.
 use mathlib.Core.Path.{_≡_, refl, sym, _∙_, ap}
 use mathlib.Core.Bool.{true, false, cond, not, _&&_}
 use mathlib.Core.List.{List}
-use Prim.Native.Nat.{ℕ, zero, suc, _+_, _-_, _≤_, _<_}
+use Prim.Native.Nat.{ℕ, _+_, _-_, _≤_, _<_}
 use native.Mathlib.Omega.{arith}
 use borrow.Author.Tests.{lt-ltb, le-leb, lt-leb, eqb-true, ltb-true, ltb-false, leb-true, leb-false}
 use lib.Dec.{leb, ltb}
@@ -31,43 +31,13 @@ use Rattle.checks.proofs.Answers.{first-refuses, second-decides, leaves-done, l
 use Rattle.landing.specs.Nodes.{NumbersPre}
 use Rattle.landing.specs.Rows.{risesAt, standsAt, landsOn, landsAt, firstFrom, thereAt, LocatePre, Located}
 use Rattle.landing.proofs.Scans.{First, first-is, place-all}
+use Rattle.landing.proofs.Absent.{absent-is}
 use Rattle.landing.proofs.Order.{Rising, rising-is, rising-one, rising-place}
 use Rattle.update_checks.specs.Lists.{listsCheck, Sizes}
 use Rattle.update_checks.proofs.Listed.{sizes}
 use Rattle.update_rows.specs.Apply.{rowsApplied, ApplyPre}
 use Rattle.update_rows.proofs.Closed.{Inverse, Lands, rows-hit, rows-miss}
 use Rattle.update.specs.Call.{columnsCheck, updatedPanel, columnsOf, ListsPre}
-
--- ---- refusal 17: the rows from the first landing on, each sought among the target's
-
-module _ (t : Target) (krows : ℕ → ℕ) (len : length (t .rows) ≡ t .nrow) where
-  -- past a landing every row is sought
-  absent-landed : (m i : ℕ) → absentFrom t krows m i true ≡ firstNot (thereAt (t .rows) krows) AbsentRow m i
-  unfolding absentFrom firstNot thereAt
-  absent-landed zero i = refl
-  absent-landed (suc m) i =
-      rw len (test (ltb (placeFrom (naturals (t .rows)) (krows i) (t .nrow) 0) (t .nrow))
-      (λ e. rw e (absent-landed m (i + 1))) (λ e. rw e))
-
-  abbrev landing : ℕ → ℕ → ℕ
-  landing m i = firstFrom (landsAt (t .first) (t .ncol) krows) m i
-
-  -- before it none is
-  absent-start : (m i : ℕ) → absentFrom t krows m i false ≡ absentFrom t krows (i + m - landing m i) (landing m i) true
-  unfolding absentFrom firstFrom landsAt landsOn
-  absent-start zero i = let e : i + 0 - i ≡ 0 = omega arith in rw e
-  absent-start (suc m) i =
-      let f : First (landsAt (t .first) (t .ncol) krows) (i + 1) (i + 1 + m) (landing m (i + 1)) = first-is (landsAt (t .first) (t .ncol) krows) m (i + 1) in
-      test (leb (t .first) (krows i) && ltb (krows i) (t .first + t .ncol))
-      (λ e. let z : i + suc m - i ≡ suc m = omega arith in rw (e, z))
-      (λ e. let z : i + suc m - landing m (i + 1) ≡ i + 1 + m - landing m (i + 1) = omega arith in
-      rw (e, z) (absent-start m (i + 1)))
-
-  pub absent-is : (m start : ℕ) → start ≡ firstFrom (landsAt (t .first) (t .ncol) krows) m 0
-      → absentFrom t krows m 0 false ≡ firstNot (thereAt (t .rows) krows) AbsentRow (m - start) start
-  absent-is m start e =
-      let z : 0 + m - start ≡ m - start = omega arith in
-      absent-start m 0 ∙ rw (← e, z) (absent-landed (m - start) start)
 
 -- ---- the panel: `start` is the first landing row, `places` where the rows from there on stand
 
