@@ -1,3 +1,2 @@
--- Laws of the buffers before the first panel and after a refusal, and of the look at the result.
+-- Laws of the buffers before the first panel and after a refusal.
 pub mod Buffers
-pub mod Result

@@ -1,3 +1,2 @@
--- What the functions around the elimination leave, and what they ask of their callers.
+-- The buffers before the first panel and after a refusal, and what the functions ask of their callers.
 pub mod Buffers
-pub mod Result

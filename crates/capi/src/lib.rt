@@ -71,7 +71,7 @@ pub extern "C" fn misuktaan_lift(floor: f64, d: f64) -> f64
 pub extern "C" fn misuktaan_sqrt(x: f64) -> f64
     ensures { λ r. ⌜ r ≡ sqrtOf x ⌝ }
 {
-    scalar::sqrt(x)
+    square_root::sqrt(x)
 }
 
 // ---- the calls

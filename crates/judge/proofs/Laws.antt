@@ -18,7 +18,7 @@ use Rattle.model.specs.declared.Factored.the-variants.{Refused}
 use Rattle.scan.specs.Marks.{tailMarks}
 use Rattle.checks.proofs.Bytes.{bytes-paired}
 use Rattle.buffers.specs.Buffers.{buffersOf}
-use Rattle.buffers.specs.Result.{ResultPre}
+use Rattle.soundness.specs.Result.{ResultPre}
 use Rattle.judge.specs.Judge.{outcomeOf, acceptOf, judgeOf, JudgePre}
 
 -- an accepted outcome, by its rounds, its counts and what is left

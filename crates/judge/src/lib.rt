@@ -66,7 +66,7 @@ pub fn judge(
         (now (work .entry))) ⌝ }
 {
     let finite = scan::known_finite(panel, c.ncol, c.nrow);
-    let found = buffers::first_unsound(panel, d, sub, blocks, c.nrow, c.ncol, finite);
+    let found = soundness::first_unsound(panel, d, sub, blocks, c.nrow, c.ncol, finite);
     if let Check::Refused(r) = found {
         buffers::zero_all(panel, d, sub, blocks, lifts, amounts, order, marks, work);
         return Factored::Refused(r);

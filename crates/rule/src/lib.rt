@@ -70,7 +70,7 @@ impl PivotRule {
         if (PivotRule::LEAST_SQUARE < square) & scalar::is_finite(square) {
             return scalar::magnitude(x);
         }
-        scalar::sqrt(square)
+        square_root::sqrt(square)
     }
 
     // The last two tests at k, where the diagonal's magnitude, own, has lost the first against colmax, the greatest of
@@ -145,7 +145,7 @@ impl PivotRule {
     fn lift_step(floor: f64, b: Block) -> f64
         ensures { λ r. ⌜ r ≡ liftStepOf floor b ⌝ }
     {
-        scalar::maximum(floor, scale(b) * scalar::sqrt(PivotRule::GROWTH_EPS))
+        scalar::maximum(floor, scale(b) * square_root::sqrt(PivotRule::GROWTH_EPS))
     }
 
     // A block whose diagonals are raised, a step a round, until its determinant is not below the bar. The Rust has no

@@ -1,3 +1,2 @@
--- Laws of the square root's steps, and of the tests and the bits that the other leaves go by.
-pub mod Steps
+-- Laws of the tests and the bits that the leaves go by.
 pub mod Leaves

@@ -1,0 +1,2 @@
+-- Laws of the look at the result.
+pub mod Result

@@ -1,0 +1,2 @@
+-- Laws of the square root's steps.
+pub mod Steps
