@@ -24,7 +24,7 @@ use Rattle.model.specs.declared.Check.{Check}
 use Rattle.model.specs.declared.Check.the-variants.{Sound, Refused}
 use Rattle.model.proofs.Cases.{and-left, and-right}
 use Rattle.model.proofs.Entry.{first-sound, second-sound, not-refused}
-use Rattle.scan.specs.Finite.{PanelPre}
+use Rattle.total.specs.Finite.{PanelPre}
 use Rattle.checks.proofs.Shape as shape
 use Rattle.checks.proofs.Answers.{first-refuses, second-decides}
 use Rattle.entry.specs.Entry.{LengthsPre}

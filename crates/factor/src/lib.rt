@@ -5,8 +5,6 @@
 // 9, or accepted).
 ghost use mathlib.Core.Path.{_≡_};
 ghost use Prim.Native.Nat.{min, max};
-ghost use lib.ListN.{length};
-ghost use Rattle.model.specs.Matrix.{view};
 ghost use Rattle.model.specs.Factor.{entryCheck, factorOf};
 ghost use Rattle.model.specs.declared.Check.the-variants.{Sound};
 ghost use Rattle.buffers.specs.Buffers.{buffersOf};

@@ -3,7 +3,7 @@
 ghost use mathlib.Core.Path.{_≡_};
 ghost use lib.ListN.{length};
 ghost use Rattle.model.specs.Matrix.{view};
-ghost use Rattle.scan.specs.Finite.{KnownFinite};
+ghost use Rattle.total.specs.Finite.{KnownFinite};
 ghost use Rattle.buffers.specs.Buffers.{buffersOf};
 ghost use Rattle.judge.specs.Judge.{outcomeOf, acceptOf, judgeOf, JudgePre};
 use model::Check;
@@ -65,7 +65,7 @@ pub fn judge(
         (now (blocks .entry)) (now (lifts .entry)) (now (amounts .entry)) (now (order .entry)) (now (marks .entry))
         (now (work .entry))) ⌝ }
 {
-    let finite = scan::known_finite(panel, c.ncol, c.nrow);
+    let finite = total::known_finite(panel, c.ncol, c.nrow);
     let found = soundness::first_unsound(panel, d, sub, blocks, c.nrow, c.ncol, finite);
     if let Check::Refused(r) = found {
         buffers::zero_all(panel, d, sub, blocks, lifts, amounts, order, marks, work);

@@ -20,7 +20,7 @@ use Rattle.model.specs.Scalar.{_⊗_, zeroF, isFinite, magnitudeOf, squareOf}
 use Rattle.model.specs.Root.{sqrtOf}
 use Rattle.model.proofs.Cases.{and-left, and-right}
 use Rattle.model.proofs.Nearest.{Nearer, pow-le-back, placed, asked, multiple, sqrt-rounds, held as digits-of}
-use Rattle.scan.specs.Greatest.{SquareOf}
+use Rattle.greatest.specs.Greatest.{SquareOf}
 use Rattle.rule.proofs.Units.{mul-of, held}
 use Rattle.rule.proofs.Reach.{same-units, zero-below, finite-is}
 use Rattle.rule.proofs.Nearby.{Squared, squared, root-back}

@@ -15,8 +15,8 @@ use Rattle.model.specs.declared.Choice.the-variants.{ZeroColumn, Single, Block}
 use Rattle.model.proofs.Bounds.{Chosen, choose-in}
 use Rattle.grid.specs.Grid.{In}
 use Rattle.grid.proofs.Laws.{in-panel, col-in}
-use Rattle.scan.specs.Greatest.{Within, SquareOf, ColumnPre, AcrossPre}
-use Rattle.scan.proofs.Squares.{greatest-keeps}
+use Rattle.greatest.specs.Greatest.{Within, SquareOf, ColumnPre, AcrossPre}
+use Rattle.greatest.proofs.Squares.{greatest-keeps}
 use Rattle.rule.specs.Chosen.{byRow, ChosenWithin}
 use Rattle.rule.specs.Reach.{Reaches, ReachPre}
 use Rattle.rule.proofs.Units.{ahead-unsigned, ahead-round}

@@ -9,7 +9,7 @@ use Rattle.model.specs.Choice.{rowGreatest}
 use Rattle.model.specs.declared.LocalRow.{LocalRow}
 use Rattle.model.specs.declared.Choice.{Choice}
 use Rattle.model.specs.declared.Choice.the-variants.{ZeroColumn, Single, Block}
-use Rattle.scan.specs.Greatest.{Within}
+use Rattle.greatest.specs.Greatest.{Within}
 
 -- the rows exchanged stand within the panel that ends at ke, a block's second one below k, so that a block never crosses ke
 abbrev pub ChosenWithin : ℕ → ℕ → Choice → Type 0

@@ -8,7 +8,7 @@ ghost use Rattle.model.specs.Root.{sqrtOf, alpha};
 ghost use Rattle.model.specs.Matrix.{view};
 ghost use Rattle.model.specs.Choice.{chooseOf};
 ghost use Rattle.model.specs.Head.{settledOne, settledTwo, raisedFrom, scaleOf, growthFloorOf, barOf, liftStepOf};
-ghost use Rattle.scan.specs.Greatest.{ColumnPre, Within, SquareOf};
+ghost use Rattle.greatest.specs.Greatest.{ColumnPre, Within, SquareOf};
 ghost use Rattle.rule.specs.Chosen.{byRow, ChosenWithin};
 ghost use Rattle.rule.specs.Reach.{Reaches, ReachPre};
 use model::Block;
@@ -90,8 +90,8 @@ impl PivotRule {
         requires { ⌜ Within (k .0) ke (imax .0) ⌝ }
         ensures { λ r. ⌜ r ≡ byRow (view nrow (now (panel .entry))) (k .0) ke own colmax imax ⌝ }
     {
-        let row = scan::row_greatest(panel, nrow, ncol, k, ke, imax);
-        let rowmax = PivotRule::root_of(row.square, scan::across(panel, nrow, imax, row.at));
+        let row = greatest::row_greatest(panel, nrow, ncol, k, ke, imax);
+        let rowmax = PivotRule::root_of(row.square, greatest::across(panel, nrow, imax, row.at));
         if own >= PivotRule::threshold(colmax) * (colmax / rowmax) {
             return Choice::Single(LocalRow(k.0));
         }
@@ -112,7 +112,7 @@ impl PivotRule {
         ensures { λ r. ⌜ ChosenWithin (k .0) ke r ⌝ }
     {
         let own = scalar::magnitude(grid::get(panel, nrow, k.0, k.0));
-        let column = scan::column_greatest(panel, nrow, ncol, k, ke);
+        let column = greatest::column_greatest(panel, nrow, ncol, k, ke);
         if PivotRule::reaches(own, column.square) {
             return Choice::Single(LocalRow(k.0));
         }

@@ -1,5 +1,5 @@
 -- Laws of numbers that are finite: a mark, a list, a column, the lower positions, a turn of the scan's rows and of its columns. Assumes nothing.
-use Prim.Native.Nat.{ℕ, zero, suc, _+_, _-_, _*_, _<_, _≤_}
+use Prim.Native.Nat.{ℕ, zero, suc, _+_, _-_, _<_, _≤_}
 use mathlib.Core.Path.{_≡_, refl, sym, _∙_, ap}
 use mathlib.Core.Bool.{Bool, true, false, not, cond, _&&_}
 use mathlib.Core.List.{List}
@@ -10,7 +10,7 @@ use borrow.Rule.Slice.PartMut.{midOf}
 use lib.Dec.{eqb}
 use lib.ListN.{getD}
 use lib.Ieee.{Float, nan}
-use Rattle.model.specs.Scalar.{zeroF, isFinite}
+use Rattle.model.specs.Scalar.{isFinite}
 use Rattle.model.specs.Matrix.{Row, Mat, columnStart, view, vec}
 use Rattle.model.specs.Answer.{orElse}
 use Rattle.model.specs.Factor.{everyFrom, columnCheck, columnsCheck, markOf}
@@ -18,12 +18,11 @@ use Rattle.model.specs.declared.Refusal.the-variants.{Input}
 use Rattle.model.specs.declared.Check.{Check}
 use Rattle.model.specs.declared.Check.the-variants.{Sound, Refused}
 use Rattle.model.proofs.Cases.{test, one-left, none-left, and-left, and-right}
-use Rattle.grid.proofs.Laws.{col-in}
 use Rattle.grid.proofs.Parts.{column-at}
-use Rattle.scan.specs.Greatest.{DownPre}
-use Rattle.scan.specs.Finite.{markedBy, finiteFrom, columnSum, sumFinite, columnFinite, lowerFinite, firstRow, KnownFinite}
-use Rattle.scan.proofs.Sums.{sum-term, of-term}
-use Rattle.scan.proofs.Laws.{every-last, every-same, every-at, every-of}
+use Rattle.total.specs.Finite.{sumFinite, columnFinite, lowerFinite, KnownFinite}
+use Rattle.total.proofs.Finite.{every-of, sum-known}
+use Rattle.scan.specs.Finite.{markedBy, finiteFrom, firstRow}
+use Rattle.scan.proofs.Laws.{every-last, every-same, every-at}
 
 -- ---- a mark, the numbers of a list, and of a column
 
@@ -65,20 +64,7 @@ column-lent xs n j s lo hi b at u h e =
 
 -- ---- the lower positions
 
--- where the pass answers yes, every lower position is finite
-pub sum-known : (a : Mat) (n c : ℕ) (b : Bool) → b ≡ sumFinite a n c → KnownFinite b a n c
-unfolding sumFinite columnSum lowerFinite columnFinite
-sum-known a n c b e =
-    let column : (j : ℕ) → j < c → b ≡ true → isFinite (columnSum a n j) ≡ true =
-    λ j h y. ap (λ (i : ℕ). isFinite (columnSum a n i)) (omega arith) ∙ sum-term (columnSum a n) 0 c zeroF j (sym e ∙ y) h in
-    record {
-      all =
-          λ y. every-of (λ j. columnFinite a j j n) c 0 (λ j h.
-          every-of (λ i. isFinite (a i (0 + j))) (n - (0 + j)) (0 + j) (λ k g.
-          of-term (λ i. a (0 + j + i) (0 + j)) (n - (0 + j)) k (column (0 + j) (omega arith) y) g));
-    }
-
--- so is a part of a column below its diagonal
+-- where the lower positions are known to be finite, so is a part of a column below its diagonal
 pub known-column : (a : Mat) (b : Bool) (n c j lo hi : ℕ) → KnownFinite b a n c → b ≡ true → j < c → j ≤ lo → hi ≤ n → true ≡ columnFinite a j lo hi
 unfolding lowerFinite columnFinite
 known-column a b n c j lo hi w e g l h =
@@ -139,9 +125,6 @@ module _ (a : Mat) (n c j i : ℕ) (x : Float) (b : Bool) (C : Check) (h : i < n
   pub row-stop : not b ≡ true → Refused (Input (record { 0 = j }) (record { 0 = i })) ≡ C
   unfolding columnCheck
   row-stop f = let t : isFinite (a i j) ≡ false = sym at ∙ not-true b f in sym (p ∙ rw (one-left n i h, t))
-
-pub scan-pre : (n c j len : ℕ) → c ≤ n → len ≡ n * c → j < c → DownPre n j j n len
-scan-pre n c j len h e l = record { up = omega arith; rows = omega arith; there = col-in n c j len e l }
 
 pub row-none : (a : Mat) (n c j r : ℕ) (C : Check) → j < c → C ≡ columnsCheck a n (c - j) j → r ≡ firstRow a n j → C ≡ fromHere a n c j r
 unfolding columnsCheck

@@ -1,19 +1,11 @@
--- Laws of offsets and of tests at every place. Assumes nothing.
-use Prim.Native.Nat.{ℕ, zero, suc, _+_, _*_, _<_, _≤_}
+-- Laws of a test at every place: one place more, by another rule, and what it says of one place. Assumes nothing.
+use Prim.Native.Nat.{ℕ, zero, suc, _+_, _<_}
 use mathlib.Core.Path.{_≡_, refl, _∙_, ap}
 use mathlib.Core.Bool.{Bool, true, false, _&&_}
-use native.Mathlib.Nat.{mul-le-mul-right, suc-mul, not-suc-le-zero, le-of-suc-le-suc}
+use native.Mathlib.Nat.{not-suc-le-zero, le-of-suc-le-suc}
 use native.Mathlib.Omega.{arith}
 use Rattle.model.specs.Factor.{everyFrom}
 use Rattle.model.proofs.Cases.{and-left, and-right}
-use Rattle.grid.specs.Grid.{In}
-
--- ---- a row's entry in the columns before hi
-
-pub row-in : (n hi i j len : ℕ) → i < n → j < hi → hi * n ≤ len → In n i j len
-row-in n hi i j len r g h = record { row = r; off = omega (arith, mul-le-mul-right n g, suc-mul j n) }
-
--- ---- every place
 
 and-true : (b : Bool) → b && true ≡ b
 and-true true = refl
@@ -45,10 +37,3 @@ unfolding everyFrom
 every-at f zero i k e h = absurd (not-suc-le-zero h)
 every-at f (suc n) i zero e h = ap f (omega arith) ∙ and-left (f i) _ e
 every-at f (suc n) i (suc k) e h = ap f (omega arith) ∙ every-at f n (i + 1) k (and-right (f i) _ e) (le-of-suc-le-suc h)
-
-pub every-of : (f : ℕ → Bool) (n i : ℕ) → ((k : ℕ) → k < n → f (i + k) ≡ true) → everyFrom f n i ≡ true
-unfolding everyFrom
-every-of f zero i h = refl
-every-of f (suc n) i h =
-    let here : f i ≡ true = ap f (omega arith) ∙ h 0 (omega arith) in
-    rw here (every-of f n (i + 1) (λ k l. ap f (omega arith) ∙ h (suc k) (omega arith)))

@@ -23,11 +23,6 @@ marked ms a lo hi j = tabulate (hi - lo) (λ i. markedBy (naturals ms i) (a (lo 
 unfoldable pub tailMarks : Mat → ℕ → ℕ → ℕ → List ℕ
 tailMarks a lo hi c = tabulate (hi - lo) (λ i. markOf c (a (lo + i)))
 
--- n marks, and as many numbers
-pub record ColumnMarksPre (n marks column : ℕ) : Type 0 where
-  pub first : n ≤ marks
-  pub second : n ≤ column
-
 -- rows c up to n of column j, and as many marks
 pub record TailColumnPre (n c j len marks : ℕ) : Type 0 where
   pub rows : c ≤ n

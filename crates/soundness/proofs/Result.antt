@@ -17,8 +17,8 @@ use Rattle.model.specs.declared.Check.{Check}
 use Rattle.model.specs.declared.Check.the-variants.{Sound, Refused}
 use Rattle.diagonal.specs.Diagonal.{BlockPre}
 use Rattle.grid.proofs.Laws.{col-in}
-use Rattle.scan.specs.Finite.{columnFinite, KnownFinite}
-use Rattle.scan.specs.Greatest.{DownPre}
+use Rattle.total.specs.Finite.{columnFinite, KnownFinite}
+use Rattle.grid.specs.Grid.{DownPre}
 use Rattle.scan.proofs.Finite.{known-column}
 use Rattle.soundness.specs.Result.{blockSound, HeadPre, PivotsPre, ResultPre}
 

@@ -7,7 +7,7 @@ ghost use lib.ListN.{length};
 ghost use Rattle.model.specs.Matrix.{view};
 ghost use Rattle.model.specs.Step.{diagonalsOf};
 ghost use Rattle.model.specs.Factor.{pivotSound, columnSound, resultCheck};
-ghost use Rattle.scan.specs.Finite.{columnFinite, KnownFinite};
+ghost use Rattle.total.specs.Finite.{columnFinite, KnownFinite};
 ghost use Rattle.soundness.specs.Result.{blockSound, HeadPre, PivotsPre, ResultPre};
 use model::Block;
 use model::Check;

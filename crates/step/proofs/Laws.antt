@@ -24,7 +24,7 @@ use Rattle.model.specs.declared.TwoSettled as two
 use Rattle.model.proofs.Bounds.{Good, try-good}
 use Rattle.grid.specs.Grid.{In}
 use Rattle.grid.proofs.Laws.{in-panel}
-use Rattle.scan.specs.Greatest.{Within}
+use Rattle.greatest.specs.Greatest.{Within}
 use Rattle.eliminate.specs.Eliminate.{TwoPre}
 use Rattle.rule.specs.Chosen.{ChosenWithin}
 use Rattle.step.specs.Answers.{tried, byMode, singleOf, twoOf}

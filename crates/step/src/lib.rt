@@ -5,7 +5,7 @@ ghost use mathlib.Core.Path.{_≡_};
 ghost use Prim.Native.Nat.{_+_};
 ghost use lib.ListN.{length};
 ghost use Rattle.model.specs.Matrix.{view, exchanged};
-ghost use Rattle.scan.specs.Greatest.{Within};
+ghost use Rattle.greatest.specs.Greatest.{Within};
 ghost use Rattle.model.specs.Head.{tryOf};
 ghost use Rattle.eliminate.specs.Eliminate.{inPanel};
 ghost use Rattle.model.specs.Step.{blockIn};

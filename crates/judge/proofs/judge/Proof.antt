@@ -1,6 +1,6 @@
 -- `judge::judge` meets its contract: refusal 9 leaves zeros, else the call is accepted. Assumes nothing.
 use Rattle.model.specs.Factor.{Buffers, Outcome}
-use Rattle.scan.proofs.Finite.{sum-known}
+use Rattle.total.proofs.Finite.{sum-known}
 use Rattle.buffers.specs.Buffers.{buffersOf}
 use Rattle.judge.specs.Judge.{outcomeOf}
 use Rattle.judge.proofs.Laws.{result-pre, judge-refused, judge-accepted}

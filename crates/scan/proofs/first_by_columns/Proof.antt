@@ -10,7 +10,8 @@ use Rattle.model.specs.Factor.{columnsCheck}
 use Rattle.model.specs.declared.Refusal.the-variants.{Input}
 use Rattle.model.specs.declared.Check.the-variants.{Refused}
 use Rattle.grid.proofs.Laws.{in-panel}
-use Rattle.scan.proofs.Finite.{fromHere, scan-pre, first-low, first-high, row-none, row-step, row-stop, row-end, column-none, column-end}
+use Rattle.total.proofs.Finite.{scan-pre}
+use Rattle.scan.proofs.Finite.{fromHere, first-low, first-high, row-none, row-step, row-stop, row-end, column-none, column-end}
 use Rattle.scan.proofs.first_by_columns.Statement.{statement}
 use Rattle.scan.proofs.first_by_columns.Tie as tie
 

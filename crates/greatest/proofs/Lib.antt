@@ -1,0 +1,2 @@
+-- Laws of the greatest square.
+pub mod Squares

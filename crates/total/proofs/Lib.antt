@@ -1,0 +1,3 @@
+-- Laws of the sum, and of what it tells, lowest first.
+pub mod Sums
+pub mod Finite
