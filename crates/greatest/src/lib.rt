@@ -1,7 +1,7 @@
-// The greatest square below a diagonal and across a row, for the tests of the pivot rule. A reader may rely on the
-// contracts: each scan equals its definition in crates/model, not-a-number, ties and signed zeros included, and the place
-// that it names holds the number of its square (`FoundIn`). No upper position (row < column) is read: tests/upper.c sees
-// to it, since no contract can say what is not read.
+// The greatest square below a diagonal, and across a row and its column, for the tests of the pivot rule. A reader may
+// rely on the contracts: each scan equals its definition in crates/model, not-a-number, ties and signed zeros included,
+// and its square is 0 or that of the number at the place it names (`FoundIn`). No scan reads an upper position
+// (row < column): tests/upper.c sees to it, since no contract can say what is not read.
 ghost use mathlib.Core.Path.{_≡_};
 ghost use lib.ListN.{length};
 ghost use Rattle.model.specs.Scalar.{squareOf};

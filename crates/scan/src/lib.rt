@@ -1,6 +1,6 @@
-// Scans that only read a panel: the first number that is not finite, and the marks of the tail. A reader may rely on the
-// contracts: each scan equals its definition in crates/model, not-a-number and infinities included. No scan reads an
-// upper position (row < column): tests/upper.c sees to it, since no contract can say what is not read.
+// Scans that only read a panel: the first number that is not finite, and the marks of the tail. A reader may rely on
+// the contracts: each scan equals its definition in crates/model, infinities and not-a-number included. No scan reads
+// an upper position (row < column): tests/upper.c sees to it, since no contract can say what is not read.
 ghost use mathlib.Core.Path.{_≡_};
 ghost use Prim.Native.Nat.{_≤_};
 ghost use lib.ListN.{length};

@@ -148,7 +148,8 @@ long-end f n i s t a b h ea eb es et =
 sixteen-term : (f : Row) (p m : ℕ) (s : Float) (k : ℕ) → isFinite (sumFrom (sixteen f p) 0 m s) ≡ true → k < 8 * m → isFinite (f (2 * k + p)) ≡ true
 unfolding sixteen
 sixteen-term f p m s k e h =
-    ap (λ (i : ℕ). isFinite (f i)) (omega arith) ∙ eight-terms f (16 * (0 + k / 8) + p) (sum-term (sixteen f p) 0 m s (k / 8) e (omega arith)) (k % 8) (omega arith)
+    ap (λ (i : ℕ). isFinite (f i)) (omega arith)
+    ∙ eight-terms f (16 * (0 + k / 8) + p) (sum-term (sixteen f p) 0 m s (k / 8) e (omega arith)) (k % 8) (omega arith)
 
 -- every number is a term
 long-term : (f : Row) (n k : ℕ) → isFinite (longSum f n) ≡ true → 16 ≤ n → k < n → isFinite (f k) ≡ true

@@ -1,6 +1,7 @@
-// One pass over the lower positions of a panel, that adds them all up: where the sum is finite, each of them is. A reader
-// may rely on the contract of `known_finite` and on `sum-known` of proofs/Finite.antt. Which numbers are added in which
-// order is the machine's gain alone. No upper position (row < column) is read: tests/upper.c sees to it.
+// One pass over the lower positions of a panel, that adds them all up: where their sum is finite, each of them is.
+// A reader may rely on the contract of `known_finite`, and on `sum-known` of proofs/Finite.antt, which says what its
+// answer tells; the order of the additions is for speed alone. No upper position (row < column) is read: tests/upper.c
+// sees to it, since no contract can say what is not read.
 ghost use mathlib.Core.Path.{_≡_};
 ghost use Prim.Native.Nat.{_+_, _<_, _≤_};
 ghost use lib.ListN.{length};

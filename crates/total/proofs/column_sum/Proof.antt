@@ -1,6 +1,6 @@
 -- `total::column_sum` meets its contract: what is lent is the column from its diagonal down. Assumes nothing.
-use Rattle.total.proofs.Sums.{sum-lent}
 use borrow.Author.Needs.{needs}
+use Rattle.total.proofs.Sums.{sum-lent}
 use Rattle.total.proofs.column_sum.Statement.{statement}
 use Rattle.total.proofs.column_sum.Tie as tie
 

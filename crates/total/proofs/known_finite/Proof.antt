@@ -1,6 +1,6 @@
 -- `total::known_finite` meets its contract: it tests the sum of the lower positions. Assumes nothing.
-use Rattle.total.specs.Finite.{sumFinite}
 use borrow.Author.Needs.{needs}
+use Rattle.total.specs.Finite.{sumFinite}
 use Rattle.total.proofs.known_finite.Statement.{statement}
 use Rattle.total.proofs.known_finite.Tie as tie
 

@@ -1,6 +1,6 @@
 -- `total::sum_of` meets its contract: either way is a case of the definition. Assumes nothing.
-use Rattle.total.proofs.Sums.{sum-short, sum-long}
 use borrow.Author.Needs.{needs}
+use Rattle.total.proofs.Sums.{sum-short, sum-long}
 use Rattle.total.proofs.sum_of.Statement.{statement}
 use Rattle.total.proofs.sum_of.Tie as tie
 
