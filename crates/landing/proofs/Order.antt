@@ -15,7 +15,7 @@ use Rattle.model.specs.Update.{placeFrom}
 use Rattle.model.specs.declared.Refusal.the-variants.{AbsentRow}
 use Rattle.model.specs.declared.Check.the-variants.{Sound, Refused}
 use Rattle.model.proofs.Cases.{test, cmp}
-use Rattle.scan.proofs.Laws.{every-at}
+use Rattle.model.proofs.Every.{every-at}
 use Rattle.checks.proofs.First.{first-step, first-bad, first-end}
 use Rattle.landing.specs.Rows.{risesAt, thereAt, LocatePre, Located}
 use Rattle.landing.proofs.Scans.{Place, place-within, place-all, place-one}

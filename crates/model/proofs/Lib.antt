@@ -4,6 +4,7 @@ pub mod Root
 pub mod Constants
 pub mod Nearest
 pub mod Tabulated
+pub mod Every
 pub mod Exchanged
 pub mod Summed
 pub mod Entry

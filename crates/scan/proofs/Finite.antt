@@ -18,11 +18,11 @@ use Rattle.model.specs.declared.Refusal.the-variants.{Input}
 use Rattle.model.specs.declared.Check.{Check}
 use Rattle.model.specs.declared.Check.the-variants.{Sound, Refused}
 use Rattle.model.proofs.Cases.{test, one-left, none-left, and-left, and-right}
+use Rattle.model.proofs.Every.{every-of, every-last, every-same, every-at}
 use Rattle.grid.proofs.Parts.{column-at}
 use Rattle.total.specs.Finite.{sumFinite, columnFinite, lowerFinite, KnownFinite}
-use Rattle.total.proofs.Finite.{every-of, sum-known}
+use Rattle.total.proofs.Finite.{sum-known}
 use Rattle.scan.specs.Finite.{markedBy, finiteFrom, firstRow}
-use Rattle.scan.proofs.Laws.{every-last, every-same, every-at}
 
 -- ---- a mark, the numbers of a list, and of a column
 

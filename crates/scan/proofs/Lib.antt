@@ -1,4 +1,3 @@
 -- Laws of the scans, lowest first.
-pub mod Laws
 pub mod Finite
 pub mod Marks

@@ -16,13 +16,12 @@ use Rattle.model.specs.Matrix.{Mat, columnStart, view, vec, naturals}
 use Rattle.model.specs.Factor.{everyFrom, markOf}
 use Rattle.model.proofs.Cases.{test}
 use Rattle.model.proofs.Tabulated.{length-tabulateFrom, getD-tabulate, is-tabulate}
+use Rattle.model.proofs.Every.{every-of, every-at}
 use Rattle.grid.proofs.Laws.{col-in}
 use Rattle.grid.proofs.Parts.{column-at}
 use Rattle.total.specs.Finite.{columnFinite, KnownFinite}
-use Rattle.total.proofs.Finite.{every-of}
 use Rattle.scan.specs.Finite.{markedBy}
 use Rattle.scan.specs.Marks.{partMarked, marked, tailMarks, TailColumnPre}
-use Rattle.scan.proofs.Laws.{every-at}
 use Rattle.scan.proofs.Finite.{mark-more, known-column}
 
 -- ---- the marks of one column

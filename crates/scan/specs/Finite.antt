@@ -1,12 +1,12 @@
 -- Numbers that are finite: one by one, from a place on, and the row that the scan of a whole panel looks at first.
--- What a column's scan answers is `columnFinite` of crates/total, named here too. Definitions only. Assumes nothing.
+-- Definitions only. Assumes nothing.
 use mathlib.Core.Bool.{Bool, cond}
 use Prim.Native.Nat.{ℕ}
 use lib.Ieee.{Float}
 use Rattle.model.specs.Scalar.{isFinite}
 use Rattle.model.specs.Matrix.{Row, Mat}
 use Rattle.model.specs.Factor.{everyFrom}
-unfoldable pub use Rattle.total.specs.Finite.{columnFinite}
+use Rattle.total.specs.Finite.{columnFinite}
 
 -- a mark after one number more of its row
 unfoldable pub markedBy : ℕ → Float → ℕ

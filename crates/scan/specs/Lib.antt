@@ -1,4 +1,3 @@
 -- What the scans find, and what they ask of their callers.
-pub mod Greatest
 pub mod Finite
 pub mod Marks

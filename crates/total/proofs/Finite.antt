@@ -1,12 +1,12 @@
--- Laws of what the sum tells: where it is finite every lower position is; a test that holds at every place; a panel's columns, one by one.
+-- Laws of what the sum tells: where it is finite every lower position is; a panel's columns, one by one.
 -- Assumes nothing.
-use Prim.Native.Nat.{ℕ, zero, suc, _+_, _-_, _*_, _<_, _≤_}
-use mathlib.Core.Path.{_≡_, refl, sym, _∙_, ap}
+use Prim.Native.Nat.{ℕ, _+_, _-_, _*_, _<_, _≤_}
+use mathlib.Core.Path.{_≡_, sym, _∙_, ap}
 use mathlib.Core.Bool.{Bool, true}
 use native.Mathlib.Omega.{arith}
 use Rattle.model.specs.Scalar.{zeroF, isFinite}
 use Rattle.model.specs.Matrix.{Mat}
-use Rattle.model.specs.Factor.{everyFrom}
+use Rattle.model.proofs.Every.{every-of}
 use Rattle.grid.specs.Grid.{DownPre}
 use Rattle.grid.proofs.Laws.{col-in}
 use Rattle.total.specs.Finite.{columnSum, sumFinite, columnFinite, lowerFinite, KnownFinite}
@@ -15,14 +15,6 @@ use Rattle.total.proofs.Sums.{sum-term, of-term}
 -- a column of a panel is there from its diagonal down
 pub scan-pre : (n c j len : ℕ) → c ≤ n → len ≡ n * c → j < c → DownPre n j j n len
 scan-pre n c j len h e l = record { up = omega arith; rows = omega arith; there = col-in n c j len e l }
-
--- a test that holds at every place
-pub every-of : (f : ℕ → Bool) (n i : ℕ) → ((k : ℕ) → k < n → f (i + k) ≡ true) → everyFrom f n i ≡ true
-unfolding everyFrom
-every-of f zero i h = refl
-every-of f (suc n) i h =
-    let here : f i ≡ true = ap f (omega arith) ∙ h 0 (omega arith) in
-    rw here (every-of f n (i + 1) (λ k l. ap f (omega arith) ∙ h (suc k) (omega arith)))
 
 -- where the pass answers yes, every lower position is finite
 pub sum-known : (a : Mat) (n c : ℕ) (b : Bool) → b ≡ sumFinite a n c → KnownFinite b a n c

@@ -25,7 +25,7 @@ use Rattle.model.specs.declared.Applied.the-variants.{Done}
 use Rattle.model.proofs.Cases.{test, cmp, and-left, and-right}
 use Rattle.model.proofs.Entry.{first-sound, second-sound, not-refused}
 use Rattle.model.proofs.Tabulated.{is-columnMajor}
-use Rattle.scan.proofs.Laws.{every-at}
+use Rattle.model.proofs.Every.{every-at}
 use Rattle.checks.specs.Answers.{answerOf, leaves}
 use Rattle.checks.proofs.Answers.{first-refuses, second-decides, leaves-done, leaves-refused}
 use Rattle.landing.specs.Nodes.{NumbersPre}

@@ -21,8 +21,8 @@ use Rattle.model.specs.declared.Refusal.the-variants.{UpdateLength, TargetRows,
 use Rattle.model.specs.declared.Check.{Check}
 use Rattle.model.specs.declared.Check.the-variants.{Refused}
 use Rattle.model.proofs.Cases.{test, and-left, and-right}
-use Rattle.scan.specs.Finite.{columnFinite}
-use Rattle.scan.specs.Greatest.{DownPre}
+use Rattle.grid.specs.Grid.{DownPre}
+use Rattle.total.specs.Finite.{columnFinite}
 use Rattle.checks.proofs.Shape.{product}
 use Rattle.grid.proofs.Laws.{col-in}
 use Rattle.landing.specs.Rows.{risesAt, standsAt, ColumnsPre}

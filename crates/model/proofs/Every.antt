@@ -1,11 +1,11 @@
--- Laws of a test at every place: one place more, by another rule, and what it says of one place. Assumes nothing.
+-- Laws of a test at every place: where it holds, one place more, by another rule, and what it says of one place. Assumes nothing.
 use Prim.Native.Nat.{ℕ, zero, suc, _+_, _<_}
 use mathlib.Core.Path.{_≡_, refl, _∙_, ap}
 use mathlib.Core.Bool.{Bool, true, false, _&&_}
 use native.Mathlib.Nat.{not-suc-le-zero, le-of-suc-le-suc}
 use native.Mathlib.Omega.{arith}
 use Rattle.model.specs.Factor.{everyFrom}
 use Rattle.model.proofs.Cases.{and-left, and-right}
 
 and-true : (b : Bool) → b && true ≡ b
 and-true true = refl
@@ -37,3 +37,11 @@ unfolding everyFrom
 every-at f zero i k e h = absurd (not-suc-le-zero h)
 every-at f (suc n) i zero e h = ap f (omega arith) ∙ and-left (f i) _ e
 every-at f (suc n) i (suc k) e h = ap f (omega arith) ∙ every-at f n (i + 1) k (and-right (f i) _ e) (le-of-suc-le-suc h)
+
+-- a test that holds at every place
+pub every-of : (f : ℕ → Bool) (n i : ℕ) → ((k : ℕ) → k < n → f (i + k) ≡ true) → everyFrom f n i ≡ true
+unfolding everyFrom
+every-of f zero i h = refl
+every-of f (suc n) i h =
+    let here : f i ≡ true = ap f (omega arith) ∙ h 0 (omega arith) in
+    rw here (every-of f n (i + 1) (λ k l. ap f (omega arith) ∙ h (suc k) (omega arith)))
