@@ -1,5 +1,5 @@
 //! Links the static library: `libcapi.a` of the folder that the variable `MISUKTAAN_LIB` names, by default the
-//! repository's `target/staticlib`, where `rt staticlib capi` writes it.
+//! repository's `target/staticlib`, where `./build-library` writes it.
 
 use std::env;
 use std::path::PathBuf;
@@ -15,7 +15,7 @@ fn main() {
     let library = folder.join("libcapi.a");
     assert!(
         library.is_file(),
-        "{} is missing: run `rt staticlib capi` in the repository, or set MISUKTAAN_LIB",
+        "{} is missing: run `./build-library` in the repository, or set MISUKTAAN_LIB",
         library.display()
     );
     println!("cargo:rerun-if-env-changed=MISUKTAAN_LIB");
