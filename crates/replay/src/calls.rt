@@ -23,16 +23,14 @@ fn room(x: f64) -> [f64; 30000]
 
 // The recorded answer, with which every case begins.
 fn read_answer(fd: i32) -> Outcome {
-    let mut n = [0usize; 7];
-    file::counts(fd, 7, &mut n);
     Outcome {
-        number: n[0],
-        a: n[1],
-        b: n[2],
-        rounds: n[3],
-        positive: n[4],
-        negative: n[5],
-        zero: n[6],
+        number: file::count(fd),
+        a: file::count(fd),
+        b: file::count(fd),
+        rounds: file::count(fd),
+        positive: file::count(fd),
+        negative: file::count(fd),
+        zero: file::count(fd),
     }
 }
 
@@ -46,17 +44,18 @@ fn same(x: Outcome, y: Outcome) -> bool {
 // ---- factor
 
 fn read_settings(fd: i32) -> Settings {
-    let mut n = [0usize; 5];
-    let mut floor = [0.0; 1];
-    file::counts(fd, 5, &mut n);
-    file::numbers(fd, 1, &mut floor);
-    let mode = outcome::mode_of(n[4] == 1, floor[0]);
+    let ncol = file::count(fd);
+    let nrow = file::count(fd);
+    let nb = file::count(fd);
+    let limit = file::count(fd);
+    let lift = file::count(fd) == 1;
+    let mode = outcome::mode_of(lift, file::number(fd));
     Settings {
-        ncol: n[0],
-        nrow: n[1],
-        nb: n[2],
+        ncol,
+        nrow,
+        nb,
         mode,
-        limit: n[3],
+        limit,
     }
 }
 
@@ -78,19 +77,17 @@ fn work_after(number: usize) -> Left {
 }
 
 fn read_lengths(fd: i32) -> Lengths {
-    let mut n = [0usize; 10];
-    file::counts(fd, 10, &mut n);
     Lengths {
-        input: n[0],
-        panel: n[1],
-        d: n[2],
-        sub: n[3],
-        blocks: n[4],
-        lifts: n[5],
-        amounts: n[6],
-        order: n[7],
-        marks: n[8],
-        work: n[9],
+        input: file::count(fd),
+        panel: file::count(fd),
+        d: file::count(fd),
+        sub: file::count(fd),
+        blocks: file::count(fd),
+        lifts: file::count(fd),
+        amounts: file::count(fd),
+        order: file::count(fd),
+        marks: file::count(fd),
+        work: file::count(fd),
     }
 }
 
@@ -120,10 +117,7 @@ fn factor_left(
     file::numbers_left(fd, work_after(number), n.work, work) & same
 }
 
-pub(crate) fn factor_case(fd: i32) -> bool {
-    let recorded = read_answer(fd);
-    let c = read_settings(fd);
-    let n = read_lengths(fd);
+fn factor_same(fd: i32, recorded: Outcome, c: Settings, n: Lengths) -> bool {
     let mut of_input = room(0.0);
     let mut of_panel = room(file::HELD);
     let mut of_d = [file::HELD; COLUMNS];
@@ -165,6 +159,13 @@ pub(crate) fn factor_case(fd: i32) -> bool {
     same(outcome::of_factor(factored), recorded) & left
 }
 
+pub(crate) fn factor_case(fd: i32) -> bool {
+    let recorded = read_answer(fd);
+    let c = read_settings(fd);
+    let n = read_lengths(fd);
+    factor_same(fd, recorded, c, n)
+}
+
 // ---- inertia
 
 // The lengths of its lists.
@@ -175,12 +176,10 @@ struct Pivots {
 }
 
 fn read_pivots(fd: i32) -> Pivots {
-    let mut n = [0usize; 3];
-    file::counts(fd, 3, &mut n);
     Pivots {
-        d: n[0],
-        sub: n[1],
-        blocks: n[2],
+        d: file::count(fd),
+        sub: file::count(fd),
+        blocks: file::count(fd),
     }
 }
 
@@ -217,15 +216,13 @@ struct Entries {
 }
 
 fn read_entries(fd: i32) -> Entries {
-    let mut n = [0usize; 6];
-    file::counts(fd, 6, &mut n);
     Entries {
-        ncol: n[0],
-        nrow: n[1],
-        rows: n[2],
-        cols: n[3],
-        numbers: n[4],
-        panel: n[5],
+        ncol: file::count(fd),
+        nrow: file::count(fd),
+        rows: file::count(fd),
+        cols: file::count(fd),
+        numbers: file::count(fd),
+        panel: file::count(fd),
     }
 }
 
@@ -261,25 +258,19 @@ struct Nodes {
 }
 
 fn read_nodes(fd: i32) -> Nodes {
-    let mut n = [0usize; 4];
-    let mut first = [0u32; 1];
-    let mut m = [0usize; 7];
-    file::counts(fd, 4, &mut n);
-    file::global_rows(fd, 1, &mut first);
-    file::counts(fd, 7, &mut m);
     Nodes {
-        ncol: n[0],
-        nrow: n[1],
-        nk: n[2],
-        mk: n[3],
-        first: first[0],
-        rows: m[0],
-        panel: m[1],
-        kpanel: m[2],
-        kd: m[3],
-        ksub: m[4],
-        kblocks: m[5],
-        krows: m[6],
+        ncol: file::count(fd),
+        nrow: file::count(fd),
+        nk: file::count(fd),
+        mk: file::count(fd),
+        first: file::global_row(fd),
+        rows: file::count(fd),
+        panel: file::count(fd),
+        kpanel: file::count(fd),
+        kd: file::count(fd),
+        ksub: file::count(fd),
+        kblocks: file::count(fd),
+        krows: file::count(fd),
     }
 }
 

@@ -65,6 +65,26 @@ pub(crate) fn first_bytes<'a>(n: usize, room: &'a mut [u8]) -> &'a mut [u8] {
     &mut room[0..most]
 }
 
+// ---- a count, a global row, a number, read
+
+pub(crate) fn count(fd: i32) -> usize {
+    let mut bytes = [LACKING; 2];
+    io::read_full(fd, &mut bytes);
+    count_at(&bytes, 0)
+}
+
+pub(crate) fn global_row(fd: i32) -> u32 {
+    let mut bytes = [LACKING; 4];
+    io::read_full(fd, &mut bytes);
+    little_endian::u32_at(&bytes, 0) as u32
+}
+
+pub(crate) fn number(fd: i32) -> f64 {
+    let mut bytes = [LACKING; 8];
+    io::read_full(fd, &mut bytes);
+    little_endian::f64_at(&bytes, 0)
+}
+
 // ---- lists of n, read
 
 fn read_some_numbers(fd: i32, out: &mut [f64])

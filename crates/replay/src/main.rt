@@ -52,13 +52,15 @@ fn replay(fd: i32, call: Call, name: &[u8], cases: usize) {
 // All cases of the file, from its head on.
 fn replay_all(fd: i32) {
     let mut head = [0u8; 12];
-    let mut n = [0usize; 4];
     file::bytes(fd, 12, &mut head);
-    file::counts(fd, 4, &mut n);
-    replay(fd, Call::Factor, b"factor", n[0]);
-    replay(fd, Call::Inertia, b"inertia", n[1]);
-    replay(fd, Call::Assembly, b"assembly", n[2]);
-    replay(fd, Call::Update, b"update", n[3]);
+    let factors = file::count(fd);
+    let inertias = file::count(fd);
+    let assemblies = file::count(fd);
+    let updates = file::count(fd);
+    replay(fd, Call::Factor, b"factor", factors);
+    replay(fd, Call::Inertia, b"inertia", inertias);
+    replay(fd, Call::Assembly, b"assembly", assemblies);
+    replay(fd, Call::Update, b"update", updates);
 }
 
 fn main() {
