@@ -187,8 +187,8 @@ fn one_panel(
 }
 
 // The panels in turn.
-// in: the settings past the entry checks, with the width that is used / in and out: the buffers as `begin` of crate
-// finish leaves them; work, any
+// in: the settings past the entry checks, with the width that is used / in and out: the buffers as buffers::begin
+// leaves them; work, any
 // origin: src/numeric/ldlt/bunch_kaufman.rs, fn ll_cdiv_emit
 pub fn panels(
     panel: &mut [f64],
