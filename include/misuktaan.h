@@ -35,8 +35,7 @@
  *   5       factor    with lifts: the round limit is 0 or above LIMIT_MAX             0, 0
  *   6       factor    a lower or tail number of the input is not finite               least such column, its least
  *                                                                                     such row
- *   7       factor    without lifts: the column test finds zero, the chosen 1x1       elimination position, 0
- *                     pivot is zero, or a block's |det| is at most its growth floor
+ *   7       factor    without lifts: the column test finds zero                       elimination position, 0
  *   8       factor    with lifts: a block needs more rounds than the limit            elimination position, 0
  *   9       factor    after the last column: a column holds a d, subdiagonal, lower   least such column, 0
  *                     head number, block determinant, or reciprocal of a 1x1 pivot
@@ -58,10 +57,15 @@
  *   18      update    a descendant column has a number below its head, or a d, or a   least such column, 0
  *                     subdiagonal under a 1, that is not finite
  *   19      inertia   the three lists differ in length or exceed COLUMNS_MAX          0, 0
+ *   23      factor    without lifts: the chosen 1x1 pivot is zero                     elimination position, 0
+ *   24      factor    without lifts: a block's |det| is at most its growth floor      elimination position, 0
+ *
+ * (20 to 22 are those of the program node.) An elimination position is a pivot's turn, a block's first, and not a row
+ * or column of the input.
  *
  * What is written:
  *   1 to 6, 10 to 19   nothing: every buffer is as it was, bit for bit.
- *   7, 8, 9            zeros in every buffer of the factor call but its input.
+ *   7, 8, 9, 23, 24    zeros in every buffer of the factor call but its input.
  */
 #ifndef MISUKTAAN_H
 #define MISUKTAAN_H
@@ -112,10 +116,11 @@ static inline size_t misuktaan_work_len(size_t nrow, size_t nb)
 /*
  * Factors one node.
  *
- * Returns: number 0 with rounds and counts; or a refusal of 1 to 9.
+ * Returns: number 0 with rounds and counts; or a refusal of 1 to 7, 23, 24, 8, 9.
  * In:   ncol, nrow    the node's columns and rows, 0 <= ncol <= COLUMNS_MAX, ncol <= nrow <= ROWS_MAX.
  *       nb            the panel width, 1 to WIDTH_MAX; used as min(nb, max(ncol, 1)).
- *       lift          whether a pivot below the floor is lifted to it; if not, floor and limit are not read.
+ *       lift          whether a pivot below the floor is lifted to it; if not, floor and limit are not read, and a
+ *                     pivot that cannot be taken is refused with 7, 23 or 24.
  *       floor         the floor, finite and above zero.
  *       limit         the rounds that a block's lift may take, 1 to LIMIT_MAX.
  *       input         nrow * ncol: the node's panel. Upper positions may hold anything.
@@ -130,7 +135,7 @@ static inline size_t misuktaan_work_len(size_t nrow, size_t nb)
  *       marks         nrow - ncol: 1 if the tail row holds a number that is not finite, else 0.
  * Work: work          misuktaan_work_len(nrow, nb): +0.0 after acceptance.
  * On entry the buffers of Out and Work may hold anything. After acceptance they hold what is said above; after 1 to 6
- * what they held on entry, bit for bit; after 7, 8 and 9 zeros.
+ * what they held on entry, bit for bit; after 7, 8, 9, 23 and 24 zeros.
  */
 struct misuktaan_outcome misuktaan_factor(
     size_t ncol, size_t nrow, size_t nb, bool lift, double floor, size_t limit,

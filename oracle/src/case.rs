@@ -120,6 +120,14 @@ pub struct Refusal {
     pub b: usize,
 }
 
+impl Refusal {
+    /// Whether it is a refusal of the run, which leaves zeros; any other writes
+    /// nothing.
+    pub fn of_the_run(&self) -> bool {
+        matches!(self.number, 7..=9 | 23 | 24)
+    }
+}
+
 #[derive(Clone, Debug)]
 pub enum Answer {
     Refused(Refusal),

@@ -220,7 +220,7 @@ pub fn case_text(case: &Case) -> String {
 pub fn answer_text(answer: &Answer) -> String {
     match answer {
         Answer::Refused(r) => {
-            let outputs = if matches!(r.number, 7..=9) { "zeros" } else { "kept" };
+            let outputs = if r.of_the_run() { "zeros" } else { "kept" };
             format!("refused {} {} {} outputs={outputs}", r.number, r.a, r.b)
         }
         Answer::Accepted { rounds, factored: f, marks } => format!(

@@ -77,7 +77,7 @@ fn cases(words: &[String]) -> Done {
 }
 
 /// Hand-made cases, each under a line `# NAME`.
-fn named(all: Vec<(&'static str, oracle::case::Case)>) -> Done {
+fn named(all: Vec<(String, oracle::case::Case)>) -> Done {
     let mut to = out();
     for (name, case) in all {
         write_line(&mut to, &format!("# {name}"))?;

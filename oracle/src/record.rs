@@ -25,7 +25,7 @@ const CALLS: [&str; 4] = ["factor", "inertia", "assembly", "update"];
 const OUTCOMES: [&str; 4] = [
     "accepted in Fail/accepted in Lift/with blocks/with an exchange/with lifts/with rounds/with two rounds or more/\
      with marks/with several panels/with tail rows/refused 1/refused 2/refused 3/refused 4/refused 5/refused 6/\
-     refused 7/refused 8/refused 9",
+     refused 7/refused 8/refused 9/refused 23/refused 24",
     "counts/refused 16/refused 19",
     "done/refused 10/refused 11/refused 12",
     "done/done, no landing/refused 13/refused 14/refused 15/refused 16/refused 17/refused 18",
@@ -45,7 +45,7 @@ answer    counts: the refusal's number (0: none), its place A, B, rounds, positi
 factor    answer; counts ncol nrow nb limit; count 1 for Lift, 0 for Fail; the floor, a number; the lengths of input,
           panel, d, subdiagonal, block bytes, lift bytes, amounts, order, marks, working buffer; the input. If it is
           accepted: panel, d, subdiagonal, block bytes, lift bytes, amounts, order, marks; the working buffer then
-          holds +0.0. What a refused call leaves is not recorded: zeros after 7, 8 and 9, else what the buffers held
+          holds +0.0. What a refused call leaves is not recorded: zeros after 7, 8, 9, 23 and 24, else what the buffers held
 inertia   answer; the lengths of d, subdiagonal, block bytes; the three lists
 assembly  answer; counts ncol nrow; the lengths of rows, columns, numbers, panel; the four lists; the panel as it
           is left

@@ -3,12 +3,14 @@
 //! the Rust for everything else.
 
 use crate::case::*;
-use rslab::reach::{self, Factored, Ran};
+use rslab::reach::{self, Factored, Ran, Stop};
 
 const MAX_COL: usize = 128;
 const MAX_ROW: usize = 1024;
 const MAX_NB: usize = 64;
 const MAX_LIMIT: usize = 64;
+
+const GROWTH_EPS: f64 = 1e-14;
 
 type Checked = Result<(), Refusal>;
 
@@ -65,10 +67,14 @@ fn entry(f: &Factor) -> Checked {
     Ok(())
 }
 
-/// Refusals 7 to 9 and acceptance, from a run of the Rust.
+/// Refusals 7 to 9, 23, 24 and acceptance, from a run of the Rust.
 fn judge(s: &Settings, ran: Ran) -> Result<Answer, Refusal> {
     match ran {
-        Ran::Stopped { at, .. } => Err(Refusal { number: 7, a: at, b: 0 }),
+        Ran::Stopped { at, on, panel } => {
+            assert!(s.mode.floor().is_none(), "a run with lifts stopped");
+            assert_eq!(stopped_on(s, &panel, at), Some(on), "the tests and the trace differ");
+            Err(Refusal { number: stop_number(on), a: at, b: 0 })
+        }
         Ran::Unended { at, rounds } => Err(Refusal { number: 8, a: beyond(s.limit, &rounds).unwrap_or(at), b: 0 }),
         Ran::Ended(f) => {
             let rounds = s.mode.floor().map_or(Vec::new(), |floor| replayed(s, floor, &f));
@@ -80,6 +86,49 @@ fn judge(s: &Settings, ran: Ran) -> Result<Answer, Refusal> {
             Ok(Answer::Accepted { rounds: rounds.iter().map(|r| r.1).sum(), factored: f, marks })
         }
     }
+}
+
+fn stop_number(on: Stop) -> usize {
+    match on {
+        Stop::Column => 7,
+        Stop::Single => 23,
+        Stop::Block => 24,
+    }
+}
+
+/// What a run without lifts stops on at position k, if it does, by docs/SCOPE.md,
+/// "The pivot tests", "A 1x1 pivot" and "A block", on the panel as the Rust left
+/// it. The exchange for a block has been made there: row imax stands at k + 1,
+/// where it is the first with its square, and has the numbers that it had.
+fn stopped_on(s: &Settings, panel: &[f64], k: usize) -> Option<Stop> {
+    let width = s.nb.min(s.ncol);
+    let ke = s.ncol.min((k / width + 1) * width);
+    let at = |i: usize, j: usize| panel[i.max(j) + i.min(j) * s.nrow];
+    let greatest = |r: usize| {
+        let squares = (k..ke).filter(|&i| i != r).map(|i| (at(i, r) * at(i, r), i));
+        let (square, i) = squares.fold((0.0, k), |best, next| if next.0 > best.0 { next } else { best });
+        (square.sqrt(), i)
+    };
+    let (own, (colmax, imax)) = (at(k, k).abs(), greatest(k));
+    if own.max(colmax) == 0.0 {
+        return Some(Stop::Column);
+    }
+    let alpha = (1.0 + 17f64.sqrt()) / 8.0;
+    let (bar, rowmax) = (alpha * colmax, greatest(imax).0);
+    if own >= bar || own >= bar * (colmax / rowmax) || at(imax, imax).abs() >= alpha * rowmax {
+        return (at(k, k) == 0.0).then_some(Stop::Single);
+    }
+    let (d11, d21, d22) = (at(k, k), at(k + 1, k), at(k + 1, k + 1));
+    ((d11 * d22 - d21 * d21).abs() <= growth_floor(d11, d21, d22)).then_some(Stop::Block)
+}
+
+fn scale(d11: f64, d21: f64, d22: f64) -> f64 {
+    d11.abs().max(d22.abs()).max(d21.abs())
+}
+
+fn growth_floor(d11: f64, d21: f64, d22: f64) -> f64 {
+    let scale = scale(d11, d21, d22);
+    (GROWTH_EPS * scale) * scale
 }
 
 /// The first block that took more rounds than the limit.
@@ -105,13 +154,11 @@ fn replayed(s: &Settings, floor: f64, f: &Factored) -> Vec<(usize, usize)> {
 
 /// How many rounds a block needs, and their sum.
 fn lift_rounds(floor: f64, d11: f64, d21: f64, d22: f64) -> (usize, f64) {
-    const GROWTH_EPS: f64 = 1e-14;
-    let scale = d11.abs().max(d22.abs()).max(d21.abs());
-    let bar = (floor * floor).max((GROWTH_EPS * scale) * scale);
+    let bar = (floor * floor).max(growth_floor(d11, d21, d22));
     let below = |sum: f64| ((d11 + sum) * (d22 + sum) - d21 * d21).abs() < bar;
     let (mut rounds, mut sum) = (0, 0.0);
     if (d11 * d22 - d21 * d21).abs() < bar {
-        let step = floor.max(scale * GROWTH_EPS.sqrt());
+        let step = floor.max(scale(d11, d21, d22) * GROWTH_EPS.sqrt());
         (rounds, sum) = (1, step);
         while below(sum) {
             (rounds, sum) = (rounds + 1, sum + step);

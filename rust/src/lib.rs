@@ -7,7 +7,7 @@
 //! are never read as numbers, and are copied bit for bit.
 //!
 //! A call is accepted, or it is refused with a [`Refusal`]: a number and a place. Refusals 1 to 6 and 10 to 19 write
-//! nothing. After 7, 8 and 9 every buffer that a factor call writes holds zeros.
+//! nothing. After 7, 8, 9, 23 and 24 every buffer that a factor call writes holds zeros.
 //!
 //! No call allocates, waits or panics, and buffers cannot overlap, since what is written is lent as `&mut`. The thread
 //! rounds to nearest and keeps subnormal numbers, as at a program's start.
@@ -40,7 +40,7 @@ pub const LIMIT_MAX: usize = 64;
 
 // ---- answers
 
-/// Why a call was turned away: the refusal's number, 1 to 19, and its place.
+/// Why a call was turned away: the refusal's number, 1 to 19, 23 or 24, and its place.
 ///
 /// Numbers never shift. `docs/REFUSALS.md` of the repository has the table of them. Places count from 0 and are 0
 /// where a refusal names none.
@@ -64,10 +64,7 @@ impl Refusal {
             4 => "with lifts: the floor is not finite or not above zero",
             5 => "with lifts: the round limit is 0 or above LIMIT_MAX",
             6 => "a lower or tail number of the input is not finite",
-            7 => {
-                "without lifts: the column test finds zero, the chosen 1x1 pivot is zero, or a block's |det| is \
-                 at most its growth floor"
-            }
+            7 => "without lifts: the column test finds zero",
             8 => "with lifts: a block needs more rounds than the limit",
             9 => {
                 "after the last column: a column holds a d, subdiagonal, lower head number, block determinant, or \
@@ -90,6 +87,8 @@ impl Refusal {
                  finite"
             }
             19 => "the three lists differ in length or exceed COLUMNS_MAX",
+            23 => "without lifts: the chosen 1x1 pivot is zero",
+            24 => "without lifts: a block's |det| is at most its growth floor",
             _ => "not a refusal",
         }
     }
@@ -136,10 +135,10 @@ impl ffi::Outcome {
 
 // ---- the factor call
 
-/// What a pivot below the floor meets.
+/// What a pivot that is too small meets.
 #[derive(Clone, Copy, Debug, PartialEq)]
 pub enum Mode {
-    /// Refusal 7.
+    /// Refusal 7, 23 or 24, if it cannot be taken at all.
     Fail,
     /// A lift to this floor, finite and above zero.
     Lift(f64),
@@ -164,7 +163,7 @@ pub struct Settings {
     pub nrow: usize,
     /// The panel width, 1 to [`WIDTH_MAX`], used as `min(nb, max(ncol, 1))`.
     pub nb: usize,
-    /// What a pivot below the floor meets.
+    /// What a pivot that is too small meets.
     pub mode: Mode,
     /// The rounds that a block's lift may take, 1 to [`LIMIT_MAX`]; not read in [`Mode::Fail`].
     pub limit: usize,
@@ -282,7 +281,7 @@ impl Factors {
 ///
 /// # Errors
 ///
-/// Refusals 1 to 9: 1 to 6 write nothing, 7 to 9 leave zeros in every buffer.
+/// Refusals 1 to 7, 23, 24, 8 and 9: 1 to 6 write nothing, the others leave zeros in every buffer.
 pub fn factor(settings: &Settings, input: &[f64], buffers: Buffers<'_>) -> Result<Report, Refusal> {
     ffi::factor(settings, input, buffers).accepted()
 }

@@ -1,4 +1,4 @@
-// The factor call's buffers: as they begin before the first panel, and zeros after a refusal 7, 8 or 9. A reader may
+// The factor call's buffers: as they begin before the first panel, and zeros after a run refusal. A reader may
 // rely on the contracts: equations with the definitions, of whole buffers.
 ghost use mathlib.Core.Path.{_≡_};
 ghost use lib.ListN.{length};
@@ -69,7 +69,7 @@ pub fn begin(
     in_order(order);
 }
 
-// What a refusal 7, 8 or 9 leaves: every output and the working buffer hold zeros.
+// What a run refusal (7, 8, 9, 23 or 24) leaves: every output and the working buffer hold zeros.
 // out: all nine
 pub fn zero_all(
     panel: &mut [f64],

@@ -155,7 +155,7 @@ fn run(
 // out: panel, nrow·ncol: L with D's own diagonal; d, sub, amounts: ncol numbers; blocks, lifts: ncol bytes; order: nrow
 //      rows; marks: nrow − ncol bytes
 // work: 3·nrow·(nb + 1) + nb² numbers, any on entry, +0.0 on acceptance
-// refused with 1 to 6: nothing is written; with 7, 8 or 9: every output and the working buffer hold zeros
+// refused with 1 to 6: nothing is written; with 7, 8, 9, 23 or 24: every output and the working buffer hold zeros
 // origin: src/numeric/ldlt/bunch_kaufman.rs, fn ll_cdiv_emit
 pub fn factor(
     c: Settings,

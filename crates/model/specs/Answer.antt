@@ -3,9 +3,9 @@
 use mathlib.Core.Bool.{Bool, cond}
 use Prim.Native.Nat.{ℕ}
 use Rattle.model.specs.declared.Refusal.{Refusal}
-use Rattle.model.specs.declared.Refusal.the-variants.{Shape, Width, Length, Floor, Limit, Input, ZeroPivot, Rounds, NotFinite, AssemblyLength}
+use Rattle.model.specs.declared.Refusal.the-variants.{Shape, Width, Length, Floor, Limit, Input, ZeroColumn, Rounds, NotFinite, AssemblyLength}
 use Rattle.model.specs.declared.Refusal.the-variants.{AssemblyPlace, AssemblyNumber, UpdateLength, TargetRows, DescendantRows, BlockByte, AbsentRow}
-use Rattle.model.specs.declared.Refusal.the-variants.{DescendantNumber, InertiaLength}
+use Rattle.model.specs.declared.Refusal.the-variants.{DescendantNumber, InertiaLength, ZeroPivot, LowBlock}
 use Rattle.model.specs.declared.Check.{Check}
 use Rattle.model.specs.declared.Check.the-variants.{Sound, Refused}
 use Rattle.model.specs.declared.Report.{Report}
@@ -37,7 +37,7 @@ numbered Length = (3, 0, 0)
 numbered Floor = (4, 0, 0)
 numbered Limit = (5, 0, 0)
 numbered (Input column row) = (6, column .0, row .0)
-numbered (ZeroPivot at) = (7, at .0, 0)
+numbered (ZeroColumn at) = (7, at .0, 0)
 numbered (Rounds at) = (8, at .0, 0)
 numbered (NotFinite at) = (9, at .0, 0)
 numbered AssemblyLength = (10, 0, 0)
@@ -50,6 +50,8 @@ numbered (BlockByte at) = (16, at .0, 0)
 numbered (AbsentRow at) = (17, at, 0)
 numbered (DescendantNumber at) = (18, at .0, 0)
 numbered InertiaLength = (19, 0, 0)
+numbered (ZeroPivot at) = (23, at .0, 0)
+numbered (LowBlock at) = (24, at .0, 0)
 
 abbrev pub turnedAway : {A : Type 0} → Refusal → Said A
 turnedAway r = refused (numbered r .0) (numbered r .1) (numbered r .2)

@@ -184,7 +184,7 @@ pub record Outcome : Type 0 where
   pub answer : Said Report
   pub buffers : Buffers
 
--- after 7, 8 and 9: zeros in every buffer that the call writes
+-- after 7, 8, 9, 23 and 24: zeros in every buffer that the call writes
 abbrev pub zeros : Buffers → Buffers
 zeros b = record {
   panel = replicate (length (b .panel)) zeroF;

@@ -26,7 +26,7 @@ use Rattle.model.specs.declared.OneSettled.the-variants.{Zero, Number}
 use Rattle.model.specs.declared.TwoSettled.{TwoSettled}
 use Rattle.model.specs.declared.TwoSettled.the-variants.{Low, OutOfRounds, Numbers}
 use Rattle.model.specs.declared.Refusal.{Refusal}
-use Rattle.model.specs.declared.Refusal.the-variants.{ZeroPivot, Rounds}
+use Rattle.model.specs.declared.Refusal.the-variants as refusal
 
 -- the head, the multipliers of the panel at work, the pivots so far, the rounds so far
 pub record State : Type 0 where
@@ -106,7 +106,7 @@ keptTwo ke k b a mult =
 module _ (ke : ℕ) (a₀ mult : Mat) where
   -- a 1x1 at k, exchanged with row kp
   abbrev pub afterOne : ℕ → ℕ → OneSettled → Tried
-  afterOne k kp Zero = refusedBy (ZeroPivot (record { 0 = k }))
+  afterOne k kp Zero = refusedBy (refusal.ZeroPivot (record { 0 = k }))
   afterOne k kp (Number d lifted amount) =
       let a = exchanged k kp ke a₀ in
       took (record { p = record { 0 = k }; kp = record { 0 = kp }; diagonal = One d; lifted = lifted; amount = amount; rounds = 0 })
@@ -114,8 +114,8 @@ module _ (ke : ℕ) (a₀ mult : Mat) where
 
   -- a block at k and k + 1, k + 1 exchanged with row kp; k was exchanged with row p before
   abbrev pub afterTwo : ℕ → ℕ → ℕ → TwoSettled → Tried
-  afterTwo k p kp Low = refusedBy (ZeroPivot (record { 0 = k }))
-  afterTwo k p kp OutOfRounds = refusedBy (Rounds (record { 0 = k }))
+  afterTwo k p kp Low = refusedBy (refusal.LowBlock (record { 0 = k }))
+  afterTwo k p kp OutOfRounds = refusedBy (refusal.Rounds (record { 0 = k }))
   afterTwo k p kp (Numbers b lifted amount rounds) =
       let a = exchanged (k + 1) kp ke a₀ in
       took (record { p = record { 0 = p }; kp = record { 0 = kp }; diagonal = Two b; lifted = lifted; amount = amount; rounds = rounds })
@@ -129,7 +129,7 @@ module _ (ke : ℕ) (a₀ mult : Mat) where
 
 -- the chosen 1x1 stands at row kp; a block's first exchange comes before all else; a zero column is refused in Fail and a 1x1 in Lift
 abbrev pub tryBy : ℕ → Mat → Mat → Mode → ℕ → ℕ → Choice → Tried
-tryBy ke a mult Fail limit k choice.ZeroColumn = refusedBy (ZeroPivot (record { 0 = k }))
+tryBy ke a mult Fail limit k choice.ZeroColumn = refusedBy (refusal.ZeroColumn (record { 0 = k }))
 tryBy ke a mult (Lift floor) limit k choice.ZeroColumn = afterOne ke a mult k k (settledOne (Lift floor) (a k k))
 tryBy ke a mult mode limit k (choice.Single kp) = afterOne ke a mult k (kp .0) (settledOne mode (a (kp .0) (kp .0)))
 tryBy ke a mult mode limit k (choice.Block p kp) = tryBlock ke (exchanged k (p .0) ke a) mult mode limit k (p .0) (kp .0)

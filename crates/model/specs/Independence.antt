@@ -3,8 +3,8 @@
 -- For the control engineer. Two utilities are joined at border rows; a border row is a tail row of a node. Take any two factor calls that pass the
 -- entry checks, with the same number of columns, panel width, mode, floor and lift limit, and the same bits in the lower triangle of the first
 -- ncol rows (the head). Their tail rows may differ in every number, and in how many there are. Then
---   1. both calls refuse with the same number and place, or both accept with the same order of the head, the same pivots, lifts, rounds and
---      inertia, and the same numbers in the head's lower triangle (`SameHead`);
+--   1. both calls end in the same one of the five run refusals (7, 8, 9, 23, 24) at the same place, or both accept with the same order of the
+--      head, the same pivots, lifts, rounds and inertia, and the same numbers in the head's lower triangle (`SameHead`);
 --   2. a tail row of the one and a tail row of the other that hold the same bits, wherever each stands, get the same factor row and the same
 --      mark (`SameTailRow`). The two calls may be one and the same call: then this speaks of two rows of it.
 -- `TailRowsSteerNothing` is that statement; proofs/Independence.antt proves it. Definitions only. Assumes nothing.

@@ -90,6 +90,16 @@ minusHalf = 0xBFE0_0000_0000_0000
 abbrev minusTwo : ℕ
 minusTwo = 0xC000_0000_0000_0000
 
+-- 1e-160, 1e150 and 1e200: a product of the first two with the first vanishes, the square of the last overflows
+abbrev small : ℕ
+small = 0x1EB6_7E9C_127B_6E74
+
+abbrev large : ℕ
+large = 0x5F13_8D35_2E50_96AF
+
+abbrev huge : ℕ
+huge = 0x6974_E718_D7D7_625A
+
 abbrev notANumber : ℕ
 notANumber = 0x7FF8_0000_0000_0000
 
@@ -139,6 +149,10 @@ stations =
     -- limit 2: d 4, 4, rounds 2, counts 2 0 0
     (factorGives (lift 2 2 two 2) zeroDiagonal
     ⇒ (2 ∷ []) ∷ (2 ∷ 0 ∷ 0 ∷ []) ∷ (0 ∷ 1 ∷ []) ∷ (four ∷ four ∷ []) ∷ (one ∷ 0 ∷ []) ∷ (1 ∷ 0 ∷ []) ∷ (1 ∷ 1 ∷ []) ∷ (four ∷ four ∷ []) ∷ zeroDiagonal ∷ [] ∷ []) ∷
+    -- [0,1e-160,0; 0,1e150; 0]: 23 at 0
+    (factorGives (fail 3 3 3) (0 ∷ small ∷ 0 ∷ 0 ∷ 0 ∷ large ∷ 0 ∷ 0 ∷ 0 ∷ []) ⇒ (23 ∷ 0 ∷ 0 ∷ []) ∷ []) ∷
+    -- [0,1e200; 0]: 24 at 0
+    (factorGives (fail 2 2 2) (0 ∷ huge ∷ 0 ∷ 0 ∷ []) ⇒ (24 ∷ 0 ∷ 0 ∷ []) ∷ []) ∷
     -- inertia of block 0, 0, 0: counts 1 0 1
     (inertiaGives (0 ∷ 0 ∷ []) (0 ∷ 0 ∷ []) (1 ∷ 0 ∷ []) ⇒ (1 ∷ 0 ∷ 1 ∷ []) ∷ []) ∷
     -- inertia of 1x1 not-a-number: 0 0 1

@@ -20,7 +20,7 @@ pub struct GlobalRow(pub u32);
 // A column of a node by its position in the elimination: the source's e, less the node's own offset.
 pub struct Elim(pub usize);
 
-// What a pivot below the floor meets: refusal 7, or a lift to the floor that Lift carries.
+// What a pivot that is too small meets: refusal 7, 23 or 24, or a lift to the floor that Lift carries.
 pub enum Mode {
     Fail,
     Lift(f64),
@@ -35,7 +35,7 @@ pub struct Settings {
     pub limit: usize,
 }
 
-// The settings that steer the pivots, beside the node's columns and the panel width: what a pivot below the floor
+// The settings that steer the pivots, beside the node's columns and the panel width: what a pivot that is too small
 // meets, and the rounds that a block's lift may take.
 pub struct Pivoting {
     pub mode: Mode,
@@ -138,8 +138,8 @@ pub struct Report {
     pub inertia: Tally,
 }
 
-// The refusals 1 to 19 of docs/REFUSALS.md in order. `numbered` of specs/Answer.antt gives the number and the place of
-// each.
+// The refusals 1 to 19, 23 and 24 of docs/REFUSALS.md in order. `numbered` of specs/Answer.antt gives the number and the
+// place of each.
 pub enum Refusal {
     Shape,
     Width,
@@ -147,7 +147,7 @@ pub enum Refusal {
     Floor,
     Limit,
     Input(Elim, LocalRow),
-    ZeroPivot(Elim),
+    ZeroColumn(Elim),
     Rounds(Elim),
     NotFinite(Elim),
     AssemblyLength,
@@ -160,6 +160,8 @@ pub enum Refusal {
     AbsentRow(usize),
     DescendantNumber(Elim),
     InertiaLength,
+    ZeroPivot(Elim),
+    LowBlock(Elim),
 }
 
 // What a check says: that it found nothing, or the refusal.

@@ -29,7 +29,7 @@ pub fn numbered(why: Refusal) -> NumberAndPlace
         Refusal::Floor => at(4, 0, 0),
         Refusal::Limit => at(5, 0, 0),
         Refusal::Input(column, row) => at(6, column.0, row.0),
-        Refusal::ZeroPivot(k) => at(7, k.0, 0),
+        Refusal::ZeroColumn(k) => at(7, k.0, 0),
         Refusal::Rounds(k) => at(8, k.0, 0),
         Refusal::NotFinite(k) => at(9, k.0, 0),
         Refusal::AssemblyLength => at(10, 0, 0),
@@ -42,5 +42,7 @@ pub fn numbered(why: Refusal) -> NumberAndPlace
         Refusal::AbsentRow(row) => at(17, row, 0),
         Refusal::DescendantNumber(k) => at(18, k.0, 0),
         Refusal::InertiaLength => at(19, 0, 0),
+        Refusal::ZeroPivot(k) => at(23, k.0, 0),
+        Refusal::LowBlock(k) => at(24, k.0, 0),
     }
 }

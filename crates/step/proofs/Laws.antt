@@ -16,7 +16,7 @@ use Rattle.model.specs.declared.Diagonal.the-variants.{One, Two}
 use Rattle.model.specs.declared.Elim.{Elim}
 use Rattle.model.specs.declared.Frame.{Frame}
 use Rattle.model.specs.declared.LocalRow.{LocalRow}
-use Rattle.model.specs.declared.Refusal.the-variants.{ZeroPivot, Rounds}
+use Rattle.model.specs.declared.Refusal.the-variants as refusal
 use Rattle.model.specs.declared.Choice.{Choice}
 use Rattle.model.specs.declared.Choice.the-variants.{ZeroColumn, Single, Block}
 use Rattle.model.specs.declared.OneSettled as one
@@ -58,7 +58,7 @@ unfolding singleOf
 single-by ke k kp A M mode x S o e s z = ap (afterOne ke A M k kp) (sym z ∙ s ∙ ap (settledOne mode) e)
 
 pub single-stop : (ke : ℕ) (k : Elim) (kp : ℕ) (A M B N : Mat) (mode : Mode) (x : Float) (S : one.OneSettled)
-    → x ≡ A kp kp → S ≡ settledOne mode x → S ≡ one.the-variants.Zero → tried (Refused (ZeroPivot k)) B N ≡ singleOf ke A M mode (k .0) kp
+    → x ≡ A kp kp → S ≡ settledOne mode x → S ≡ one.the-variants.Zero → tried (Refused (refusal.ZeroPivot k)) B N ≡ singleOf ke A M mode (k .0) kp
 unfolding tried
 single-stop ke k kp A M B N mode x S e s z = single-by ke (k .0) kp A M mode x S one.the-variants.Zero e s z
 
@@ -81,13 +81,13 @@ block-by ke k p kp limit A M B mode b S o x e s z =
 
 pub block-stop : (ke : ℕ) (k : Elim) (p kp limit : ℕ) (A M B N : Mat) (mode : Mode) (b : Numbers) (S : two.TwoSettled)
     → B ≡ exchanged (k .0 + 1) kp ke A → b ≡ blockIn B (k .0) → S ≡ settledTwo mode limit b → S ≡ two.the-variants.Low
-    → tried (Refused (ZeroPivot k)) B N ≡ twoOf ke A M mode limit (k .0) p kp
+    → tried (Refused (refusal.LowBlock k)) B N ≡ twoOf ke A M mode limit (k .0) p kp
 unfolding tried
 block-stop ke k p kp limit A M B N mode b S x e s z = block-by ke (k .0) p kp limit A M B mode b S two.the-variants.Low x e s z
 
 pub block-rounds : (ke : ℕ) (k : Elim) (p kp limit : ℕ) (A M B N : Mat) (mode : Mode) (b : Numbers) (S : two.TwoSettled)
     → B ≡ exchanged (k .0 + 1) kp ke A → b ≡ blockIn B (k .0) → S ≡ settledTwo mode limit b → S ≡ two.the-variants.OutOfRounds
-    → tried (Refused (Rounds k)) B N ≡ twoOf ke A M mode limit (k .0) p kp
+    → tried (Refused (refusal.Rounds k)) B N ≡ twoOf ke A M mode limit (k .0) p kp
 unfolding tried
 block-rounds ke k p kp limit A M B N mode b S x e s z = block-by ke (k .0) p kp limit A M B mode b S two.the-variants.OutOfRounds x e s z
 
@@ -144,7 +144,7 @@ by-choice ke A M how k C D o c m z =
 
 -- a zero column is left in Fail alone
 zero-by : (ke : ℕ) (A M B N : Mat) (mode : Mode) (limit : ℕ) (k : Elim) (C : Choice) → byMode mode k C ≡ ZeroColumn
-    → tried (Refused (ZeroPivot k)) B N ≡ tryBy ke A M mode limit (k .0) ZeroColumn
+    → tried (Refused (refusal.ZeroColumn k)) B N ≡ tryBy ke A M mode limit (k .0) ZeroColumn
 unfolding tried
 zero-by ke A M B N Fail limit k C e = refl
 zero-by ke A M B N (Lift floor) limit k ZeroColumn e = cc
@@ -218,9 +218,9 @@ module _ (ke : ℕ) (A M A′ M′ : Mat) (how : Pivoting) (k : Elim) (C D : Cho
   stepped : (T : Taken) → tried T A′ M′ ≡ tryOf ke A M how (k .0) → Stepped T
   stepped T e = (e, kept ke A M (how .mode) (how .limit) (k .0) T A′ M′ h l e)
 
-  pub step-zero : D ≡ ZeroColumn → Stepped (Refused (ZeroPivot k))
+  pub step-zero : D ≡ ZeroColumn → Stepped (Refused (refusal.ZeroColumn k))
   step-zero z =
-      stepped (Refused (ZeroPivot k))
+      stepped (Refused (refusal.ZeroColumn k))
       (zero-by ke A M A′ M′ (how .mode) (how .limit) k C (sym m ∙ z) ∙ by-choice ke A M how k C D ZeroColumn c m z)
 
   pub step-single : (kp : LocalRow) (T : Taken) → D ≡ Single kp → tried T A′ M′ ≡ singleOf ke A M (how .mode) (k .0) (kp .0) → Stepped T

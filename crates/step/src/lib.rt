@@ -95,7 +95,7 @@ fn block(
     exchange::exchange_if(panel, at.nrow, at.ncol, LocalRow(k.0 + 1), kp, at.ke);
     let settled = PivotRule::settle_two(mode, how.limit, block_at(panel, at.nrow, at.ncol, k));
     match settled {
-        TwoSettled::Low => Taken::Refused(Refusal::ZeroPivot(k)),
+        TwoSettled::Low => Taken::Refused(Refusal::LowBlock(k)),
         TwoSettled::OutOfRounds => Taken::Refused(Refusal::Rounds(k)),
         TwoSettled::Numbers {
             block,
@@ -169,7 +169,7 @@ pub fn step(panel: &mut [f64], mult: &mut [f64], at: Frame, k: Elim, how: Pivoti
         k,
     );
     match choice {
-        Choice::ZeroColumn => Taken::Refused(Refusal::ZeroPivot(k)),
+        Choice::ZeroColumn => Taken::Refused(Refusal::ZeroColumn(k)),
         Choice::Single(kp) => single(panel, mult, at, k, kp, mode),
         Choice::Block(p, kp) => moved_block(panel, mult, at, k, p, kp, how),
     }

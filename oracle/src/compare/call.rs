@@ -88,8 +88,7 @@ pub fn answered(f: &Factor, answer: Answer) -> Left {
     let bytes = |flags: Vec<bool>| flags.into_iter().map(u8::from).collect();
     match answer {
         Answer::Refused(refusal) => {
-            let zeros = matches!(refusal.number, 7..=9);
-            let buffers = if zeros { filled(&lengths(f), 0.0, 0, 0) } else { lent(f) };
+            let buffers = if refusal.of_the_run() { filled(&lengths(f), 0.0, 0, 0) } else { lent(f) };
             Left { outcome: Err(refused(refusal)), buffers }
         }
         Answer::Accepted { rounds, factored: of, marks } => {

@@ -8,14 +8,15 @@ mod nodes;
 use call::{difference, left, must, number, Left};
 use counts::{Counts, Words};
 use oracle::case::*;
-use oracle::lines;
 use oracle::random::{self, Rng};
+use oracle::{lines, rules, telling};
+use std::collections::BTreeMap;
 
 /// What the compared nodes met, so that a reader sees what a run has tried.
 #[derive(Default)]
 struct Met {
     /// By the answer's number.
-    answers: [u64; 10],
+    answers: BTreeMap<usize, u64>,
     blocks: u64,
     lifts: u64,
     rounds: u64,
@@ -27,7 +28,7 @@ struct Met {
 impl Met {
     fn note(&mut self, f: &Factor, l: &Left) {
         let (b, s) = (&l.buffers, &f.settings);
-        self.answers[number(&l.outcome)] += 1;
+        *self.answers.entry(number(&l.outcome)).or_default() += 1;
         if let Ok(report) = l.outcome {
             self.blocks += u64::from(b.blocks.contains(&1));
             self.lifts += u64::from(b.lifted.contains(&1));
@@ -39,10 +40,14 @@ impl Met {
 
     fn print(&self) {
         let Met { answers, blocks, lifts, rounds, marks, panels, pairs } = self;
-        println!("{} accepted; refused 1 to 9: {:?}; pairs: {pairs}", answers[0], &answers[1..]);
+        let answered: Vec<String> = answers.iter().map(|(number, n)| format!("{number}: {n}")).collect();
+        println!("accepted (0) and refused, by number: {}; pairs: {pairs}", answered.join(", "));
         println!("with blocks {blocks}, lifts {lifts}, more rounds than one {rounds}, marks {marks}, panels {panels}");
     }
 }
+
+/// The refusals of a factor call. A run meets each of them, whatever its seed.
+const REFUSALS: [usize; 11] = [1, 2, 3, 4, 5, 6, 7, 8, 9, 23, 24];
 
 #[derive(Default)]
 struct Run {
@@ -50,12 +55,13 @@ struct Run {
     met: Met,
 }
 
-/// Settings, lengths and tiny nodes, each once.
+/// Settings, lengths, tiny nodes and nodes that stop, each once.
 fn each_once(run: &mut Run) {
     let mut each = |f: Factor| _ = run.one(&f);
     nodes::settings(&mut each);
     nodes::lengths(&mut each);
     nodes::tiny(&mut each);
+    nodes::stops(&mut each);
 }
 
 /// So many small nodes and so many large ones; some with a sibling.
@@ -76,10 +82,13 @@ fn main() {
     let (words, seed) = Words::read();
     call::notices();
     notices_rows();
+    stops_as_stated();
     let mut run = Run::default();
     each_once(&mut run);
     seeded(&mut run, seed, words.count(1, 1_000_000), words.count(2, 300));
     run.met.print();
+    let unmet: Vec<usize> = REFUSALS.into_iter().filter(|number| !run.met.answers.contains_key(number)).collect();
+    assert!(unmet.is_empty(), "no node met {unmet:?}");
     run.counts.end("compared", "differ")
 }
 
@@ -105,6 +114,17 @@ impl Run {
         let text = |f: &Factor| lines::case_text(&Case::Factor(f.clone()));
         self.counts.add(same, || format!("two calls with one head\n    {}\n    {}", text(f), text(g)));
         self.met.pairs += 1;
+    }
+}
+
+/// The nodes that stop do so with the number and at the place that is stated of them by hand.
+fn stops_as_stated() {
+    for stop in &telling::STOPS {
+        let f = stop.among(0, 0, 0, stop.columns.len(), Mode::Fail, 1);
+        match rules::answer(&Case::Factor(f)) {
+            Answer::Refused(r) if (r.number, r.a, r.b) == (stop.number, stop.at, 0) => {}
+            other => panic!("{}: {other:?}, must be {} at {}", stop.name, stop.number, stop.at),
+        }
     }
 }
 

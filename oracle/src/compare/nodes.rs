@@ -1,9 +1,10 @@
 //! Nodes for factor calls: every setting at its bounds, every tiny node over a
-//! few numbers, seeded random ones small and large, and pairs that differ below
-//! the head.
+//! few numbers, nodes that stop, seeded random ones small and large, and pairs
+//! that differ below the head.
 
 use oracle::case::*;
 use oracle::random::{self, Bounds, Rng};
+use oracle::telling;
 
 /// The bounds of the random nodes.
 pub const BOUNDS: Bounds = Bounds { max_col: 12, max_row: 20 };
@@ -57,6 +58,9 @@ pub fn lengths(each: &mut dyn FnMut(Factor)) {
     }
 }
 
+/// Both modes, for every node that is tried whole.
+const MODES: [(Mode, usize); 3] = [(Mode::Fail, 1), (Mode::Lift(0.5), 1), (Mode::Lift(2.0), 2)];
+
 // ---- tiny nodes
 
 /// Every way to fill the lower positions with the given numbers; the upper ones hold not-a-numbers.
@@ -80,16 +84,31 @@ pub fn tiny(each: &mut dyn FnMut(Factor)) {
     let six = [0.0, -0.0, 1.0, -0.5, 3.0, 1e200];
     let three = [-0.0, 1.0, -1e160];
     let shapes = [(1, 1, &eight[..]), (1, 2, &eight), (1, 3, &eight), (2, 2, &eight), (2, 3, &eight), (3, 3, &six)];
-    let modes = [(Mode::Fail, 1), (Mode::Lift(0.5), 1), (Mode::Lift(2.0), 2)];
     for (ncol, nrow, of) in shapes.into_iter().chain([(3, 4, &three[..])]) {
         fillings(ncol, nrow, of, &mut |panel| {
             for nb in 1..=ncol {
-                for (mode, limit) in modes {
+                for (mode, limit) in MODES {
                     let settings = Settings { ncol, nrow, nb, mode, limit };
                     each(Factor { settings, panel: panel.clone(), lengths: None });
                 }
             }
         });
+    }
+}
+
+// ---- nodes that stop
+
+/// Refusals 7, 23 and 24 at every position up to 4 and a stop's own, in every panel: columns before and after, tail
+/// rows, every panel width (narrow ones part a stop's columns), both modes.
+pub fn stops(each: &mut dyn FnMut(Factor)) {
+    for stop in &telling::STOPS {
+        for (before, after, tail) in (0..5).flat_map(|b| (0..3).flat_map(move |a| (0..3).map(move |t| (b, a, t)))) {
+            for nb in 1..=before + stop.columns.len() + after {
+                for (mode, limit) in MODES {
+                    each(stop.among(before, after, tail, nb, mode, limit));
+                }
+            }
+        }
     }
 }
 

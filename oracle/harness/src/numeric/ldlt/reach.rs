@@ -5,6 +5,7 @@ use super::bunch_kaufman::{bk_alpha, ll_cdiv_emit, BkPools};
 use super::factor::LlEmitLdlt;
 use super::node::ll_factor_node;
 use super::traced::{self, Traced};
+pub use super::traced::Stop;
 use crate::numeric::gemm_tuning::KernelTuning;
 use crate::numeric::supernodal::panel::{slot_sizes, PanelArena};
 use crate::numeric::supernodal::{
@@ -56,14 +57,14 @@ pub struct Factored {
     pub rounds: Vec<(usize, usize)>,
 }
 
-/// How a run of the reference went: it ended; it stopped on a zero pivot at
-/// a position, with the panel as it stood; or a block's lift at a position
-/// took more than [`traced::ROUNDS_WATCHED`] rounds and was cut off; `rounds`
-/// as in [`Factored`].
+/// How a run of the reference went: it ended; it stopped at a position, on one
+/// of its three tests, with the panel as it stood; or a block's lift at a
+/// position took more than [`traced::ROUNDS_WATCHED`] rounds and was cut off;
+/// `rounds` as in [`Factored`].
 #[derive(Clone, Debug)]
 pub enum Ran {
     Ended(Factored),
-    Stopped { at: usize, panel: Vec<f64> },
+    Stopped { at: usize, on: Stop, panel: Vec<f64> },
     Unended { at: usize, rounds: Vec<(usize, usize)> },
 }
 
@@ -136,7 +137,7 @@ fn settings(nb: usize) -> KernelTuning<'static> {
 }
 
 /// A run in f64, and a traced one beside it for what the reference does not
-/// say: the position of a stop, the rounds of a lift.
+/// say: the position of a stop and what it stopped on, the rounds of a lift.
 fn ran(node: &Node, way: Way, nb: usize, floor: Option<f64>) -> Ran {
     let (watched, trace) = traced::watch(|| run::<Traced>(node, way, nb, floor));
     let Some((traced_panel, traced_end)) = watched else {
@@ -145,7 +146,7 @@ fn ran(node: &Node, way: Way, nb: usize, floor: Option<f64>) -> Ran {
     let (panel, end) = run::<f64>(node, way, nb, floor);
     assert!(same(&panel, &traced_panel) && end.is_some() == traced_end.is_some(), "the trace went another way");
     match end {
-        None => Ran::Stopped { at: trace.at, panel },
+        None => Ran::Stopped { at: trace.at, on: trace.stop(), panel },
         Some(end) => Ran::Ended(Factored { panel, rounds: trace.rounds, ..end }),
     }
 }
@@ -213,7 +214,7 @@ impl<T: Scalar> Site<T> {
         }
     }
 
-    /// Whether the call ended; a stop on a zero pivot is the one other answer.
+    /// Whether the call ended; a stop is the one other answer.
     fn call(&self, way: Way, pools: &BkPools<T>, nb: usize, floor: Option<f64>) -> bool {
         let (s, sym, sched, emit, kt) = (self.s, &self.sym, &self.sched, &self.emit, settings(nb));
         let answer = match way {

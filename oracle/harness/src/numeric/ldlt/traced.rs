@@ -1,7 +1,7 @@
 //! An f64 that counts what the panel step asks of it. The reference is generic
 //! over its scalar, so the unchanged code runs on this one too, and the counts
-//! say what its answer leaves out: the position of a stop and the rounds of a
-//! block's lift.
+//! say what its answer leaves out: the position of a stop and what it stopped
+//! on, and the rounds of a block's lift.
 //!
 //! A step takes one reciprocal, at its end. Before it, a 1x1 step asks for at
 //! most four magnitudes (the diagonal, the candidate's, and two in a lift), a
@@ -9,6 +9,10 @@
 //! numbers, its determinant). The replay on the rows below takes reciprocals
 //! with no magnitude before them. A block's lift makes two numbers of the sum
 //! in each round and four at its end.
+//!
+//! Without a lift a step stops before its reciprocal, on one of three tests. The
+//! column's compares no two numbers of the panel, a 1x1's compares the pivot with
+//! zero, a block's comes after its six magnitudes.
 
 use crate::scalar::Scalar;
 use std::cell::RefCell;
@@ -19,14 +23,38 @@ use std::panic::{catch_unwind, resume_unwind, AssertUnwindSafe};
 /// reference has no bound, and a call's limit stops at 64 (docs/SCOPE.md).
 pub const ROUNDS_WATCHED: usize = 10_000;
 
+/// What a run stopped on.
+#[derive(Clone, Copy, Debug, PartialEq, Eq)]
+pub enum Stop {
+    /// The column test finds zero.
+    Column,
+    /// The chosen 1x1 is zero.
+    Single,
+    /// A block is at its growth floor or below.
+    Block,
+}
+
 /// What a run showed: the position reached, and `(position, rounds)` of each
-/// lifted block.
+/// lifted block. The other counts are those of the step at that position;
+/// `compared` is whether it compared two numbers.
 #[derive(Clone, Default)]
 pub struct Trace {
     pub at: usize,
     pub rounds: Vec<(usize, usize)>,
     magnitudes: usize,
     reals: usize,
+    compared: bool,
+}
+
+impl Trace {
+    /// What the step at the position reached stopped on, if it did.
+    pub fn stop(&self) -> Stop {
+        match (self.magnitudes, self.compared) {
+            (6.., _) => Stop::Block,
+            (_, true) => Stop::Single,
+            (_, false) => Stop::Column,
+        }
+    }
 }
 
 /// The payload of the unwind that cuts a lift off.
@@ -55,14 +83,25 @@ pub fn watch<R>(f: impl FnOnce() -> R) -> (Option<R>, Trace) {
     (answer, note(|t| t.clone()))
 }
 
-#[derive(Clone, Copy, Debug, PartialEq)]
+#[derive(Clone, Copy, Debug)]
 pub struct Traced(f64);
+
+impl PartialEq for Traced {
+    fn eq(&self, other: &Self) -> bool {
+        note(|t| t.compared = true);
+        self.0 == other.0
+    }
+}
 
 impl Scalar for Traced {
     type Low = Traced;
 
     fn magnitude(self) -> f64 {
-        note(|t| t.magnitudes += 1);
+        note(|t| {
+            // a step begins with the magnitude of its diagonal; multipliers were compared before
+            t.compared &= t.magnitudes > 0;
+            t.magnitudes += 1;
+        });
         self.0.magnitude()
     }
 
