@@ -1,4 +1,4 @@
--- The factor call whole: refusals 1 to 9 in their order, and every lent cell at the end. From docs/SCOPE.md, "Sizes and buffers", "Refusals" and
+-- The factor call whole: its refusals in their order, and every lent cell at the end. From docs/SCOPE.md, "Sizes and buffers", "Refusals" and
 -- "The factor call". The head alone decides (`headAnswerOf`); a tail row follows from the panels and itself (`factorRowOf`).
 -- Definitions only. Assumes nothing.
 use mathlib.Core.Bool.{Bool, true, cond, not, _&&_, _||_}

@@ -63,7 +63,7 @@ fn read_settings(fd: i32) -> Settings {
 fn outputs_after(number: usize) -> Left {
     match number {
         0 => Left::Recorded,
-        7..=9 => Left::Zeros,
+        7..=9 | 23..=24 => Left::Zeros,
         _ => Left::Held,
     }
 }
@@ -71,8 +71,8 @@ fn outputs_after(number: usize) -> Left {
 // What the working buffer holds after it.
 fn work_after(number: usize) -> Left {
     match number {
-        0 | 7..=9 => Left::Zeros,
-        _ => Left::Held,
+        0 => Left::Zeros,
+        _ => outputs_after(number),
     }
 }
 

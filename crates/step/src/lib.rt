@@ -57,7 +57,7 @@ fn single(
         ≡ singleOf (at .ke) (view (at .nrow) (now (panel .entry)))
         (inPanel (at .kb) (at .ke) (view (at .nb) (now (mult .entry)))) mode (k .0) (kp .0) ⌝ }
 {
-    let settled = PivotRule::settle_one(mode, grid::get(panel, at.nrow, kp.0, kp.0));
+    let settled = settle::settle_one(mode, grid::get(panel, at.nrow, kp.0, kp.0));
     let OneSettled::Number { d, lifted, amount } = settled else {
         return Taken::Refused(Refusal::ZeroPivot(k));
     };
@@ -92,8 +92,9 @@ fn block(
         (kp .0) ⌝ }
 {
     let mode = how.mode;
-    exchange::exchange_if(panel, at.nrow, at.ncol, LocalRow(k.0 + 1), kp, at.ke);
-    let settled = PivotRule::settle_two(mode, how.limit, block_at(panel, at.nrow, at.ncol, k));
+    let second = k.0 + 1;
+    exchange::exchange_if(panel, at.nrow, at.ncol, LocalRow(second), kp, at.ke);
+    let settled = settle::settle_two(mode, how.limit, block_at(panel, at.nrow, at.ncol, k));
     match settled {
         TwoSettled::Low => Taken::Refused(Refusal::LowBlock(k)),
         TwoSettled::OutOfRounds => Taken::Refused(Refusal::Rounds(k)),

@@ -1,8 +1,8 @@
--- `rule::PivotRule::settle_one` meets its contract: each return is one way through the tests. Assumes nothing.
+-- `settle::settle_one` meets its contract: each return is one way through the tests. Assumes nothing.
 use borrow.Author.Needs.{needs}
-use Rattle.rule.proofs.Laws.{one-zero, one-nonzero, one-lifted, one-kept}
-use Rattle.rule.proofs.PivotRule.settle_one.Statement.{statement}
-use Rattle.rule.proofs.PivotRule.settle_one.Tie as tie
+use Rattle.settle.proofs.Laws.{one-zero, one-nonzero, one-lifted, one-kept}
+use Rattle.settle.proofs.settle_one.Statement.{statement}
+use Rattle.settle.proofs.settle_one.Tie as tie
 
 pub settle-one-spec : {M : Type 1} → statement M
 settle-one-spec =

@@ -1,8 +1,8 @@
--- `rule::PivotRule::settle_two` meets its contract: each return is one way through the tests. Assumes nothing.
+-- `settle::settle_two` meets its contract: each return is one way through the tests. Assumes nothing.
 use borrow.Author.Needs.{needs}
-use Rattle.rule.proofs.Laws.{two-low, two-high, two-raised, two-kept}
-use Rattle.rule.proofs.PivotRule.settle_two.Statement.{statement}
-use Rattle.rule.proofs.PivotRule.settle_two.Tie as tie
+use Rattle.settle.proofs.Laws.{two-low, two-high, two-raised, two-kept}
+use Rattle.settle.proofs.settle_two.Statement.{statement}
+use Rattle.settle.proofs.settle_two.Tie as tie
 
 pub settle-two-spec : {M : Type 1} → statement M
 settle-two-spec =

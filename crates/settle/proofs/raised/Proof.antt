@@ -1,10 +1,10 @@
--- `rule::PivotRule::raised` meets its contract. The loop's invariant: what the rounds left find from here is what all rounds find from the start.
+-- `settle::raised` meets its contract. The loop's invariant: what the rounds left find from here is what all rounds find from the start.
 -- The measure is the rounds left. Assumes nothing.
 use Prim.Native.Nat.{_≤_, _-_}
 use borrow.Author.Needs.{needs}
-use Rattle.rule.proofs.Laws.{Left, raised-none, raised-step, raised-enough, raised-out}
-use Rattle.rule.proofs.PivotRule.raised.Statement.{statement}
-use Rattle.rule.proofs.PivotRule.raised.Tie as tie
+use Rattle.settle.proofs.Laws.{Left, raised-none, raised-step, raised-enough, raised-out}
+use Rattle.settle.proofs.raised.Statement.{statement}
+use Rattle.settle.proofs.raised.Tie as tie
 
 abbrev Inv-loop : tie.InvT-loop
 Inv-loop b bar step limit sum₀ done₀ sum done = (done ≤ limit) × Left b bar step limit done sum

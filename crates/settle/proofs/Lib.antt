@@ -1,0 +1,2 @@
+-- Laws of a pivot's numbers.
+pub mod Laws
