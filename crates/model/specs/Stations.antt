@@ -90,7 +90,7 @@ minusHalf = 0xBFE0_0000_0000_0000
 abbrev minusTwo : ℕ
 minusTwo = 0xC000_0000_0000_0000
 
--- 1e-160, 1e150 and 1e200: a product of the first two with the first vanishes, the square of the last overflows
+-- 1e-160, 1e150 and 1e200: the first times its quotient by the second vanishes, the square of the third overflows
 abbrev small : ℕ
 small = 0x1EB6_7E9C_127B_6E74
 

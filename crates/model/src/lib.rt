@@ -138,8 +138,8 @@ pub struct Report {
     pub inertia: Tally,
 }
 
-// The refusals 1 to 19, 23 and 24 of docs/REFUSALS.md in order. `numbered` of specs/Answer.antt gives the number and the
-// place of each.
+// The refusals 1 to 19, 23 and 24 of docs/REFUSALS.md in order. `numbered` of specs/Answer.antt gives the number and
+// the place of each.
 pub enum Refusal {
     Shape,
     Width,

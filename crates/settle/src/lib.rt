@@ -1,5 +1,5 @@
-// The numbers of a chosen pivot, settled by the mode: refused in Fail where they cannot be taken, lifted in Lift where they
-// are too small, else as they are. The tests and the roundings are those of model's specs/Head.antt, in their order.
+// The numbers of a chosen pivot, settled by the mode: refused in Fail where they cannot be taken, lifted in Lift where
+// they are too small, else as they are. The tests and the roundings are those of model's specs/Head.antt, in their order.
 ghost use mathlib.Core.Path.{_≡_};
 ghost use Rattle.model.specs.Head.{settledOne, settledTwo, raisedFrom, barOf, liftStepOf};
 use model::Block;
