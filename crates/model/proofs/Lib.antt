@@ -13,3 +13,4 @@ pub mod Independence
 pub mod Bounds
 pub mod Recorded
 pub mod Accepted
+pub mod Ends

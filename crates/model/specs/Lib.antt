@@ -14,5 +14,6 @@ pub mod Assembly
 pub mod Update
 pub mod Stations
 pub mod Independence
+pub mod Ends
 -- What proofs of the code rely on beside it.
 pub mod Kept
