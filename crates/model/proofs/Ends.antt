@@ -1,16 +1,16 @@
 -- A factor call that passes the entry checks is accepted, or ends in a run refusal of its mode at one of its columns. Assumes nothing.
 use mathlib.Core.Path.{_≡_, refl}
-use mathlib.Core.Bool.{Bool, true, false, cond}
+use mathlib.Core.Bool.{true}
 use mathlib.Core.List.{List}
 use Prim.Native.Nat.{ℕ, zero, suc, _+_, _-_, _≤_, _<_, min, max}
 use native.Mathlib.Omega.{arith}
 use borrow.Author.Tests.{ltb-true}
 use lib.Dec.{ltb}
-use lib.Ieee.{Float, lt, le, eq}
-use Rattle.model.specs.Scalar.{_⊕_, _⊖_, zeroF, magnitudeOf, liftOf}
+use lib.Ieee.{Float, lt, le}
+use Rattle.model.specs.Scalar.{_⊕_, magnitudeOf}
 use Rattle.model.specs.Matrix.{Mat, view, headOf, exchanged}
 use Rattle.model.specs.Choice.{chooseOf}
-use Rattle.model.specs.Step.{Diagonals, blockOf, blockIn}
+use Rattle.model.specs.Step.{Diagonals, blockOf}
 use Rattle.model.specs.Panel.{Panel}
 use Rattle.model.specs.Head as head
 use Rattle.model.specs.Head.{State, settledOne, raisedFrom, settledTwo, growthFloorOf, barOf, liftStepOf, Tried, refusedBy, took, afterOne, afterTwo}
