@@ -107,7 +107,7 @@ pub extern "C" fn misuktaan_factor(
     ensures { ◌≡◌ {A = FactorLeft} (record {
       outcome = result;
       buffers = record {
-        panel = panel.exit.now;
+        panel = panel.new;
         d = d.new;
         sub = sub.new;
         blocks = blocks.new;
@@ -119,7 +119,7 @@ pub extern "C" fn misuktaan_factor(
       };
     })
         (factor_left (factor_of (settings_of ncol nrow nb lift floor limit) input.now (record {
-          panel = panel.entry.now;
+          panel = panel.old;
           d = d.old;
           sub = sub.old;
           blocks = blocks.old;
