@@ -2,6 +2,8 @@
 // A reader may rely on `respond` alone: what it writes is `printed` of specs/Lines.antt, whatever the bytes are. It
 // asks nothing of its caller. The functions above it are a chain: run (the factor call, and crates/lines), with_buffers
 // (its buffers), read_and_factor (its input), factored.
+#![tactic(auto)]
+
 ghost use Rattle.std.specs.Prelude.{◌-◌, ◌*◌, ◌≤◌, ◌≡◌, length, take};
 ghost use Rattle.model.specs.Factor.{work_length, factor_of};
 ghost use Rattle.buffers.specs.Buffers.{buffers_of};

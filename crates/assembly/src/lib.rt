@@ -1,6 +1,8 @@
 // Assembly: entries of the system added to a node's panel as they are listed, duplicates included.
 // A reader may rely on `assemble` answering any arguments: it refuses and writes nothing, or each entry is added, in
 // its turn, to whatever the panel holds.
+#![tactic(auto)]
+
 ghost use Rattle.std.specs.Prelude.{◌≡◌, ◌&&◌, leb, ltb, length};
 ghost use Rattle.model.specs.Matrix.{view, vec, naturals};
 ghost use Rattle.model.specs.Assembly.{entries_sound, first_not, place_sound, assembly_check};

@@ -2,6 +2,8 @@
 // last one down. That is a sum down a column, which keeps its order; so that the machine need not wait for each term,
 // the sums of four columns go down together as far as none of the four is needed, and only the small triangle between
 // the four is left to one after another. A reader may rely on the contract of `back`.
+#![tactic(auto)]
+
 ghost use Rattle.std.specs.Prelude.{◌≡◌, ◌+◌, ◌-◌, ◌*◌, ◌≤◌, length};
 ghost use Rattle.model.specs.Matrix.{view, vec, naturals};
 ghost use Rattle.model.specs.Solve.{back_from};
@@ -12,7 +14,7 @@ use grid::column_start;
 use model::Elim;
 
 // The sums of four columns.
-#[derive(Drop)]
+#[derive(Clone, Copy)]
 struct FourSums(f64, f64, f64, f64);
 
 // v less the entries of L in column k times x, from row hi - 1 down.

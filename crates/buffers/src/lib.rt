@@ -1,5 +1,7 @@
 // The factor call's buffers: as they begin before the first panel, and zeros after a run refusal. A reader may
 // rely on the contracts: equations with the definitions, of whole buffers.
+#![tactic(auto)]
+
 ghost use Rattle.std.specs.Prelude.{◌≡◌, length};
 ghost use Rattle.model.specs.Matrix.{vec, with_part};
 ghost use Rattle.model.specs.Factor.{zeros};

@@ -1,6 +1,8 @@
 // The panel step: the pivots of columns kb to ke, each chosen, exchanged, eliminated in the rows above ke, and noted.
 // A reader may rely on the contract of ll_bk_panel_step: its equation is `panel_of` of crates/model/specs/Head.antt over
 // all rows of the panel, so the rows from ke on and the upper positions stay as they are.
+#![tactic(auto)]
+
 ghost use Rattle.std.specs.Prelude.{◌≡◌, ◌-◌, length};
 ghost use Rattle.model.specs.Matrix.{naturals};
 ghost use Rattle.model.specs.Step.{pivots_of};
@@ -14,7 +16,7 @@ use model::{Elim, Frame, Pivoting, Refusal};
 use step::Taken;
 
 // The answer of a panel's steps: a refusal of the run, or the rounds of all block lifts so far.
-#[derive(Drop)]
+#[derive(Clone, Copy)]
 pub enum Ran {
     Stopped(Refusal),
     Done(usize),

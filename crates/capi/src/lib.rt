@@ -3,6 +3,8 @@
 // The leaves are those of crate scalar, each equal to its definition in model's specs at every number. The five calls
 // answer by numbers what model's `factor_of`, `inertia_of`, `assembly_of`, `update_of` and `solve_of` say, and leave the
 // buffers so.
+#![tactic(auto)]
+
 ghost use Rattle.std.specs.Prelude.{◌≡◌};
 ghost use Rattle.model.specs.Scalar.{is_finite, magnitude_of, square_of, maximum_of, reciprocal_of, lift_of};
 ghost use Rattle.model.specs.Root.{sqrt_of};

@@ -1,6 +1,8 @@
 // The checks that several calls share: the shape of a node (factor, assembly, update) and the block bytes (inertia,
 // update); and the answer of a call that accepts with nothing but its panel (assembly, update).
 // A reader may rely on each being the definition's (model, specs/Factor.antt, specs/Inertia.antt), whatever is asked.
+#![tactic(auto)]
+
 ghost use Rattle.std.specs.Prelude.{◌≡◌, ◌<◌, length};
 ghost use Rattle.model.specs.Matrix.{naturals};
 ghost use Rattle.model.specs.Factor.{shape_sound};

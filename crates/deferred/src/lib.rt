@@ -1,6 +1,8 @@
 // The deferred update: what a finished panel does to the columns after it. L.D is formed first; then the later columns
 // lose their sums, two columns at a time. A reader may rely on the contract of deferred_update: every rounding is the
 // definition's.
+#![tactic(auto)]
+
 ghost use Rattle.std.specs.Prelude.{◌≡◌, ◌+◌, ◌-◌, ◌<◌, ◌≤◌, min, max, length};
 ghost use Rattle.model.specs.Matrix.{view, vec, with_column};
 ghost use Rattle.model.specs.Step.{diagonals_of};

@@ -2,6 +2,8 @@
 // by `block_of`, whether its numbers come from the panel, from a lift or from the lists, so that its determinant is
 // worked
 // out in one place and travels with it.
+#![tactic(auto)]
+
 ghost use Rattle.std.specs.Prelude.{◌≡◌, ◌+◌, ◌<◌, ◌≤◌, min, length};
 ghost use Rattle.model.specs.Matrix.{vec, naturals};
 ghost use Rattle.model.specs.Step.{block_of, block_at, diagonal_at, begins, ends_block, past_of};

@@ -1,5 +1,7 @@
 // A vector divided by D, pivot by pivot, by the elimination's own formulas. A reader may rely on the contract of
 // `divide`: each position becomes what the definition says of it, and no number is checked.
+#![tactic(auto)]
+
 ghost use Rattle.std.specs.Prelude.{◌≡◌, ◌+◌, ◌<◌, length};
 ghost use Rattle.model.specs.Scalar.{◌⊗◌, reciprocal_of};
 ghost use Rattle.model.specs.Matrix.{vec, put, with_part};

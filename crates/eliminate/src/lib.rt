@@ -2,6 +2,8 @@
 // place: the later columns lose the pivot's part before its own columns become multipliers, so that no copy of them is
 // needed. The contracts cite the model's row by row definitions, over all rows and columns of the panel: a reader may
 // rely on every number that they do not change being left alone.
+#![tactic(auto)]
+
 ghost use Rattle.std.specs.Prelude.{◌≡◌, ◌+◌, length};
 ghost use Rattle.model.specs.Matrix.{view};
 ghost use Rattle.model.specs.Head.{head_one, head_two, kept_one, kept_two};

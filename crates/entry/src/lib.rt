@@ -2,6 +2,8 @@
 // of the ten buffers and the input, and write nothing. A length is worked out only once the shape and the width are
 // sound, so that no product overflows. Tests are joined by `&`, not `&&`: they are plain comparisons, and without a
 // branch the whole test is the definition's own.
+#![tactic(auto)]
+
 ghost use Rattle.std.specs.Prelude.{◌≡◌, length};
 ghost use Rattle.model.specs.Matrix.{view};
 ghost use Rattle.model.specs.Factor.{lengths_sound, mode_check, columns_check, settings_check};

@@ -1,6 +1,8 @@
 // The symmetric exchange of two rows and columns in the lower triangle of a column-major panel, up to a row limit.
 // A reader may rely on the contracts of the two public functions: the panel becomes `exchanged` of
 // model/specs/Matrix.antt, so nothing above the diagonal and no row from the limit on changes.
+#![tactic(auto)]
+
 ghost use Rattle.std.specs.Prelude.{◌≡◌, ◌+◌, length};
 ghost use Rattle.model.specs.Matrix.{view, exchanged};
 ghost use Rattle.exchange.specs.Exchange.{cells_swapped, cross_exchanged, diagonal_exchanged, rows_exchanged};

@@ -3,6 +3,8 @@
 // crates/model/specs/Factor.antt, on every input. It asks nothing of its caller. The functions above it are a chain,
 // each with one or two calls that pass the buffers on: eliminate (copy, panels in turn), run (and crates/judge: refusal
 // 9, or accepted).
+#![tactic(auto)]
+
 ghost use Rattle.std.specs.Prelude.{◌≡◌, min, max};
 ghost use Rattle.model.specs.Factor.{entry_check, factor_of};
 ghost use Rattle.model.specs.declared.Check.TheVariants.{Sound};

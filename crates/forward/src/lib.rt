@@ -2,6 +2,8 @@
 // numbers below, so that the rows are innermost and the loops vectorise. Four columns go together: first what they take
 // from the rows among and right below them, then what the four of them take from all further rows in one pass. Each
 // number still loses its terms one by one, by rising position. A reader may rely on the contract of `forward`.
+#![tactic(auto)]
+
 ghost use Rattle.std.specs.Prelude.{◌≡◌, ◌-◌, ◌≤◌, length};
 ghost use Rattle.model.specs.Matrix.{view, vec, naturals, with_part};
 ghost use Rattle.model.specs.Solve.{forward_from};

@@ -2,6 +2,8 @@
 // rely on the contracts: each scan equals its definition in crates/model, not-a-number, ties and signed zeros included,
 // and its square is 0 or that of the number at the place it names (`FoundIn`). No scan reads an upper position
 // (row < column): tests/upper.c sees to it, since no contract can say what is not read.
+#![tactic(auto)]
+
 ghost use Rattle.std.specs.Prelude.{◌≡◌, length};
 ghost use Rattle.model.specs.Scalar.{square_of};
 ghost use Rattle.model.specs.Matrix.{view};

@@ -1,6 +1,8 @@
 // A column-major panel: where its columns begin, and one number read and written, here; parts of columns lent to the
 // slice kernels in columns.rt. Whoever needs an address asks column_start for it: no other code knows how the columns
 // lie.
+#![tactic(auto)]
+
 ghost use Rattle.std.specs.Prelude.{◌≡◌, ◌+◌, ◌*◌, length};
 ghost use Rattle.std.specs.Int.{w64};
 ghost use Rattle.std.proofs.Common.{Fits};
@@ -18,7 +20,7 @@ pub fn column_start(nrow: usize, j: usize) -> usize
 }
 
 // Where the numbers of four columns begin.
-#[derive(Drop)]
+#[derive(Clone, Copy)]
 pub struct FourPlaces(pub usize, pub usize, pub usize, pub usize);
 
 // Of columns j to j + 3, those from row lo on.

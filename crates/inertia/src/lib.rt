@@ -1,6 +1,8 @@
 // Inertia: the counts of positive, negative and zero eigenvalues of D, one pivot or block at a time.
 // A reader may rely on each count being the definition's (model, specs/Inertia.antt), not-a-number and signed zeros
 // included, and on `inertia` answering any three lists: it refuses, or it counts.
+#![tactic(auto)]
+
 ghost use Rattle.std.specs.Prelude.{◌≡◌, length};
 ghost use Rattle.model.specs.Matrix.{vec, naturals};
 ghost use Rattle.model.specs.Answer.{counted_says};

@@ -1,5 +1,7 @@
 // The result of a run, judged: refusal 9 and zeros, or accepted with marks, counts and a working buffer of +0.0. A
 // reader may rely on the contract of `judge`: its answer and every lent buffer are `judge_of` of specs/Judge.antt.
+#![tactic(auto)]
+
 ghost use Rattle.std.specs.Prelude.{◌≡◌, length};
 ghost use Rattle.model.specs.Matrix.{view};
 ghost use Rattle.total.specs.Finite.{KnownFinite};

@@ -2,6 +2,8 @@
 // their order. The operands are separate slices, or stand in the slice that is written, where each n numbers begin at
 // a place that the caller names, with what is written further on. A reader may rely on the contracts: what is not among
 // the n numbers stays.
+#![tactic(auto)]
+
 ghost use Rattle.std.specs.Prelude.{◌≡◌, ◌+◌, ◌≤◌, length, replicate};
 ghost use Rattle.model.specs.Scalar.{zero_f};
 ghost use Rattle.model.specs.Matrix.{vec, with_part};
@@ -9,13 +11,13 @@ ghost use Rattle.kernels.specs.Rules.{pick, less_runs, less_each, plus_times, ti
 ghost use Rattle.kernels.specs.Rules.{behind, ahead, TwoPre, ThreePre, AheadPre, MoreAheadPre};
 
 // A run's own multipliers of two runs, in the order in which it loses them; of three; of four.
-#[derive(Drop)]
+#[derive(Clone, Copy)]
 pub struct TwoMultipliers(pub f64, pub f64);
 
-#[derive(Drop)]
+#[derive(Clone, Copy)]
 pub struct ThreeMultipliers(pub f64, pub f64, pub f64);
 
-#[derive(Drop)]
+#[derive(Clone, Copy)]
 pub struct FourMultipliers(pub f64, pub f64, pub f64, pub f64);
 
 // All numbers become +0.0.

@@ -1,6 +1,8 @@
 // Rows of the system (GlobalRow), rows of the target's panel (LocalRow) and its columns (Elim) are three types.
 // `local_row` is the one way from the first to the second, `column_of` the one way from the first to the third.
 // Both lists of rows rise, so a search goes on where the one before it ended. `Shapes` has the sizes of both nodes.
+#![tactic(auto)]
+
 ghost use Rattle.std.specs.Prelude.{◌≡◌, ◌+◌, ◌-◌, ◌<◌, ◌≤◌, ◌^◌, eqb, length};
 ghost use Rattle.model.specs.Matrix.{naturals};
 ghost use Rattle.model.specs.Factor.{every_from};
@@ -14,7 +16,7 @@ ghost use Rattle.landing.specs.Rows.{ColumnsPre, LocatePre, Located};
 use model::{Check, Elim, GlobalRow, LocalRow, Refusal};
 
 // The target's columns and rows, and the global row of its first column; the descendant's columns, and rows below them.
-#[derive(Drop)]
+#[derive(Clone, Copy)]
 pub struct Shapes {
     pub ncol: usize,
     pub nrow: usize,

@@ -1,6 +1,8 @@
 // A later column of a part of a panel less the parts of one pivot or of two, in one pass: the operations of each number
 // are those of the pivots one after the other, in their order. The first pivot stands in the part's first columns, the
 // second right after it. A reader may rely on the contracts of less_step and less_both: no other number changes.
+#![tactic(auto)]
+
 ghost use Rattle.std.specs.Prelude.{◌≡◌, ◌+◌, length};
 ghost use Rattle.model.specs.Matrix.{view, with_column};
 ghost use Rattle.model.specs.Head.{last_of};

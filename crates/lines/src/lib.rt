@@ -2,6 +2,8 @@
 // A reader may rely on each contract: the buffer is what it was with the line of specs/Lines.antt placed in it, and the
 // answer is the place after the line. A caller owes room for the longest line of its kind: a space and a number take at
 // most 21 bytes in decimal and 17 in hexadecimal.
+#![tactic(auto)]
+
 ghost use Rattle.std.specs.Prelude.{◌+◌, ◌*◌, ◌≤◌, ◌<◌, ◌≡◌, [], length};
 ghost use Rattle.model.specs.Answer.{factored_says};
 ghost use Rattle.buffers.specs.Buffers.{buffers_of};

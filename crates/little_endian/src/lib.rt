@@ -1,6 +1,8 @@
 // Whole numbers and f64 numbers out of bytes, the least byte first, and an f64 number's bits.
 // A reader may rely on equations with the definitions in specs/LittleEndian.antt and with IEEE 754's patterns. Every
 // not-a-number is the pattern 7FF8000000000000, and every pattern of one is read as a not-a-number.
+#![tactic(auto)]
+
 ghost use Rattle.std.specs.Prelude.{◌≡◌, ◌+◌, ◌*◌, ◌<◌, ◌≤◌, length};
 ghost use Rattle.std.specs.Float.{binary64};
 ghost use Rattle.std.specs.Float.Ieee.{of_bits, to_bits};

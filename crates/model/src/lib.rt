@@ -1,5 +1,6 @@
 // The declared types that the definitions in specs/ speak of, and that every crate above passes on.
 // Nothing here computes: a reader may rely on the names and on the comments alone.
+#![tactic(auto)]
 
 // The most columns, rows, columns of a panel, and rounds of a block's lift that a call may ask for: most_columns,
 // most_rows, widest_panel and most_rounds of specs/Sizes.antt.
@@ -12,26 +13,26 @@ pub const WIDTH_MAX: usize = 64;
 pub const LIMIT_MAX: usize = 64;
 
 // A row of a node's panel, counted from 0: the source's li.
-#[derive(Drop)]
+#[derive(Clone, Copy)]
 pub struct LocalRow(pub usize);
 
 // A row of the whole system: the source's g.
-#[derive(Drop)]
+#[derive(Clone, Copy)]
 pub struct GlobalRow(pub u32);
 
 // A column of a node by its position in the elimination: the source's e, less the node's own offset.
-#[derive(Drop)]
+#[derive(Clone, Copy)]
 pub struct Elim(pub usize);
 
 // What a pivot that is too small meets: refusal 7, 23 or 24, or a lift to the floor that Lift carries.
-#[derive(Drop)]
+#[derive(Clone, Copy)]
 pub enum Mode {
     Fail,
     Lift(f64),
 }
 
 // The settings of a factor call: columns, rows, panel width, mode, rounds that a block's lift may take.
-#[derive(Drop)]
+#[derive(Clone, Copy)]
 pub struct Settings {
     pub ncol: usize,
     pub nrow: usize,
@@ -42,14 +43,14 @@ pub struct Settings {
 
 // The settings that steer the pivots, beside the node's columns and the panel width: what a pivot that is too small
 // meets, and the rounds that a block's lift may take.
-#[derive(Drop)]
+#[derive(Clone, Copy)]
 pub struct Pivoting {
     pub mode: Mode,
     pub limit: usize,
 }
 
 // The lengths of a factor call's input and of the nine buffers that it writes.
-#[derive(Drop)]
+#[derive(Clone, Copy)]
 pub struct Lengths {
     pub input: usize,
     pub panel: usize,
@@ -65,7 +66,7 @@ pub struct Lengths {
 
 // The panel at work: the node's rows and columns, the width by which its multipliers are laid out, and the panel's own
 // columns, kb up to ke.
-#[derive(Drop)]
+#[derive(Clone, Copy)]
 pub struct Frame {
     pub nrow: usize,
     pub ncol: usize,
@@ -75,7 +76,7 @@ pub struct Frame {
 }
 
 // A two-by-two pivot with its determinant, passed by value from the choice to elimination, tail and inertia.
-#[derive(Drop)]
+#[derive(Clone, Copy)]
 pub struct Block {
     pub d11: f64,
     pub d21: f64,
@@ -84,14 +85,14 @@ pub struct Block {
 }
 
 // A pivot of D: a 1x1's number, or a block.
-#[derive(Drop)]
+#[derive(Clone, Copy)]
 pub enum Diagonal {
     One(f64),
     Two(Block),
 }
 
 // A greatest square and the row where it stood. (A place along a row is, by symmetry, a row too.)
-#[derive(Drop)]
+#[derive(Clone, Copy)]
 pub struct Greatest {
     pub square: f64,
     pub at: LocalRow,
@@ -100,7 +101,7 @@ pub struct Greatest {
 // What the pivot tests choose at k: nothing, since the column test finds zero; a 1x1 with the row that is exchanged
 // with k; a block with the row that is exchanged with k, which is k's own as the tests stand, and the row that is then
 // exchanged with k + 1.
-#[derive(Drop)]
+#[derive(Clone, Copy)]
 pub enum Choice {
     ZeroColumn,
     Single(LocalRow),
@@ -108,7 +109,7 @@ pub enum Choice {
 }
 
 // The chosen 1x1 as the mode settles it: zero in Fail, or its number with the lift byte and the lift's amount.
-#[derive(Drop)]
+#[derive(Clone, Copy)]
 pub enum OneSettled {
     Zero,
     Number { d: f64, lifted: u8, amount: f64 },
@@ -116,7 +117,7 @@ pub enum OneSettled {
 
 // The chosen block as the mode settles it: at or below its growth floor in Fail, or in need of more rounds than the
 // limit, or its numbers with the lift byte, the lift's amount and the rounds used.
-#[derive(Drop)]
+#[derive(Clone, Copy)]
 pub enum TwoSettled {
     Low,
     OutOfRounds,
@@ -130,7 +131,7 @@ pub enum TwoSettled {
 
 // What a step took: the row exchanged with its first column before anything else (its own but for a rook block), the
 // row exchanged with its last column, its numbers, the lift byte, the lift amount, the rounds that its lift used.
-#[derive(Drop)]
+#[derive(Clone, Copy)]
 pub struct Pivot {
     pub p: LocalRow,
     pub kp: LocalRow,
@@ -141,7 +142,7 @@ pub struct Pivot {
 }
 
 // Counts of positive, negative and zero eigenvalues of D.
-#[derive(Drop)]
+#[derive(Clone, Copy)]
 pub struct Tally {
     pub positive: usize,
     pub negative: usize,
@@ -149,7 +150,7 @@ pub struct Tally {
 }
 
 // What an accepted factor call reports: the rounds of all block lifts, and the inertia.
-#[derive(Drop)]
+#[derive(Clone, Copy)]
 pub struct Report {
     pub rounds: usize,
     pub inertia: Tally,
@@ -157,7 +158,7 @@ pub struct Report {
 
 // The refusals 1 to 19 and 23 to 27 of docs/REFUSALS.md in order. `numbered` of specs/Answer.antt gives the number and
 // the place of each.
-#[derive(Drop)]
+#[derive(Clone, Copy)]
 pub enum Refusal {
     Shape,
     Width,
@@ -186,28 +187,28 @@ pub enum Refusal {
 }
 
 // What a check says: that it found nothing, or the refusal.
-#[derive(Drop)]
+#[derive(Clone, Copy)]
 pub enum Check {
     Sound,
     Refused(Refusal),
 }
 
 // The answer of a factor call.
-#[derive(Drop)]
+#[derive(Clone, Copy)]
 pub enum Factored {
     Accepted(Report),
     Refused(Refusal),
 }
 
 // The answer of an inertia call.
-#[derive(Drop)]
+#[derive(Clone, Copy)]
 pub enum Counted {
     Counts(Tally),
     Refused(Refusal),
 }
 
 // The answer of an assembly, an update or a solve.
-#[derive(Drop)]
+#[derive(Clone, Copy)]
 pub enum Applied {
     Done,
     Refused(Refusal),

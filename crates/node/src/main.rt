@@ -2,6 +2,8 @@
 // What it writes is a function of what it reads, `answer::respond`, which answers any bytes. A stream that goes on past
 // the longest good one asks what its first LONGEST + 1 bytes ask (`asked-prefix` of crate record), so no more is read.
 // Where standard output takes nothing more, one line on standard error says so, the only one that ever stands there.
+#![tactic(auto)]
+
 ghost use Rattle.std.specs.Prelude.{◌≤◌};
 
 use answer::ROOM;

@@ -1,6 +1,8 @@
 // What is noted of a pivot, in seven buffers: its numbers and block byte, its lift, its exchanges. `note` leaves
 // exactly `noted` of crates/model/specs/Head.antt.
 // origin: src/numeric/ldlt/bunch_kaufman.rs, fn ll_bk_panel_step
+#![tactic(auto)]
+
 ghost use Rattle.std.specs.Prelude.{◌≡◌, length, ◌<◌};
 ghost use Rattle.model.specs.Sizes.{most_columns};
 ghost use Rattle.model.specs.Scalar.{zero_f};

@@ -1,5 +1,7 @@
 // An order of rows: for each position the row that stands there. The check that it is a permutation (refusal 26), a
 // vector taken in that order, and put back. A reader may rely on each being the definition's (model, specs/Solve.antt).
+#![tactic(auto)]
+
 ghost use Rattle.std.specs.Prelude.{◌≡◌, not, ◌&&◌, ◌<◌, ◌≤◌, ltb, eqb, length};
 ghost use Rattle.model.specs.Sizes.{most_columns};
 ghost use Rattle.model.specs.Matrix.{vec, naturals, with_part};

@@ -1,6 +1,8 @@
 // A call's answer as plain numbers, and a mode of a flag and a floor: what callers go by that know numbers alone, the C
 // interface and the record of answers. A reader may rely on each outcome being the numbers of what the answer says
 // (specs/Numbers.antt), a refusal's as crate refusal has them.
+#![tactic(auto)]
+
 ghost use Rattle.std.specs.Prelude.{◌≡◌};
 ghost use Rattle.model.specs.Answer.{factored_says, counted_says, applied_says};
 ghost use Rattle.outcome.specs.Numbers.{mode_of, refused_as, reported_as};
@@ -13,7 +15,7 @@ use refusal::NumberAndPlace;
 // inertia call the inertia, an assembly, an update or a solve neither. Any other is the refusal's, with its place a, b.
 // What a call does not have is 0.
 #[repr(C)]
-#[derive(Drop)]
+#[derive(Clone, Copy)]
 pub struct Outcome {
     pub number: usize,
     pub a: usize,

@@ -2,6 +2,8 @@
 // passed once for both, and several columns in one pass where swept allows it. Of two pivots the second one's exchange
 // is made first, and the first one's multipliers are then those of the rows as they stood. A reader may rely on the
 // contracts of below_step and below_pair: they cite the model's steps, and leave every other number of the part alone.
+#![tactic(auto)]
+
 ghost use Rattle.std.specs.Prelude.{◌≡◌, ◌+◌, ◌<◌, ◌≤◌, length};
 ghost use Rattle.std.specs.Int.{w64};
 ghost use Rattle.std.proofs.Common.{Fits};

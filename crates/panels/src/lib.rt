@@ -1,6 +1,8 @@
 // The panels of a node in turn: of each its steps, the rows below it, the later columns. A reader may rely on the
 // contract of `panels`: what it leaves in the lent buffers is `whole_panels_of` of crates/whole/specs/Whole.antt, the
 // model's run over all rows, or the refusal that stopped it. Each function passes the buffers on by one or two calls.
+#![tactic(auto)]
+
 ghost use Rattle.std.specs.Prelude.{◌≡◌, ◌+◌, ◌-◌, ◌*◌, ◌≤◌, min, length, take};
 ghost use Rattle.model.specs.Sizes.{most_columns, widest_panel};
 ghost use Rattle.model.specs.Matrix.{view, naturals};

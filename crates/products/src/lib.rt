@@ -1,5 +1,7 @@
 // L.D of a panel's columns, formed before the later columns lose their sums: column t of g for the panel's column
 // kb + t, rows from ke on. A reader may rely on the contract of products.
+#![tactic(auto)]
+
 ghost use Rattle.std.specs.Prelude.{◌≡◌, ◌+◌, ◌-◌, length};
 ghost use Rattle.model.specs.Matrix.{view, with_column};
 ghost use Rattle.model.specs.Step.{diagonals_of};

@@ -1,6 +1,8 @@
 // What a stream of bytes asks of the program: a record of settings, then one of the input panel, and nothing more.
 // A reader may rely on `asked_by` answering any bytes as `asked_of` of specs/Record.antt says: the settings to factor
 // with, or refusal 20, 21 or 22.
+#![tactic(auto)]
+
 ghost use Rattle.std.specs.Prelude.{◌≡◌, ◌+◌, ◌≤◌, length};
 ghost use Rattle.little_endian.specs.LittleEndian.{le16};
 ghost use Rattle.record.specs.Record.{mode_of, settings_of, record_at, first_sound, sizes_sound, second_sound};
@@ -13,7 +15,7 @@ use model::{Mode, Settings};
 pub const LONGEST: usize = 30 + 8 * (64 * 16);
 
 // What a stream asks: a factor call with these settings; or it is turned away, with number 20, 21 or 22 at place 0, 0.
-#[derive(Drop)]
+#[derive(Clone, Copy)]
 pub enum Asked {
     Factor(Settings),
     Refused(usize),

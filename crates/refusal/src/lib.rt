@@ -1,12 +1,14 @@
 // A refusal as the number and the place that docs/REFUSALS.md gives it: the one table of them in code.
 // A reader may rely on each being what `turned_away` says (model, specs/Answer.antt), whatever the call accepts with.
+#![tactic(auto)]
+
 ghost use Rattle.std.specs.Prelude.{◌≡◌};
 ghost use Rattle.model.specs.Answer.{Said, refused, turned_away};
 
 use model::Refusal;
 
 // A refusal's number and its place A, B; 0, 0 if it names none.
-#[derive(Drop)]
+#[derive(Clone, Copy)]
 pub struct NumberAndPlace {
     pub number: usize,
     pub a: usize,

@@ -6,6 +6,8 @@
 // Nothing of it is public: what one module has of another is the crate's own, pub(crate).
 // file.rt reads lists and holds buffers to them, calls.rt has one function a call, sum.rt the checksum by which a
 // damaged or short file is noticed.
+#![tactic(auto)]
+
 mod calls;
 mod file;
 mod sum;

@@ -1,5 +1,7 @@
 // The pivot rule: which pivot is chosen in a panel, and what a block's determinant must pass.
 // The tests and the roundings are those of model's specs/Choice.antt and specs/Head.antt, in their order.
+#![tactic(auto)]
+
 ghost use Rattle.std.specs.Prelude.{◌≡◌, true, length};
 ghost use Rattle.model.specs.Scalar.{◌⊗◌};
 ghost use Rattle.model.specs.Root.{sqrt_of, alpha};
@@ -13,7 +15,7 @@ ghost use Rattle.rule.specs.Reach.{Reaches, ReachPre};
 use model::{Block, Choice, Elim, LocalRow};
 
 // Bunch and Kaufman's rule: a name for its two constants and its tests.
-#[derive(Drop)]
+#[derive(Clone, Copy)]
 pub struct PivotRule;
 
 // The greatest magnitude of a block's numbers.

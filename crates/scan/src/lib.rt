@@ -1,6 +1,8 @@
 // Scans that only read a panel: the first number that is not finite, and the marks of the tail. A reader may rely on
 // the contracts: each scan equals its definition in crates/model, infinities and not-a-number included. No scan reads
 // an upper position (row < column): tests/upper.c sees to it, since no contract can say what is not read.
+#![tactic(auto)]
+
 ghost use Rattle.std.specs.Prelude.{◌≡◌, ◌≤◌, length};
 ghost use Rattle.model.specs.Matrix.{view, vec};
 ghost use Rattle.model.specs.Factor.{columns_check};

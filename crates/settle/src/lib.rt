@@ -1,5 +1,7 @@
 // The numbers of a chosen pivot, settled by the mode: refused in Fail where they cannot be taken, lifted in Lift where
 // they are too small, else as they are. The tests and the roundings are those of model's specs/Head.antt, in their order.
+#![tactic(auto)]
+
 ghost use Rattle.std.specs.Prelude.{◌≡◌};
 ghost use Rattle.model.specs.Head.{settled_one, settled_two, raised_from, bar_of, lift_step_of};
 

@@ -2,6 +2,8 @@
 // those are read once for all of them. The kernels here take the places where columns begin, and know nothing else of
 // how the columns lie. Each number keeps its operations and their order. A reader may rely on the contracts: no other
 // number changes.
+#![tactic(auto)]
+
 ghost use Rattle.std.specs.Prelude.{◌≡◌, ◌+◌, length};
 ghost use Rattle.std.specs.Int.{w64};
 ghost use Rattle.std.proofs.Common.{Fits};
@@ -14,7 +16,7 @@ use grid::column_start;
 use kernels::{ThreeMultipliers, TwoMultipliers};
 
 // Where four runs begin, each past the one before it.
-#[derive(Drop)]
+#[derive(Clone, Copy)]
 struct FourRuns(usize, usize, usize, usize);
 
 // Two runs of n numbers are read, at 0 and at p; four are written, which begin where `to` says. Number i of each run

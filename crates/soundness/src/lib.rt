@@ -1,6 +1,8 @@
 // The look at a result after the last column, refusal 9: whether each column's d, subdiagonal, pivot and lower head is
 // finite. A reader may rely on the contract of `first_unsound`: its answer is the definition's, the least column that is
 // not.
+#![tactic(auto)]
+
 ghost use Rattle.std.specs.Prelude.{◌≡◌, ◌<◌, length};
 ghost use Rattle.model.specs.Matrix.{view};
 ghost use Rattle.model.specs.Step.{diagonals_of};

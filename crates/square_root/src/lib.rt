@@ -1,13 +1,15 @@
 // The square root, correctly rounded as IEEE 754 says: a leaf like those of scalar, equal to its definition in model's
 // specs/Root.antt at every number. It is worked out in whole numbers, since the language has no operator for it. No
 // caller of `sqrt` owes anything.
+#![tactic(auto)]
+
 ghost use Rattle.std.specs.Prelude.{◌≡◌, ◌+◌, ◌*◌, ◌^◌};
 ghost use Rattle.model.specs.Root.{round_root, sqrt_of};
 ghost use Rattle.square_root.specs.Steps.{heron_of, Close, Whole, Digits, NearRoot};
 ghost use Rattle.square_root.specs.Steps.{HeronPre, LongPre, ExtendPre, ScaledPre};
 
 // The whole part q of a square root, and what is left, r: q * q + r is the number, and r is at most 2 * q.
-#[derive(Drop)]
+#[derive(Clone, Copy)]
 struct Root {
     q: u64,
     r: u64,

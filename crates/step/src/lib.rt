@@ -1,6 +1,8 @@
 // A step: the pivot at k chosen, settled by the mode, exchanged and eliminated in the panel's rows.
 // Its equation is `try_of` of crates/model/specs/Head.antt; where it refuses, what the panel holds is not promised.
 // origin: src/numeric/ldlt/bunch_kaufman.rs, fn ll_bk_panel_step
+#![tactic(auto)]
+
 ghost use Rattle.std.specs.Prelude.{◌≡◌, ◌+◌, length};
 ghost use Rattle.model.specs.Matrix.{view, exchanged};
 ghost use Rattle.greatest.specs.Greatest.{Within};
@@ -17,7 +19,7 @@ use model::{
 use rule::PivotRule;
 
 // The answer of a step: a refusal of the run, or the pivot that it took.
-#[derive(Drop)]
+#[derive(Clone, Copy)]
 pub enum Taken {
     Refused(Refusal),
     Took(Pivot),

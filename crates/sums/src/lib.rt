@@ -1,6 +1,8 @@
 // The sums of two later columns for several rows at once, number i for the i-th row. A pass over L.D takes four terms
 // of both, whose numbers it loads once; each sum still meets its own terms one by one in their order. A reader may rely
 // on the contract of both_sums.
+#![tactic(auto)]
+
 ghost use Rattle.std.specs.Prelude.{◌≡◌, ◌+◌, ◌-◌, ◌*◌, ◌<◌, ◌≤◌, length};
 ghost use Rattle.model.specs.Matrix.{view, vec, with_part};
 ghost use Rattle.kernels.specs.Rules.{ahead, zeroed, plus_four};
@@ -11,7 +13,7 @@ use kernels::FourMultipliers;
 
 // What is summed, in a panel of nrow rows: for the n rows from lo on, the terms of the panel's w columns from kb on, in
 // the sums of the later columns c and e.
-#[derive(Drop)]
+#[derive(Clone, Copy)]
 pub struct Terms {
     pub nrow: usize,
     pub c: usize,

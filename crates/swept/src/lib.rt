@@ -1,6 +1,8 @@
 // Several columns past two pivots, less both pivots' parts by the multipliers that are kept, in one pass where no
 // multiplier of a 1x1 is zero; and a multiplier of the row that a column stood in before the second pivot's exchange.
 // A reader may rely on the contracts: no other number changes.
+#![tactic(auto)]
+
 ghost use Rattle.std.specs.Prelude.{◌≡◌, true, false, ◌+◌, ◌<◌, ◌≤◌, length};
 ghost use Rattle.model.specs.Matrix.{view, exchanged_place};
 ghost use Rattle.grid.specs.Grid.{In};
@@ -12,7 +14,7 @@ use kernels::{ThreeMultipliers, TwoMultipliers};
 // `rows` rows of each, of columns of nrow rows; a column of multipliers has nb. The part begins with the first pivot's
 // column in the first row below the panel: row i of column j stands i past where grid's column_start says that column j
 // of nrow rows begins, and the multiplier of row j in column c in the same way in columns of nb rows.
-#[derive(Drop)]
+#[derive(Clone, Copy)]
 pub struct Part {
     pub nrow: usize,
     pub rows: usize,

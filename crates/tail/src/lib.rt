@@ -2,6 +2,8 @@
 // What is lent to a step is the panel from row ke of its first column on: nothing above row ke of that column can be
 // named. A reader may rely on the contract of apply_bk_panel_trailing: each row from ke down goes through the model's
 // steps, and nothing else changes.
+#![tactic(auto)]
+
 ghost use Rattle.std.specs.Prelude.{◌≡◌, ◌+◌, ◌-◌, ◌<◌, ◌≤◌, eqb, length};
 ghost use Rattle.std.specs.Int.{w64};
 ghost use Rattle.std.proofs.Common.{Fits};

@@ -1,6 +1,8 @@
 // Text written into a lent buffer: bytes, words, decimal numbers and hexadecimal patterns, each from a place on.
 // A reader may rely on each contract: the buffer is what it was with the piece placed in it, and the answer is the
 // place after the piece, from which the next one goes on. A caller owes room for the longest piece of the kind.
+#![tactic(auto)]
+
 ghost use Rattle.std.specs.Prelude.{◌+◌, ◌≤◌, ◌<◌, ◌≡◌, [], ◌∷◌, length};
 ghost use Rattle.text.specs.Text.{digit_of, decimal_of, hex_from, hex_of, Writes};
 

@@ -2,6 +2,8 @@
 // A reader may rely on the contract of `known_finite`, and on `sum-known` of proofs/Finite.antt, which says what its
 // answer tells; the order of the additions is for speed alone. No upper position (row < column) is read: tests/upper.c
 // sees to it, since no contract can say what is not read.
+#![tactic(auto)]
+
 ghost use Rattle.std.specs.Prelude.{◌≡◌, ◌+◌, ◌<◌, ◌≤◌, length};
 ghost use Rattle.model.specs.Scalar.{zero_f};
 ghost use Rattle.model.specs.Matrix.{view, vec};

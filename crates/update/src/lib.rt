@@ -2,6 +2,8 @@
 // part of L.D.Lᵀ from that column, from the landing row on. Refusals 13 to 16 and 18 are update_checks', 17 is
 // landing's, the numbers update_rows'. A reader may rely on `update` answering any arguments: it refuses and writes
 // nothing, or the panel is the definition's.
+#![tactic(auto)]
+
 ghost use Rattle.std.specs.Prelude.{◌≡◌, length};
 ghost use Rattle.model.specs.Update.{update_of};
 ghost use Rattle.checks.specs.Answers.{leaves};

@@ -2,6 +2,8 @@
 // its definition does, the refusal of the first test that fails.
 // Tests are joined by `&`, not `&&`: they are plain comparisons, and without a branch the whole test is the
 // definition's own.
+#![tactic(auto)]
+
 ghost use Rattle.std.specs.Prelude.{◌≡◌, ◌&&◌, [], length};
 ghost use Rattle.model.specs.Matrix.{naturals};
 ghost use Rattle.model.specs.Factor.{every_from};

@@ -1,6 +1,8 @@
 // The rows of an update. The descendant's rows from a landing row c on go in parts: acc of a part is summed by crate
 // update_sums, and each of its rows of the target's column then loses its acc once. A reader may rely on the contract
 // of `update_rows`; crates/update_rows/proofs/Closed.antt says that it is the definition's matrix.
+#![tactic(auto)]
+
 ghost use Rattle.std.specs.Prelude.{◌≡◌, ◌+◌, ◌-◌, ◌<◌, ◌≤◌, min, length};
 ghost use Rattle.model.specs.Matrix.{view, vec, naturals};
 ghost use Rattle.grid.specs.Grid.{In};

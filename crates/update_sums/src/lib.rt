@@ -1,6 +1,8 @@
 // The sums of an update. With v = D·(row c of L) of a landing row c, acc = L·v of a part of the descendant's rows is
 // summed from +0.0 in column order, two columns a pass. A reader may rely on the contract of `sum`: acc of these rows
 // over all columns, whatever it was before.
+#![tactic(auto)]
+
 ghost use Rattle.std.specs.Prelude.{◌≡◌, ◌+◌, ◌-◌, ◌≤◌, length};
 ghost use Rattle.std.specs.Int.{w64};
 ghost use Rattle.std.proofs.Common.{Fits};
