@@ -1,0 +1,21 @@
+-- `answer::respond` meets its contract: the stream is refused, or its panel is factored. Assumes nothing.
+use mathlib.Core.Path.{sym, ◌∙◌}
+use native.Mathlib.Omega.{arith}
+use Rattle.text.proofs.Laws.{written}
+use Rattle.answer.proofs.Calls.{refused-printed}
+use borrow.Author.Rules.{rules}
+use Rattle.answer.proofs.respond.Goals as goal
+
+pub factored-requires : goal.factored-requires
+factored-requires c = record { stream_value = sym c.asked_by-asked.ensures ∙ c.in-Factor.is; in_bounds = search rules }
+
+pub returns-in-Factor : goal.returns-in-Factor
+returns-in-Factor c = let h = let w = c.factored.ensures in
+    (written w, omega (arith, w.room)) in
+    record { out_after = h.0; upper_bound = h.1 }
+
+pub returns-in-Refused : goal.returns-in-Refused
+returns-in-Refused c = let h = let asked = c.before.before.before in
+    let w = refused-printed _ _ (sym asked.before.before.asked_by.ensures ∙ asked.asked2.given.1) c.Put-refused.ensures in
+    (written w, omega (arith, w.room)) in
+    record { out_after = h.0; upper_bound = h.1 }

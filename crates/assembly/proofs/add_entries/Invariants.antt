@@ -1,0 +1,18 @@
+-- `assembly::add_entries` meets its contract. The invariant: adding the entries from k on to the panel as it is makes what adding them all to the first
+-- panel makes. The measure is what is left of the entries. Assumes nothing.
+use mathlib.Core.Path.{◌≡◌}
+use Prim.Native.Nat.{◌-◌, ◌≤◌}
+use lib.ListN.{length}
+use Rattle.model.specs.Matrix.{view, vec, naturals}
+use Rattle.model.specs.Assembly.{assembled_from}
+use Rattle.assembly.proofs.Laws.{place_in, entries_none, entries-step, entries-end}
+use Rattle.assembly.proofs.add_entries.Given as goal
+
+abbrev pub invariant-loop-k : goal.invariant-loop-k
+invariant-loop-k l =
+    (l.k ≤ length l.rows) × (length l.panel ≡ length l.initial.panel)
+    × (assembled_from (naturals l.rows) (naturals l.cols) (vec l.numbers) (length l.rows - l.k) l.k (view l.nrow l.panel)
+    ≡ assembled_from (naturals l.rows) (naturals l.cols) (vec l.numbers) (length l.rows) 0 (view l.nrow l.initial.panel))
+
+abbrev pub decreases-loop-k : goal.decreases-loop-k
+decreases-loop-k l = length l.rows - l.k

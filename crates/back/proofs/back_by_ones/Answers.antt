@@ -1,0 +1,22 @@
+-- What `back::back_by_ones` owes. Assumes nothing.
+use Prim.Native.Nat.{◌-◌, ◌≤◌}
+use mathlib.Core.Path.{◌≡◌, refl}
+use lib.ListN.{length}
+use Rattle.model.specs.Matrix.{view, vec, naturals}
+use Rattle.back.specs.Back.{steps_back}
+use Rattle.back.proofs.Turns.{ones-pre, ones_step, ones-end}
+use borrow.Author.Rules.{rules}
+use Rattle.back.proofs.back_by_ones.Goals as goal
+
+pub loop-k-init : goal.loop-k-init
+loop-k-init c = (search rules, search rules, refl)
+
+pub step_back-requires : goal.step_back-requires
+step_back-requires c = search (rules, ones-pre)
+
+pub loop-k-preserved : goal.loop-k-preserved
+unfolding vec
+loop-k-preserved c = (search rules, search rules, search ones_step)
+
+pub returns : goal.returns
+returns c = search ones-end

@@ -1,0 +1,6 @@
+-- `capi::misuktaan_factor` meets its contract: the numbers of the factor call's answer, beside the buffers as it left them. Assumes nothing.
+use Rattle.capi.proofs.Laws.{factor-left}
+use Rattle.capi.proofs.misuktaan_factor.Goals as goal
+
+pub returns : goal.returns
+returns c = factor-left c.of_factor.ensures (rw moded.Mode-of.ensures at c.factor.ensures)

@@ -1,0 +1,22 @@
+-- What `deferred::defer_rows` owes. Assumes nothing.
+use Prim.Native.Nat.{◌-◌, ◌≤◌}
+use mathlib.Core.Path.{◌≡◌}
+use lib.ListN.{length}
+use Rattle.model.specs.Matrix.{view}
+use Rattle.deferred.specs.Columns.{part_deferred}
+use Rattle.deferred.proofs.Parts.{columns-none, columns-still, columns-step, columns-end}
+use borrow.Author.Rules.{rules}
+use Rattle.deferred.proofs.defer_rows.Goals as goal
+
+pub loop-c-init : goal.loop-c-init
+loop-c-init c = (search rules, search rules, search rules, search rules, search rules, search columns-none)
+
+pub defer_next-c-requires : goal.defer_next-c-requires
+defer_next-c-requires c = let h = (search columns-still, (search rules, (search rules, search rules))) in
+    record { columns_pre = h.0; rows_pre = h.1.0; rows_pre_2 = h.1.1.0; ke_le_c = h.1.1.1 }
+
+pub loop-c-preserved : goal.loop-c-preserved
+loop-c-preserved c = (search rules, search rules, search rules, search rules, search rules, search columns-step)
+
+pub returns : goal.returns
+returns c = search columns-end

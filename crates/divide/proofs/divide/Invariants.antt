@@ -1,0 +1,21 @@
+-- `divide::divide` meets its contract. The invariant: a pivot begins at k, and the positions before it are divided; the measure is what is left of them.
+-- Assumes nothing.
+use Prim.Native.Nat.{◌-◌, ◌≤◌}
+use mathlib.Core.Path.{◌≡◌}
+use lib.ListN.{length}
+use Rattle.model.specs.Matrix.{vec, naturals, with_part}
+use Rattle.model.specs.Step.{diagonals_of}
+use Rattle.model.specs.Kept.{Starts}
+use Rattle.model.specs.Solve.{divided}
+use Rattle.kernels.proofs.Laws.{with_part-end}
+use Rattle.kernels.proofs.Rules.{rule-none}
+use Rattle.divide.proofs.Laws.{pivot-pre, none_before, turn_step, turn-starts, turn-within, turn-less}
+use Rattle.divide.proofs.divide.Given as goal
+
+abbrev pub invariant-loop-k : goal.invariant-loop-k
+invariant-loop-k l =
+    (l.k ≤ l.n) × (length l.y ≡ length l.initial.y) × Starts (naturals l.blocks) l.k
+    × (vec l.y ≡ with_part (vec l.initial.y) 0 l.k (divided (diagonals_of l.d l.sub l.blocks) (vec l.initial.y)))
+
+abbrev pub decreases-loop-k : goal.decreases-loop-k
+decreases-loop-k l = l.n - l.k

@@ -1,0 +1,7 @@
+-- `eliminate::kept::keep_one` meets its contract: the lent part of the buffer is a part of the panel's column of multipliers. Assumes nothing.
+use Rattle.eliminate.proofs.Buffer.{keep-one-lent}
+use borrow.Author.Rules.{rules}
+use Rattle.eliminate.proofs.kept.keep_one.Goals as goal
+
+pub returns : goal.returns
+returns c = search (rules, keep-one-lent)

@@ -1,0 +1,17 @@
+-- `forward::less_one` meets its contract. The invariant: the places before i are done by the rule; the measure is what is left. Assumes nothing.
+use Prim.Native.Nat.{◌+◌, ◌-◌, ◌≤◌}
+use mathlib.Core.Path.{◌≡◌, refl}
+use lib.ListN.{length}
+use Rattle.model.specs.Matrix.{vec, with_part}
+use Rattle.kernels.specs.Rules.{pick, less_all}
+use Rattle.kernels.proofs.Laws.{with_part-end}
+use Rattle.kernels.proofs.Rules.{rule-none, pick-each}
+use Rattle.forward.specs.Forward.{less_of}
+use Rattle.forward.proofs.Lent.{less-step}
+use Rattle.forward.proofs.less_one.Given as goal
+
+abbrev pub invariant-loop-i : goal.invariant-loop-i
+invariant-loop-i l = (l.i ≤ l.n) × (length l.x ≡ length l.initial.x) × (vec l.x ≡ with_part (vec l.initial.x) 0 l.i (less_of 1 (vec l.initial.x) (vec l.g) (pick l.a l.a l.a l.a) (pick l.m l.m l.m l.m)))
+
+abbrev pub decreases-loop-i : goal.decreases-loop-i
+decreases-loop-i l = l.n - l.i

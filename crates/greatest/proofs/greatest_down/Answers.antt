@@ -1,0 +1,14 @@
+-- What `greatest::greatest_down` owes. Assumes nothing.
+use Prim.Native.Nat.{◌-◌, ◌≤◌}
+use mathlib.Core.Path.{◌≡◌}
+use Rattle.model.specs.Matrix.{view}
+use Rattle.greatest.specs.Greatest.{greatest_down}
+use Rattle.greatest.proofs.Squares.{down_step, down-end}
+use borrow.Author.Rules.{rules}
+use Rattle.greatest.proofs.greatest_down.Goals as goal
+
+pub loop-i-preserved : goal.loop-i-preserved
+loop-i-preserved c = search (rules, down_step)
+
+pub returns : goal.returns
+returns c = search (rules, down-end)

@@ -1,0 +1,17 @@
+-- `inertia::tally` meets its contract. The invariant: the tally so far has counted k columns, and counting on from k gives the whole count.
+-- The measure is what is left of the columns. Assumes nothing.
+use Prim.Native.Nat.{◌-◌, ◌≤◌}
+use mathlib.Core.Path.{◌≡◌}
+use lib.ListN.{length}
+use Rattle.model.specs.Matrix.{vec, naturals}
+use Rattle.model.specs.Inertia.{tallied_from, tallied_of}
+use Rattle.inertia.proofs.Running.{total, pivot-pre, past-within, past-less, total-step, tally-none, tally-step, tally-end}
+use Rattle.inertia.proofs.tally.Given as goal
+
+abbrev pub invariant-loop-k : goal.invariant-loop-k
+invariant-loop-k l =
+    (l.k ≤ length l.d) × (total l.t ≡ l.k)
+    × (tallied_from (vec l.d) (vec l.sub) (naturals l.blocks) (length l.d) (length l.d - l.k) l.k l.t ≡ tallied_of (length l.d) (vec l.d) (vec l.sub) (naturals l.blocks))
+
+abbrev pub decreases-loop-k : goal.decreases-loop-k
+decreases-loop-k l = length l.d - l.k

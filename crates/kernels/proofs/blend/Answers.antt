@@ -1,0 +1,19 @@
+-- What `kernels::blend` owes. Assumes nothing.
+use Prim.Native.Nat.{◌≤◌, ◌-◌}
+use mathlib.Core.Path.{◌≡◌}
+use lib.ListN.{length}
+use Rattle.model.specs.Matrix.{vec, with_part}
+use Rattle.kernels.specs.Rules.{blended}
+use Rattle.kernels.proofs.Laws.{with_part-end}
+use Rattle.kernels.proofs.Rules.{rule-none, blend-step}
+use borrow.Author.Rules.{rules}
+use Rattle.kernels.proofs.blend.Goals as goal
+
+pub loop-i-init : goal.loop-i-init
+loop-i-init c = search (rules, rule-none)
+
+pub loop-i-preserved : goal.loop-i-preserved
+loop-i-preserved c = search (rules, blend-step)
+
+pub returns : goal.returns
+returns c = search (rules, with_part-end)

@@ -1,0 +1,19 @@
+-- What `kernels::less_each` owes. Assumes nothing.
+use Prim.Native.Nat.{◌≤◌, ◌-◌}
+use mathlib.Core.Path.{◌≡◌}
+use lib.ListN.{length}
+use Rattle.model.specs.Matrix.{vec, with_part}
+use Rattle.kernels.specs.Rules.{less_each}
+use Rattle.kernels.proofs.Laws.{with_part-end}
+use Rattle.kernels.proofs.Rules.{rule-none, less-each-step}
+use borrow.Author.Rules.{rules}
+use Rattle.kernels.proofs.less_each.Goals as goal
+
+pub loop-i-init : goal.loop-i-init
+loop-i-init c = search (rules, rule-none)
+
+pub loop-i-preserved : goal.loop-i-preserved
+loop-i-preserved c = search (rules, less-each-step)
+
+pub returns : goal.returns
+returns c = search (rules, with_part-end)

@@ -1,0 +1,15 @@
+-- `kernels::less_four_ahead` meets its contract. The invariant: i places from q on are done by the rule; the measure is what is left. Assumes nothing.
+use Prim.Native.Nat.{◌+◌, ◌≤◌, ◌-◌}
+use mathlib.Core.Path.{◌≡◌}
+use lib.ListN.{length}
+use Rattle.model.specs.Matrix.{vec, with_part}
+use Rattle.kernels.specs.Rules.{pick, less_all, less_runs}
+use Rattle.kernels.proofs.Rules.{from-none, less-step, pick-each, from_end}
+use Rattle.kernels.proofs.less_four_ahead.Given as goal
+
+abbrev pub invariant-loop-i : goal.invariant-loop-i
+invariant-loop-i l =
+    (l.i ≤ l.n) × (length l.x ≡ length l.initial.x) × (vec l.x ≡ with_part (vec l.initial.x) l.q (l.q + l.i) (less_runs 4 (vec l.initial.x) l.q (pick 0 l.p l.r l.s) (pick l.m1 l.m2 l.m3 l.m4)))
+
+abbrev pub decreases-loop-i : goal.decreases-loop-i
+decreases-loop-i l = l.n - l.i

@@ -1,0 +1,15 @@
+-- `kernels::scale_own` meets its contract. The invariant: the places before i are done by the rule; the measure is what is left. Assumes nothing.
+use Prim.Native.Nat.{◌≤◌, ◌-◌}
+use mathlib.Core.Path.{◌≡◌}
+use lib.ListN.{length}
+use Rattle.model.specs.Matrix.{vec, with_part}
+use Rattle.kernels.specs.Rules.{times}
+use Rattle.kernels.proofs.Laws.{with_part-end}
+use Rattle.kernels.proofs.Rules.{rule-none, times-own-step}
+use Rattle.kernels.proofs.scale_own.Given as goal
+
+abbrev pub invariant-loop-i : goal.invariant-loop-i
+invariant-loop-i l = (l.i ≤ l.n) × (length l.x ≡ length l.initial.x) × (vec l.x ≡ with_part (vec l.initial.x) 0 l.i (times (vec l.initial.x) l.r))
+
+abbrev pub decreases-loop-i : goal.decreases-loop-i
+decreases-loop-i l = l.n - l.i

@@ -1,0 +1,26 @@
+-- What `order::first_bad_row` owes. Assumes nothing.
+use Prim.Native.Nat.{◌-◌, ◌≤◌}
+use mathlib.Core.Path.{◌≡◌}
+use lib.ListN.{length}
+use Rattle.model.specs.Matrix.{naturals}
+use Rattle.model.specs.Assembly.{first_not}
+use Rattle.model.specs.Solve.{order_sound, order_at}
+use Rattle.checks.proofs.First.{first-none, first_step, first-bad, first-end}
+use Rattle.order.proofs.Laws.{seen_of, seen_none, seen_step, row-is-sound, row_in}
+use borrow.Author.Rules.{rules}
+use Rattle.order.proofs.first_bad_row.Goals as goal
+
+pub loop-k-init : goal.loop-k-init
+loop-k-init c = (search rules, search rules, search seen_none, search first-none)
+
+pub returns-then-not-row_sound : goal.returns-then-not-row_sound
+returns-then-not-row_sound c = search (first-bad, row-is-sound)
+
+pub bounds-seen-row : goal.bounds-seen-row
+bounds-seen-row c = search (rules, row_in)
+
+pub loop-k-preserved : goal.loop-k-preserved
+loop-k-preserved c = (search rules, search rules, search (rules, seen_step, row_in), search (first_step, row-is-sound))
+
+pub returns : goal.returns
+returns c = search first-end

@@ -1,0 +1,19 @@
+-- `order::first_bad_row` meets its contract. The invariant: the rows that the positions before k name are marked, and the scan from k on finds what the whole scan
+-- finds. The measure is what is left. Assumes nothing.
+use Prim.Native.Nat.{◌-◌, ◌≤◌}
+use mathlib.Core.Path.{◌≡◌}
+use lib.ListN.{length}
+use Rattle.model.specs.Matrix.{naturals}
+use Rattle.model.specs.Assembly.{first_not}
+use Rattle.model.specs.Solve.{order_sound, order_at}
+use Rattle.checks.proofs.First.{first-none, first_step, first-bad, first-end}
+use Rattle.order.proofs.Laws.{seen_of, seen_none, seen_step, row-is-sound, row_in}
+use Rattle.order.proofs.first_bad_row.Given as goal
+
+abbrev pub invariant-loop-k : goal.invariant-loop-k
+invariant-loop-k l =
+    (l.k ≤ l.n) × (length l.seen ≡ 128) × (naturals l.seen ≡ seen_of (naturals l.order) l.k)
+    × (first_not (order_sound (naturals l.order) l.n) order_at (l.n - l.k) l.k ≡ first_not (order_sound (naturals l.order) l.n) order_at l.n 0)
+
+abbrev pub decreases-loop-k : goal.decreases-loop-k
+decreases-loop-k l = l.n - l.k

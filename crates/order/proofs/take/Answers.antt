@@ -1,0 +1,26 @@
+-- What `order::take` owes. Assumes nothing.
+use Prim.Native.Nat.{◌-◌, ◌≤◌}
+use mathlib.Core.Path.{◌≡◌}
+use lib.ListN.{length}
+use Rattle.model.specs.Matrix.{vec, naturals, with_part}
+use Rattle.model.specs.Solve.{ordered}
+use Rattle.kernels.proofs.Laws.{with_part-end}
+use Rattle.kernels.proofs.Rules.{rule-none}
+use Rattle.order.proofs.Laws.{row-there, take_step}
+use borrow.Author.Rules.{rules}
+use Rattle.order.proofs.take.Goals as goal
+
+pub loop-k-init : goal.loop-k-init
+loop-k-init c = search (rules, rule-none)
+
+pub offset_bounds-vector-row : goal.offset_bounds-vector-row
+offset_bounds-vector-row c = search (rules, row-there)
+
+pub bounds-vector-row : goal.bounds-vector-row
+bounds-vector-row c = search (rules, row-there)
+
+pub loop-k-preserved : goal.loop-k-preserved
+loop-k-preserved c = (search rules, search rules, search (rules, take_step))
+
+pub returns : goal.returns
+returns c = search (rules, with_part-end)

@@ -1,0 +1,18 @@
+-- `pairs::sweep_both` meets its contract. The invariant: the columns before j are swept; the measure is what is left. Assumes nothing.
+use Prim.Native.Nat.{◌+◌, ◌≤◌, ◌-◌}
+use mathlib.Core.Path.{◌≡◌, refl}
+use native.Mathlib.Omega.{arith}
+use lib.ListN.{length}
+use Rattle.model.specs.Matrix.{view}
+use Rattle.swept.specs.Swept.{swept_both}
+use Rattle.swept.proofs.Sweeps.{placed, both-none, both_end}
+use Rattle.swept.proofs.Several.{both-join}
+use Rattle.pairs.proofs.sweep_both.Given as goal
+
+abbrev pub invariant-loop-j : goal.invariant-loop-j
+invariant-loop-j l =
+    (l.f + 1 ≤ l.j) × (l.j ≤ l.at.columns) × (length l.part ≡ length l.initial.part)
+    × (view l.at.nrow l.part ≡ swept_both l.block1 l.block2 (view l.at.nrow l.initial.part) (view l.at.nb l.mult) l.f l.kq 0 l.l (l.f + 1) l.j 0 l.at.rows)
+
+abbrev pub decreases-loop-j : goal.decreases-loop-j
+decreases-loop-j l = l.at.columns - l.j

@@ -1,0 +1,30 @@
+-- `rule::PivotRule::choose_by_row` meets its contract: each return is one way through the tests of row imax. Assumes nothing.
+use Rattle.rule.proofs.Ways.{diagonal-in, across-in, square-read, way-row, way-other, way_block}
+use borrow.Author.Rules.{rules}
+use Rattle.rule.proofs.PivotRule.choose_by_row.Goals as goal
+
+pub across-requires : goal.across-requires
+across-requires c = search (rules, across-in)
+
+pub root_of-rowmax-requires : goal.root_of-rowmax-requires
+root_of-rowmax-requires c = search (rules, square-read)
+
+pub returns-then-own-threshold : goal.returns-then-own-threshold
+returns-then-own-threshold c = search (rules, way-row)
+
+pub get-requires : goal.get-requires
+get-requires c = search (rules, diagonal-in)
+
+pub returns-then-magnitude-threshold : goal.returns-then-magnitude-threshold
+returns-then-magnitude-threshold c = let read = c.before.before.before in
+    let lost = read.before in
+    let root = lost.before.before in
+    way-other _ _ _ _ _ _ _ _ _ lost.before.threshold.ensures root.before.before.row-greatest.ensures.0 root.root-of.ensures _ _ _
+    read.get.ensures c.magnitude.ensures c.threshold-2.ensures lost.if1.false c.if-magnitude-threshold.true
+
+pub returns-else-magnitude-threshold : goal.returns-else-magnitude-threshold
+returns-else-magnitude-threshold c = let read = c.before.before.before in
+    let lost = read.before in
+    let root = lost.before.before in
+    way_block _ _ _ _ _ _ _ _ _ lost.before.threshold.ensures root.before.before.row-greatest.ensures.0 root.root-of.ensures _ _ _
+    read.get.ensures c.magnitude.ensures c.threshold-2.ensures lost.if1.false c.if-magnitude-threshold.false

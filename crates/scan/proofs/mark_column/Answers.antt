@@ -1,0 +1,17 @@
+-- What `scan::mark_column` owes. Assumes nothing.
+use Prim.Native.Nat.{◌-◌, ◌≤◌}
+use mathlib.Core.Path.{◌≡◌}
+use lib.ListN.{length}
+use Rattle.scan.specs.Marks.{part_marked}
+use Rattle.scan.proofs.Marks.{part_none, part_step, part_end}
+use borrow.Author.Rules.{rules}
+use Rattle.scan.proofs.mark_column.Goals as goal
+
+pub loop-i-init : goal.loop-i-init
+loop-i-init c = search (rules, part_none)
+
+pub loop-i-preserved : goal.loop-i-preserved
+loop-i-preserved c = search (rules, part_step)
+
+pub returns : goal.returns
+returns c = search (rules, part_end)

@@ -1,0 +1,22 @@
+-- What `settle::raised` owes. Assumes nothing.
+use Prim.Native.Nat.{◌≤◌, ◌-◌}
+use Rattle.settle.proofs.Laws.{Left, raised-none, raised-step, raised-enough, raised-out}
+use borrow.Author.Rules.{rules}
+use Rattle.settle.proofs.raised.Goals as goal
+
+pub loop-done-init : goal.loop-done-init
+loop-done-init c = (search rules, raised-none _ _ _ _)
+
+pub loop-done-preserved : goal.loop-done-preserved
+loop-done-preserved c = let block = c.before.before in
+    let test = block.before.before.before in (
+      search rules,
+      raised-step _ _ _ _ _ _ _ _ test.before.loop.invariant.1 test.loop-test.true
+          block.Block-of.ensures c.magnitude.ensures c.if-magnitude-bar.true,
+    )
+
+pub returns-else-magnitude-bar : goal.returns-else-magnitude-bar
+returns-else-magnitude-bar c = search (rules, raised-enough)
+
+pub returns : goal.returns
+returns c = search (rules, raised-out)

@@ -1,0 +1,23 @@
+-- `square_root::scaled` meets its contract. Assumes nothing.
+use mathlib.Core.Path.{sym, ◌∙◌, subst}
+use mathlib.Core.Logic.{⊎_elim}
+use mathlib.Core.Bool.{Bool, not}
+use Prim.Native.Nat.{◌/◌}
+use native.Mathlib.Omega.{arith}
+use lib.Dec.{T}
+use Rattle.model.proofs.Root.{units-no-nan, units-bits}
+use Rattle.square_root.proofs.Steps.{halved-even, halved-odd}
+use Rattle.square_root.proofs.scaled.Goals as goal
+
+pub near_root-requires : goal.near_root-requires
+near_root-requires c = ⊎_elim (λ w. omega arith) (λ w. omega arith) c.if-e-eq0.branch
+
+pub float_from_bits-result : goal.float_from_bits-result
+float_from_bits-result c = let near = c.near_root.ensures in
+    subst (λ (b : Bool). T (not b)) (sym (units-no-nan _ (c.args.e / 2) near.from near.to (omega arith))) tt
+
+pub returns : goal.returns
+returns c = let near = c.near_root.ensures in
+    let e = c.args.e in
+    units-bits _ (e / 2) near.from near.to (omega arith)
+    ∙ sym (⊎_elim (λ w. halved-even e near w.0.taken w.1) (λ w. halved-odd _ e near w.0.left w.1) c.if-e-eq0.branch)

@@ -1,0 +1,36 @@
+-- `update::update_columns` meets its contract: the scans of refusals 17 and 18 answer, or the rows that were located are applied. Assumes nothing.
+use mathlib.Core.Path.{refl}
+use Rattle.model.specs.Update.{descendant_sound}
+use Rattle.update.proofs.Called.{locate-pre, apply-pre, panel-is, columns-absent, columns-number, columns-done}
+use borrow.Author.Rules.{rules}
+use Rattle.update.proofs.update_columns.Goals as goal
+
+pub locate-located-requires : goal.locate-located-requires
+locate-located-requires c = locate-pre _ _ _ c.requires _ _ c.first_landing-start.ensures refl
+
+pub returns-in_default : goal.returns-in_default
+returns-in_default c = columns-absent _ _ _ c.requires _ c.first_landing-start.ensures _ c.locate-located.ensures.value _ c.answer.result
+    c.in_default.is c.answer.ensures
+
+pub returns-in_default-checked : goal.returns-in_default-checked
+unfolding descendant_sound
+returns-in_default-checked c = columns-number _ _ _ c.requires _ c.first_landing-start.ensures _ c.locate-located.ensures.value _ c.in-Sound.is
+    c.first_bad_column-checked.ensures _ c.answer-in_default-checked.result c.in_default-checked.is c.answer-in_default-checked.ensures
+
+pub update_rows-requires : goal.update_rows-requires
+update_rows-requires c = let h = (
+      apply-pre _ _ _ c.requires _ c.first_landing-start.ensures _ (c.locate-located.ensures.located c.in-Sound.is) (search rules),
+      c.requires.sizes.descendant,
+    ) in
+    record { apply_pre = h.0; krows_len = h.1 }
+
+pub returns : goal.returns
+unfolding descendant_sound
+returns c = let numbers = all_sound.before.before in
+    let sound = numbers.before in
+    let located = sound.before.before.before in
+    let landing = located.before.before in
+    columns-done _ _ _ c.requires _ landing.first-landing.ensures _ located.locate.ensures.0 _ sound.enum_told.given.1
+    numbers.first-bad-column.ensures _ c.in-Sound-checked.is
+    (panel-is _ _ _ c.requires _ landing.first-landing.ensures _ (located.locate.ensures.1 sound.enum_told.given.1)
+    _ _ (search rules) refl c.update_rows.ensures)

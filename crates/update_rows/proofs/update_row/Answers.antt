@@ -1,0 +1,38 @@
+-- What `update_rows::update_row` owes. Assumes nothing.
+use mathlib.Core.Path.{◌≡◌, refl}
+use Prim.Native.Nat.{◌+◌, ◌-◌, ◌≤◌, ◌<◌}
+use native.Mathlib.Omega.{arith}
+use lib.ListN.{length}
+use Rattle.model.specs.Matrix.{view, naturals}
+use Rattle.update_sums.specs.Acc.{acc_of, from_row}
+use Rattle.update_rows.specs.Apply.{less_from}
+use Rattle.update_rows.proofs.Landing.{row-none, row_done, lands-from, lands-before, rows-later, part_step}
+use borrow.Author.Rules.{rules}
+use Rattle.update_rows.proofs.update_row.Goals as goal
+
+pub returns-then-not-lands : goal.returns-then-not-lands
+unfolding naturals
+returns-then-not-lands c = search row-none
+
+pub column_of-column-requires : goal.column_of-column-requires
+column_of-column-requires c = search lands-from
+
+pub loop-lo-init : goal.loop-lo-init
+loop-lo-init c = (search rules, search rules, search lands-before, search rules, search rules, refl)
+
+pub update_part-requires : goal.update_part-requires
+update_part-requires c = record { apply_pre = rows-later _ _ _ _ _ _ _ _ _ _ _ _ _ c.requires.apply_pre (omega arith) c.loop-lo.invariant.3; part_pre = search rules }
+
+pub loop-lo-preserved : goal.loop-lo-preserved
+loop-lo-preserved c = (
+      search rules,
+      search rules,
+      search rules,
+      search rules,
+      search rules,
+      part_step _ _ _ _ _ _ _ _ _ (search rules) (search rules) c.update_part.ensures c.loop-lo.invariant.5,
+    )
+
+pub returns : goal.returns
+unfolding naturals
+returns c = search row_done

@@ -1,0 +1,22 @@
+-- `update_rows::update_row` meets its contract: a row that does not land changes nothing. Of one that does, the invariant: going on from row lo with the
+-- panel as it is gives what all parts give. The measure is what is left of the rows. Assumes nothing.
+use mathlib.Core.Path.{◌≡◌, refl}
+use Prim.Native.Nat.{◌+◌, ◌-◌, ◌≤◌, ◌<◌}
+use native.Mathlib.Omega.{arith}
+use lib.ListN.{length}
+use Rattle.model.specs.Matrix.{view, naturals}
+use Rattle.update_sums.specs.Acc.{acc_of, from_row}
+use Rattle.update_rows.specs.Apply.{less_from}
+use Rattle.update_rows.proofs.Landing.{row-none, row_done, lands-from, lands-before, rows-later, part_step}
+use Rattle.update_rows.proofs.update_row.Given as goal
+
+abbrev pub invariant-loop-lo : goal.invariant-loop-lo
+invariant-loop-lo l =
+    (l.c ≤ l.lo) × (l.lo ≤ l.s.mk) × (l.column.0 < l.s.ncol) × (length l.panel ≡ length l.initial.panel) × (length l.acc ≡ length l.initial.acc)
+    × (less_from (naturals l.places) (from_row (acc_of (l.s.nk + l.s.mk) l.s.nk l.kpanel l.kd l.ksub l.kblocks (l.s.nk + l.c)) l.s.nk) l.column.0 (l.s.mk - l.lo) l.lo
+    (view l.s.nrow l.panel)
+    ≡ less_from (naturals l.places) (from_row (acc_of (l.s.nk + l.s.mk) l.s.nk l.kpanel l.kd l.ksub l.kblocks (l.s.nk + l.c)) l.s.nk) l.column.0 (l.s.mk - l.c) l.c
+    (view l.s.nrow l.initial.panel))
+
+abbrev pub decreases-loop-lo : goal.decreases-loop-lo
+decreases-loop-lo l = l.s.mk - l.lo

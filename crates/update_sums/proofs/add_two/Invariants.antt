@@ -1,0 +1,18 @@
+-- `update_sums::add_two` meets its contract. The invariant: the first i numbers have gained both terms. The measure is what is left. Assumes nothing.
+use mathlib.Core.Path.{◌≡◌, sym}
+use Prim.Native.Nat.{◌-◌, ◌≤◌}
+use lib.ListN.{length}
+use Rattle.model.specs.Matrix.{vec, with_part}
+use Rattle.kernels.specs.Rules.{plus_times}
+use Rattle.kernels.proofs.Laws.{with_part-none}
+use Rattle.update_sums.specs.Acc.{from_row}
+use Rattle.update_sums.proofs.Numbers.{two-step, two-end}
+use Rattle.update_sums.proofs.add_two.Given as goal
+
+abbrev pub invariant-loop-i : goal.invariant-loop-i
+invariant-loop-i l =
+    (l.i ≤ l.i-end) × (length l.acc ≡ length l.initial.acc)
+    × (vec l.acc ≡ with_part (vec l.initial.acc) 0 l.i (plus_times (plus_times (vec l.initial.acc) (from_row (vec l.kpanel) l.a) l.v) (from_row (vec l.kpanel) l.b) l.w))
+
+abbrev pub decreases-loop-i : goal.decreases-loop-i
+decreases-loop-i l = l.i-end - l.i
