@@ -10,12 +10,10 @@ pub factored-requires : goal.factored-requires
 factored-requires c = record { stream_value = sym c.asked_by-asked.ensures ∙ c.in-Factor.is; in_bounds = search rules }
 
 pub returns-in-Factor : goal.returns-in-Factor
-returns-in-Factor c = let h = let w = c.factored.ensures in
-    (written w, omega (arith, w.room)) in
-    record { out_after = h.0; upper_bound = h.1 }
+returns-in-Factor c = let w = c.factored.ensures in
+    record { out_after = written w; upper_bound = omega (arith, w.room) }
 
 pub returns-in-Refused : goal.returns-in-Refused
-returns-in-Refused c = let h = let asked = c.before.before.before in
+returns-in-Refused c = let asked = c.before.before.before in
     let w = refused-printed _ _ (sym asked.before.before.asked_by.ensures ∙ asked.asked2.given.1) c.Put-refused.ensures in
-    (written w, omega (arith, w.room)) in
-    record { out_after = h.0; upper_bound = h.1 }
+    record { out_after = written w; upper_bound = omega (arith, w.room) }

@@ -59,8 +59,7 @@ loop-k-preserved c = let took = last.before.before in
     )
 
 pub returns : goal.returns
-returns c = let h = let head = c.before in
+returns c = let head = c.before in
     let inv = head.loop.invariant in
     let (sizes, (holds, (limit, noted))) = c.requires in
-    (search panel-end, notes-end _ _ _ _ _ _ _ noted sizes.here inv.13 c.loop-k-test.false inv.2 inv.3) in
-    record { order_after = h.0; ran_to = h.1 }
+    record { order_after = search panel-end; ran_to = notes-end _ _ _ _ _ _ _ noted sizes.here inv.13 c.loop-k-test.false inv.2 inv.3 }

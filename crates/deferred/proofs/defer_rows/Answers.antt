@@ -12,8 +12,7 @@ pub loop-c-init : goal.loop-c-init
 loop-c-init c = (search rules, search rules, search rules, search rules, search rules, search columns-none)
 
 pub defer_next-c-requires : goal.defer_next-c-requires
-defer_next-c-requires c = let h = (search columns-still, (search rules, (search rules, search rules))) in
-    record { columns_pre = h.0; rows_pre = h.1.0; rows_pre_2 = h.1.1.0; ke_le_c = h.1.1.1 }
+defer_next-c-requires c = record { columns_pre = search columns-still; rows_pre = search rules; rows_pre_2 = search rules; ke_le_c = search rules }
 
 pub loop-c-preserved : goal.loop-c-preserved
 loop-c-preserved c = (search rules, search rules, search rules, search rules, search rules, search columns-step)

@@ -5,12 +5,10 @@ use borrow.Author.Rules.{rules}
 use Rattle.eliminate.proofs.keep_block.Goals as goal
 
 pub keep_two-requires : goal.keep_two-requires
-keep_two-requires c = let h = (search (rules, two-keep-pre), (search (rules, source-pre-first), search (rules, source-pre))) in
-    record { keep_pre = h.0; source_pre = h.1.0; source_pre_2 = h.1.1 }
+keep_two-requires c = record { keep_pre = search (rules, two-keep-pre); source_pre = search (rules, source-pre-first); source_pre_2 = search (rules, source-pre) }
 
 pub keep_two-requires-2 : goal.keep_two-requires-2
-keep_two-requires-2 c = let h = (search (rules, two-keep-pre-next), (search (rules, source-pre), search (rules, source-pre-first))) in
-    record { keep_pre = h.0; source_pre = h.1.0; source_pre_2 = h.1.1 }
+keep_two-requires-2 c = record { keep_pre = search (rules, two-keep-pre-next); source_pre = search (rules, source-pre); source_pre_2 = search (rules, source-pre-first) }
 
 pub returns : goal.returns
 returns c = search (rules, two-kept)

@@ -39,15 +39,9 @@ pub begin-requires : goal.begin-requires
 begin-requires c = copy-pre c.args.c c.args.input.now (lent e) c.requires
 
 pub panels-requires : goal.panels-requires
-panels-requires c = let h = let (input, (panel, (d, (sub, (blocks, (lifts, (amounts, (order, rest)))))))) = c.begin.auto in
-    let a = c.args in (
-      run-pre a.c a.input.now (lent e) _ _ _ c.requires c.width-nb.ensures panel refl,
-      (
-        holds-pre a.c a.input.now (lent e) _ _ _ _ _ _ _ c.requires d sub blocks refl lifts amounts order,
-        noted-none (length (blocks-begun b)) _ _ c.begin.ensures.blocks refl,
-      ),
-    ) in
-    record { run_pre = h.0; turn_holds = h.1.0; noted_to = h.1.1 }
+panels-requires c = let (input, (panel, (d, (sub, (blocks, (lifts, (amounts, (order, rest)))))))) = c.begin.auto in
+    let a = c.args in
+    record { run_pre = run-pre a.c a.input.now (lent e) _ _ _ c.requires c.width-nb.ensures panel refl; turn_holds = holds-pre a.c a.input.now (lent e) _ _ _ _ _ _ _ c.requires d sub blocks refl lifts amounts order; noted_to = noted-none (length (blocks-begun b)) _ _ c.begin.ensures.blocks refl }
 
 pub shape_of-panel : goal.shape_of-panel
 shape_of-panel c = c.panels.auto.0 ∙ (begun (sized (called c))).begin.auto.1.0

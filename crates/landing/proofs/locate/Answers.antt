@@ -21,12 +21,8 @@ loop-i-init c = search (rules, locating-none)
 
 pub returns-then-p-rows : goal.returns-then-p-rows
 unfolding naturals
-returns-then-p-rows c = let h = let at = c.before.before.before in
-    (
-      locating-bad _ _ _ _ _ c.requires _ _ _ at.before.loop.invariant at.loop-test.true c.local_row-place.ensures c.if-p-rows.true,
-      λ e. absurd (let z : ◌≡◌ {A = ℕ} 0 1 = cc in omega arith),
-    ) in
-    record { value = h.0; located = h.1 }
+returns-then-p-rows c = let at = c.before.before.before in
+    record { value = locating-bad _ _ _ _ _ c.requires _ _ _ at.before.loop.invariant at.loop-test.true c.local_row-place.ensures c.if-p-rows.true; located = λ e. absurd (let z : ◌≡◌ {A = ℕ} 0 1 = cc in omega arith) }
 
 pub overflow_cast-places : goal.overflow_cast-places
 overflow_cast-places c = omega (arith, (step c).next, c.requires.few)
@@ -38,8 +34,4 @@ pub loop-i-preserved : goal.loop-i-preserved
 loop-i-preserved c = step c
 
 pub returns : goal.returns
-returns c = let h = (
-      locating-end _ _ _ _ _ c.requires _ _ c.loop-i.invariant c.loop-i-test.false,
-      λ e. locating-all _ _ _ _ _ c.requires _ _ c.loop-i.invariant c.loop-i-test.false,
-    ) in
-    record { value = h.0; located = h.1 }
+returns c = record { value = locating-end _ _ _ _ _ c.requires _ _ c.loop-i.invariant c.loop-i-test.false; located = λ e. locating-all _ _ _ _ _ c.requires _ _ c.loop-i.invariant c.loop-i-test.false }

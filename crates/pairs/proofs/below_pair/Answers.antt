@@ -36,15 +36,13 @@ sweep_both-requires c = let s = c.before.before.before in
     both-sweep c.requires.pair_pre _ (s.sweep-first.auto.0 ∙ moved_length (first-swept s)) _ _ t.before.is_Block.ensures t.is-block2.ensures
 
 pub own_columns-requires : goal.own_columns-requires
-own_columns-requires c = let h = let s = c.before.before.before in
-    (first-own c.requires.pair_pre _ (swept-length s), first_fits _) in
-    record { rows_pre = h.0; fits = h.1 }
+own_columns-requires c = let s = c.before.before.before in
+    record { rows_pre = first-own c.requires.pair_pre _ (swept-length s); fits = first_fits _ }
 
 pub own_columns-requires-2 : goal.own_columns-requires-2
-own_columns-requires-2 c = let h = let o = c.before.before.before in
+own_columns-requires-2 c = let o = c.before.before.before in
     let e = entry (told (owned o)) in
-    (second-own e.pre.0 _ (o.own-columns.auto.0 ∙ swept-length (owned o)), last_fits _ _ _ e.pre.0.last e.fits.f) in
-    record { rows_pre = h.0; fits = h.1 }
+    record { rows_pre = second-own e.pre.0 _ (o.own-columns.auto.0 ∙ swept-length (owned o)); fits = last_fits _ _ _ e.pre.0.last e.fits.f }
 
 pub returns : goal.returns
 returns c = let last = c.before.before in

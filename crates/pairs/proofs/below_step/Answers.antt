@@ -18,12 +18,8 @@ sweep_first-requires c = let m = c.before.before.before in
     step-sweep _ _ _ _ _ _ _ c.requires Q_told.is_Block.ensures c.last_column-last.ensures _ m.exchange.auto.0
 
 pub own_columns-requires : goal.own_columns-requires
-own_columns-requires c = let h = let s = c.before.before.before in
-    (
-      step-own _ _ _ _ _ _ _ c.requires Q_told.is_Block.ensures c.last_column-last.ensures _ (s.sweep-first.auto.0 ∙ c.exchange.auto.0),
-      first_fits _,
-    ) in
-    record { rows_pre = h.0; fits = h.1 }
+own_columns-requires c = let s = c.before.before.before in
+    record { rows_pre = step-own _ _ _ _ _ _ _ c.requires Q_told.is_Block.ensures c.last_column-last.ensures _ (s.sweep-first.auto.0 ∙ c.exchange.auto.0); fits = first_fits _ }
 
 pub returns : goal.returns
 returns c = let o = c.before.before in

@@ -78,21 +78,16 @@ forgotten : (c : goal.Start) → let at = c.args.at in
 forgotten c = let at = c.args.at in turn-any c.args.how at.nrow at.ncol at.kb at.ke (given c) blank
 
 pub returns-in_default : goal.returns-in_default
-returns-in_default c = let h = let a = c.args in (
-      turn_stopped a.how a.at.nrow a.at.ncol a.at.kb a.at.ke c.steps-ran.result _ (reached s) (shown s) (given (entry s))
+returns-in_default c = let a = c.args in
+    record { order_after = turn_stopped a.how a.at.nrow a.at.ncol a.at.kb a.at.ke c.steps-ran.result _ (reached s) (shown s) (given (entry s))
           c.steps-ran.ensures.order_after c.in_default.is
-          ∙ forgotten (entry s),
-      c.steps-ran.ensures.ran_to,
-    ) in
-    record { order_after = h.0; ran_to = h.1 }
+          ∙ forgotten (entry s); ran_to = c.steps-ran.ensures.ran_to }
 
 pub rows_below-requires : goal.rows_below-requires
-rows_below-requires c = let h = (sizes (stepped g) _ c.steps-ran.auto.0, (diagonals (stepped g), noted g)) in
-    record { turn_pre = h.0; diagonals_hold = h.1.0; steps_pre = h.1.1 }
+rows_below-requires c = record { turn_pre = sizes (stepped g) _ c.steps-ran.auto.0; diagonals_hold = diagonals (stepped g); steps_pre = noted g }
 
 pub later_columns-requires : goal.later_columns-requires
-later_columns-requires c = let h = (sizes (stepped g) _ (c.rows_below.auto.0 ∙ c.steps-ran.auto.0), (diagonals (stepped g), noted g)) in
-    record { turn_pre = h.0; diagonals_hold = h.1.0; steps_pre = h.1.1 }
+later_columns-requires c = record { turn_pre = sizes (stepped g) _ (c.rows_below.auto.0 ∙ c.steps-ran.auto.0); diagonals_hold = diagonals (stepped g); steps_pre = noted g }
 
 pub shape_of-panel : goal.shape_of-panel
 shape_of-panel c = c.later_columns.auto.0 ∙ c.rows_below.auto.0 ∙ c.steps-ran.auto.0
@@ -107,11 +102,8 @@ pub shape_of-sub : goal.shape_of-sub
 shape_of-sub c = let (panel, (work, (d, (sub, rest)))) = c.steps-ran.auto in sub
 
 pub returns : goal.returns
-returns c = let h = let told = c.in-Done.is in
-    let a = c.args in (
-      turn-done a.how a.at _ c.steps-ran.result c.steps-ran.new.0 c.rows_below.new.0 c.later_columns.new.0 (kept-part s)
+returns c = let told = c.in-Done.is in
+    let a = c.args in
+    record { order_after = turn-done a.how a.at _ c.steps-ran.result c.steps-ran.new.0 c.rows_below.new.0 c.later_columns.new.0 (kept-part s)
           (pivots-left s) (given (entry s)) c.steps-ran.ensures.order_after told c.rows_below.ensures c.later_columns.ensures
-          ∙ forgotten (entry s),
-      leaves-done a.at.kb a.at.ke _ c.steps-ran.result (naturals (blocks-left s)) (naturals (partners-left s)) c.steps-ran.ensures.ran_to told,
-    ) in
-    record { order_after = h.0; ran_to = h.1 }
+          ∙ forgotten (entry s); ran_to = leaves-done a.at.kb a.at.ke _ c.steps-ran.result (naturals (blocks-left s)) (naturals (partners-left s)) c.steps-ran.ensures.ran_to told }

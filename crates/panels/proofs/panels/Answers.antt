@@ -61,16 +61,10 @@ loop-kb-init c = let a = c.args in (
     )
 
 pub one_panel-ran-requires : goal.one_panel-ran-requires
-one_panel-ran-requires c = let h = let test = c.loop-kb-test.true in
+one_panel-ran-requires c = let test = c.loop-kb-test.true in
     let inv = c.loop-kb.invariant in
-    let pre = c.requires in (
-      turn-pre _ _ _ _ _ _ _ pre.0 inv.1 inv.2 test c.panel_end-ke.ensures,
-      (
-        holds_same _ _ _ _ _ _ _ _ _ _ _ _ _ _ _ _ pre.1.0 inv.3 inv.4 inv.5 inv.6 inv.7 inv.8 inv.9,
-        (pre.0.rounds, noted_more _ _ _ _ _ _ inv.11 (begun _ _ _ _ pre.0.some test c.panel_end-ke.ensures)),
-      ),
-    ) in
-    record { turn_pre = h.0; turn_holds = h.1.0; limit_pre = h.1.1.0; noted_to = h.1.1.1 }
+    let pre = c.requires in
+    record { turn_pre = turn-pre _ _ _ _ _ _ _ pre.0 inv.1 inv.2 test c.panel_end-ke.ensures; turn_holds = holds_same _ _ _ _ _ _ _ _ _ _ _ _ _ _ _ _ pre.1.0 inv.3 inv.4 inv.5 inv.6 inv.7 inv.8 inv.9; limit_pre = pre.0.rounds; noted_to = noted_more _ _ _ _ _ _ inv.11 (begun _ _ _ _ pre.0.some test c.panel_end-ke.ensures) }
 
 pub returns-in_default : goal.returns-in_default
 returns-in_default c = let l = c.loop-kb in

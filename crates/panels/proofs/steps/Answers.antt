@@ -31,12 +31,9 @@ ll_bk_panel_step-requires c = let h = let (sizes, (holds, how-and-noted)) = c.re
     record { panel_pre = h.0; notes_pre = h.1.0; limit_pre = h.1.1.0; noted_to = h.1.1.1 }
 
 pub returns : goal.returns
-returns c = let h = let a = c.args in
-    let (panel, (mult, (d, (sub, (blocks, (partners, (lifts, (amounts, (order, rest))))))))) = c.ll_bk_panel_step.new in (
-      steps-is a.how a.at a.before c.ll_bk_panel_step.result a.panel.now panel (lent s) mult (take (square s) (back s))
+returns c = let a = c.args in
+    let (panel, (mult, (d, (sub, (blocks, (partners, (lifts, (amounts, (order, rest))))))))) = c.ll_bk_panel_step.new in
+    record { order_after = steps-is a.how a.at a.before c.ll_bk_panel_step.result a.panel.now panel (lent s) mult (take (square s) (back s))
           (pivots_of a.d.now a.sub.now a.blocks.now a.partners.now a.lifts.now a.amounts.now a.order.now)
           (pivots_of d sub blocks partners lifts amounts order)
-          c.ll_bk_panel_step.ensures.order_after (returned s),
-      c.ll_bk_panel_step.ensures.ran_to,
-    ) in
-    record { order_after = h.0; ran_to = h.1 }
+          c.ll_bk_panel_step.ensures.order_after (returned s); ran_to = c.ll_bk_panel_step.ensures.ran_to }

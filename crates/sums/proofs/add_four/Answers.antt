@@ -3,6 +3,5 @@ use Rattle.sums.proofs.Sum.{four-terms}
 use Rattle.sums.proofs.add_four.Goals as goal
 
 pub returns : goal.returns
-returns c = let h = let rows = c.requires.terms_pre.rows in
-    (search four-terms, search four-terms) in
-    record { x_after = h.0; y_after = h.1 }
+returns c = let rows = c.requires.terms_pre.rows in
+    record { x_after = search four-terms; y_after = search four-terms }

@@ -18,5 +18,4 @@ pub loop-t-preserved : goal.loop-t-preserved
 loop-t-preserved c = (search rules, search rules, search rules, search fours-step, search fours-step)
 
 pub returns : goal.returns
-returns c = let h = (search rules, (search rules, search rules)) in
-    record { x_after = h.0; y_after = h.1.0; upper_bound = h.1.1 }
+returns c = record { x_after = search rules; y_after = search rules; upper_bound = search rules }

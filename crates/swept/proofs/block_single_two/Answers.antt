@@ -30,29 +30,23 @@ get-b3-requires c = let at = c.requires.f_lt_j in
     second-kept c.requires.pair_pre _ (omega arith) (omega arith)
 
 pub less_three_of_two-requires : goal.less_three_of_two-requires
-less_three_of_two-requires c = let h = let at = c.requires.f_lt_j in
-    (block-single-columns c.requires.pair_pre at.0 at.1, search rules) in
-    record { columns_pre = h.0; fits = h.1 }
+less_three_of_two-requires c = let at = c.requires.f_lt_j in
+    record { columns_pre = block-single-columns c.requires.pair_pre at.0 at.1; fits = search rules }
 
 pub overflow_add-result : goal.overflow_add-result
 overflow_add-result c = let at = c.requires.f_lt_j in
     search rules
 
 pub returns-then-neither_zero : goal.returns-then-neither_zero
-returns-then-neither_zero c = let h = let tested = c.before.before.before.before in
+returns-then-neither_zero c = let tested = c.before.before.before.before in
     let other = tested.before.before in
     let one = other.before.before.before in
-    (
-      block-single-done _ _ _ _ _ _ _ _ _ c.requires.pair_pre.next c.requires.pair_pre.last c.requires.f_lt_j.0
+    record { part_after = block-single-done _ _ _ _ _ _ _ _ _ c.requires.pair_pre.next c.requires.pair_pre.last c.requires.f_lt_j.0
           one.before.before.multiplier-before.ensures one.before.multiplier-before2.ensures one.get.ensures
           other.before.before.multiplier-before3.ensures other.before.multiplier-before4.ensures other.get2.ensures
           tested.before.neither-zero.ensures tested.if1.true
-          c.less_three_of_two.ensures,
-      (omega arith, c.requires.f_lt_j.1),
-    ) in
-    record { part_after = h.0; lower_bound = h.1 }
+          c.less_three_of_two.ensures; lower_bound = (omega arith, c.requires.f_lt_j.1) }
 
 pub returns : goal.returns
-returns c = let h = let at = c.requires.f_lt_j in
-    (both-none _ _ _ _ _ _ _ _ _ _ _, (omega arith, omega arith)) in
-    record { part_after = h.0; lower_bound = h.1 }
+returns c = let at = c.requires.f_lt_j in
+    record { part_after = both-none _ _ _ _ _ _ _ _ _ _ _; lower_bound = (omega arith, omega arith) }

@@ -38,32 +38,27 @@ get-d2-requires c = let at = c.requires.f_lt_j in
     second-kept c.requires.pair_pre _ (omega arith) (omega arith)
 
 pub less_two_of_four-requires : goal.less_two_of_four-requires
-less_two_of_four-requires c = let h = let at = c.requires.f_lt_j in
-    (four-columns c.requires.pair_pre at.0 at.1, search rules) in
-    record { columns_pre = h.0; fits = h.1 }
+less_two_of_four-requires c = let at = c.requires.f_lt_j in
+    record { columns_pre = four-columns c.requires.pair_pre at.0 at.1; fits = search rules }
 
 pub overflow_add-result : goal.overflow_add-result
 overflow_add-result c = let at = c.requires.f_lt_j in
     search rules
 
 pub returns-then-neither_zero : goal.returns-then-neither_zero
-returns-then-neither_zero c = let h = let tested = c.before.before.before.before in
+returns-then-neither_zero c = let tested = c.before.before.before.before in
     let d = tested.before in
     let fourth = d.before.before.before.before in
     let third = fourth.before.before in
     let second = third.before.before in
     let first = second.before.before in
-    let start = first.before.before.before.before in (
-      four-done _ _ _ _ _ _ _ _ _ start.requires.0.next start.requires.0.last start.requires.1.0
+    let start = first.before.before.before.before in
+    record { part_after = four-done _ _ _ _ _ _ _ _ _ start.requires.0.next start.requires.0.last start.requires.1.0
           first.before.multiplier-before.ensures first.get.ensures second.before.multiplier-before2.ensures second.get2.ensures
           third.before.multiplier-before3.ensures third.get3.ensures fourth.before.multiplier-before4.ensures fourth.get4.ensures
           d.before.before.before.neither-zero.ensures d.before.before.neither-zero2.ensures d.before.neither-zero3.ensures
-          d.neither-zero4.ensures tested.if1.true c.less_two_of_four.ensures,
-      (omega arith, start.requires.1.1),
-    ) in
-    record { part_after = h.0; lower_bound = h.1 }
+          d.neither-zero4.ensures tested.if1.true c.less_two_of_four.ensures; lower_bound = (omega arith, start.requires.1.1) }
 
 pub returns : goal.returns
-returns c = let h = let at = c.requires.f_lt_j in
-    (both-none _ _ _ _ _ _ _ _ _ _ _, (omega arith, omega arith)) in
-    record { part_after = h.0; lower_bound = h.1 }
+returns c = let at = c.requires.f_lt_j in
+    record { part_after = both-none _ _ _ _ _ _ _ _ _ _ _; lower_bound = (omega arith, omega arith) }

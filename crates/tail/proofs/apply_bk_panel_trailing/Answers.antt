@@ -15,10 +15,9 @@ pub loop-k-init : goal.loop-k-init
 loop-k-init c = (search rules, c.requires.steps_pre.start, refl, refl)
 
 pub one_or_two_steps-k-requires : goal.one_or_two_steps-k-requires
-one_or_two_steps-k-requires c = let h = let turn = c.before in
+one_or_two_steps-k-requires c = let turn = c.before in
     let inv = turn.before.loop.invariant in
-    (sizes-kept _ _ _ _ _ _ _ _ _ _ _ _ c.requires.tail_pre inv.2, (c.requires.steps_pre, record { from = inv.0; inside = turn.loop-test.true; starts = inv.1 })) in
-    record { tail_pre = h.0; steps_pre = h.1.0; begins_pre = h.1.1 }
+    record { tail_pre = sizes-kept _ _ _ _ _ _ _ _ _ _ _ _ c.requires.tail_pre inv.2; steps_pre = c.requires.steps_pre; begins_pre = record { from = inv.0; inside = turn.loop-test.true; starts = inv.1 } }
 
 pub loop-k-smaller : goal.loop-k-smaller
 loop-k-smaller c = let called = c.before.before in

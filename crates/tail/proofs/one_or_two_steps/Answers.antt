@@ -48,34 +48,25 @@ slice_bounds-tail_pair-start c = let s = entry Q_paired.before in
     search rules
 
 pub tail_pair-requires : goal.tail_pair-requires
-tail_pair-requires c = let h = let k-in = c.requires.begins_pre.inside in (
-      lent-pre _ _ _ _ _ _ _ _ _ _ _ _ c.requires.tail_pre k-in _ (part_count _ _ c.args.panel.now refl _ c.place-start.ensures),
-      (
-        read-pre _ _ _ _ _ _ _ _ _ _ _ _ c.requires.tail_pre k-in c.requires.begins_pre.from,
-        record {
+tail_pair-requires c = let k-in = c.requires.begins_pre.inside in
+    record { lent_pre = lent-pre _ _ _ _ _ _ _ _ _ _ _ _ c.requires.tail_pre k-in _ (part_count _ _ c.args.panel.now refl _ c.place-start.ensures); read_pre = read-pre _ _ _ _ _ _ _ _ _ _ _ _ c.requires.tail_pre k-in c.requires.begins_pre.from; both_pre = record {
           first = here s;
           second = there t;
           next = c.past-l.ensures;
           inside = c.if-l-ke.true;
           stays = still-first _ _ _ c.stays.ensures c.if-stays.true;
-        },
-      ),
-    ) in
-    record { lent_pre = h.0; read_pre = h.1.0; both_pre = h.1.1 }
+        } }
 
 pub returns-then-stays : goal.returns-then-stays
-returns-then-stays c = let h = let p = c.before.before.before in
+returns-then-stays c = let p = c.before.before.before in
     let k-in = c.requires.begins_pre.inside in
     let room = lent-place _ _ _ _ _ _ _ _ _ _ _ _ c.requires.tail_pre k-in _ c.place-start.ensures in
     let more = past-later _ _ _ c.past-l.ensures in
     let after = past-later _ _ _ c.past.ensures in
     let pair = both-since _ _ _ _ _ _ _ _ (here s) (there t) (omega arith) in
-    let rows = lent-pre _ _ _ _ _ _ _ _ _ _ _ _ c.requires.tail_pre k-in _ (part_count _ _ c.args.panel.now refl _ c.place-start.ensures) in (
-      turned-both _ _ _ _ _ _ _ _ _ _ _ k-in c.past-l.ensures _ c.if-l-ke.true c.past.ensures
-          (lent_rows _ _ _ _ _ _ rows.height c.place-start.ensures refl _ _ room p.tail-pair.auto.0 pair p.tail-pair.ensures),
-      (omega arith, starts-past _ _ _ _ c.requires.steps_pre.recorded.paired c.if-l-ke.true c.past.ensures),
-    ) in
-    record { panel_after = h.0; lower_bound = h.1 }
+    let rows = lent-pre _ _ _ _ _ _ _ _ _ _ _ _ c.requires.tail_pre k-in _ (part_count _ _ c.args.panel.now refl _ c.place-start.ensures) in
+    record { panel_after = turned-both _ _ _ _ _ _ _ _ _ _ _ k-in c.past-l.ensures _ c.if-l-ke.true c.past.ensures
+          (lent_rows _ _ _ _ _ _ rows.height c.place-start.ensures refl _ _ room p.tail-pair.auto.0 pair p.tail-pair.ensures); lower_bound = (omega arith, starts-past _ _ _ _ c.requires.steps_pre.recorded.paired c.if-l-ke.true c.past.ensures) }
 
 pub offset_bounds-panel-start-2 : goal.offset_bounds-panel-start-2
 offset_bounds-panel-start-2 c = let room = lent-start _ _ _ _ _ _ _ _ _ _ _ _ c.requires.tail_pre c.requires.begins_pre.inside in
@@ -90,22 +81,16 @@ slice_bounds-tail_step-start c = let room = lent-start _ _ _ _ _ _ _ _ _ _ _ _ c
     search rules
 
 pub tail_step-requires : goal.tail_step-requires
-tail_step-requires c = let h = let k-in = c.requires.begins_pre.inside in (
-      lent-pre _ _ _ _ _ _ _ _ _ _ _ _ c.requires.tail_pre k-in _ (part_count _ _ c.args.panel.now refl _ c.place-start.ensures),
-      (read-pre _ _ _ _ _ _ _ _ _ _ _ _ c.requires.tail_pre k-in c.requires.begins_pre.from, here s),
-    ) in
-    record { lent_pre = h.0; read_pre = h.1.0; here_pre = h.1.1 }
+tail_step-requires c = let k-in = c.requires.begins_pre.inside in
+    record { lent_pre = lent-pre _ _ _ _ _ _ _ _ _ _ _ _ c.requires.tail_pre k-in _ (part_count _ _ c.args.panel.now refl _ c.place-start.ensures); read_pre = read-pre _ _ _ _ _ _ _ _ _ _ _ _ c.requires.tail_pre k-in c.requires.begins_pre.from; here_pre = here s }
 
 pub returns : goal.returns
-returns c = let h = let t = c.before.before in
+returns c = let t = c.before.before in
     let p = t.before.before.before in
     let k-in = c.requires.begins_pre.inside in
     let room = lent-place _ _ _ _ _ _ _ _ _ _ _ _ c.requires.tail_pre k-in _ p.before.place.ensures in
     let more = past-later _ _ _ p.past.ensures in
-    let rows = lent-pre _ _ _ _ _ _ _ _ _ _ _ _ c.requires.tail_pre k-in _ (part_count _ _ c.args.panel.now refl _ p.before.place.ensures) in (
-      turned-step _ _ _ _ _ _ _ _ _ _ _ k-in p.past.ensures
+    let rows = lent-pre _ _ _ _ _ _ _ _ _ _ _ _ c.requires.tail_pre k-in _ (part_count _ _ c.args.panel.now refl _ p.before.place.ensures) in
+    record { panel_after = turned-step _ _ _ _ _ _ _ _ _ _ _ k-in p.past.ensures
           (lent_rows _ _ _ _ _ _ rows.height p.before.place.ensures refl _ _ room t.tail_step.auto.0
-          (stepped-since _ _ _ _ _ _ _ (here s)) t.tail_step.ensures),
-      (omega arith, starts p),
-    ) in
-    record { panel_after = h.0; lower_bound = h.1 }
+          (stepped-since _ _ _ _ _ _ _ (here s)) t.tail_step.ensures); lower_bound = (omega arith, starts p) }

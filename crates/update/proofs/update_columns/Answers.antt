@@ -18,11 +18,7 @@ returns-in_default-checked c = columns-number _ _ _ c.requires _ c.first_landing
     c.first_bad_column-checked.ensures _ c.answer-in_default-checked.result c.in_default-checked.is c.answer-in_default-checked.ensures
 
 pub update_rows-requires : goal.update_rows-requires
-update_rows-requires c = let h = (
-      apply-pre _ _ _ c.requires _ c.first_landing-start.ensures _ (c.locate-located.ensures.located c.in-Sound.is) (search rules),
-      c.requires.sizes.descendant,
-    ) in
-    record { apply_pre = h.0; krows_len = h.1 }
+update_rows-requires c = record { apply_pre = apply-pre _ _ _ c.requires _ c.first_landing-start.ensures _ (c.locate-located.ensures.located c.in-Sound.is) (search rules); krows_len = c.requires.sizes.descendant }
 
 pub returns : goal.returns
 unfolding descendant_sound

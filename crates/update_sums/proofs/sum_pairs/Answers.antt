@@ -19,8 +19,7 @@ pub weight-w-requires : goal.weight-w-requires
 weight-w-requires c = search (rules, sum-weight)
 
 pub add_two-requires : goal.add_two-requires
-add_two-requires c = let h = (sum_rows _ _ _ _ _ _ _ _ _ _ _ c.requires (omega arith), (search (rules, sum_rows), (search rules, search rules))) in
-    record { rows_pre = h.0; rows_pre_2 = h.1.0; lo_in_bounds = h.1.1 }
+add_two-requires c = record { rows_pre = sum_rows _ _ _ _ _ _ _ _ _ _ _ c.requires (omega arith); rows_pre_2 = search (rules, sum_rows); lo_in_bounds = (search rules, search rules) }
 
 pub loop-s-preserved : goal.loop-s-preserved
 loop-s-preserved c = (
