@@ -38,14 +38,16 @@ overflow_add-result c = let at = c.requires.f_lt_j in
     search rules
 
 pub returns-then-neither_zero : goal.returns-then-neither_zero
-returns-then-neither_zero c = let tested = c.before.before.before.before in
-    let other = tested.before.before in
-    let one = other.before.before.before in
-    record { part_after = block-single-done _ _ _ _ _ _ _ _ _ c.requires.pair_pre.next c.requires.pair_pre.last c.requires.f_lt_j.0
-          one.before.before.multiplier-before.ensures one.before.multiplier-before2.ensures one.get.ensures
-          other.before.before.multiplier-before3.ensures other.before.multiplier-before4.ensures other.get2.ensures
-          tested.before.neither-zero.ensures tested.if1.true
-          c.less_three_of_two.ensures; lower_bound = (omega arith, c.requires.f_lt_j.1) }
+returns-then-neither_zero c =
+    let pre = c.requires.pair_pre in
+    let at = c.requires.f_lt_j in
+    record {
+      part_after = block-single-done _ _ _ _ _ _ _ _ _ pre.next pre.last at.0
+          c.multiplier_before-a1.ensures c.multiplier_before-a2.ensures c.get-a3.ensures
+          c.multiplier_before-b1.ensures c.multiplier_before-b2.ensures c.get-b3.ensures
+          c.neither_zero.ensures c.if-neither_zero.true c.less_three_of_two.ensures;
+      lower_bound = (omega arith, at.1);
+    }
 
 pub returns : goal.returns
 returns c = let at = c.requires.f_lt_j in

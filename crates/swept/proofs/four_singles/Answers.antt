@@ -46,18 +46,17 @@ overflow_add-result c = let at = c.requires.f_lt_j in
     search rules
 
 pub returns-then-neither_zero : goal.returns-then-neither_zero
-returns-then-neither_zero c = let tested = c.before.before.before.before in
-    let d = tested.before in
-    let fourth = d.before.before.before.before in
-    let third = fourth.before.before in
-    let second = third.before.before in
-    let first = second.before.before in
-    let start = first.before.before.before.before in
-    record { part_after = four-done _ _ _ _ _ _ _ _ _ start.requires.0.next start.requires.0.last start.requires.1.0
-          first.before.multiplier-before.ensures first.get.ensures second.before.multiplier-before2.ensures second.get2.ensures
-          third.before.multiplier-before3.ensures third.get3.ensures fourth.before.multiplier-before4.ensures fourth.get4.ensures
-          d.before.before.before.neither-zero.ensures d.before.before.neither-zero2.ensures d.before.neither-zero3.ensures
-          d.neither-zero4.ensures tested.if1.true c.less_two_of_four.ensures; lower_bound = (omega arith, start.requires.1.1) }
+returns-then-neither_zero c =
+    let pre = c.requires.pair_pre in
+    let at = c.requires.f_lt_j in
+    record {
+      part_after = four-done _ _ _ _ _ _ _ _ _ pre.next pre.last at.0
+          c.multiplier_before-a1.ensures c.get-a2.ensures c.multiplier_before-b1.ensures c.get-b2.ensures
+          c.multiplier_before-c1.ensures c.get-c2.ensures c.multiplier_before-d1.ensures c.get-d2.ensures
+          c.neither_zero.ensures c.neither_zero-2.ensures c.neither_zero-3.ensures c.neither_zero-4.ensures
+          c.if-neither_zero.true c.less_two_of_four.ensures;
+      lower_bound = (omega arith, at.1);
+    }
 
 pub returns : goal.returns
 returns c = let at = c.requires.f_lt_j in
