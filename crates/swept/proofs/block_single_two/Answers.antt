@@ -6,36 +6,27 @@ use borrow.Author.Rules.{rules}
 use Rattle.swept.proofs.block_single_two.Goals as goal
 
 pub multiplier_before-a1-requires : goal.multiplier_before-a1-requires
-multiplier_before-a1-requires c = let at = c.requires.f_lt_j in
-    both-kept c.requires.pair_pre _ (omega arith) (omega arith)
+multiplier_before-a1-requires c = both-kept c.requires.pair_pre _ (omega arith) (omega arith)
 
 pub multiplier_before-a2-requires : goal.multiplier_before-a2-requires
-multiplier_before-a2-requires c = let at = c.requires.f_lt_j in
-    both-kept-next c.requires.pair_pre _ (omega arith) (omega arith)
+multiplier_before-a2-requires c = both-kept-next c.requires.pair_pre _ (omega arith) (omega arith)
 
 pub get-a3-requires : goal.get-a3-requires
-get-a3-requires c = let at = c.requires.f_lt_j in
-    second-kept c.requires.pair_pre _ (omega arith) (omega arith)
+get-a3-requires c = second-kept c.requires.pair_pre _ (omega arith) (omega arith)
 
 pub multiplier_before-b1-requires : goal.multiplier_before-b1-requires
-multiplier_before-b1-requires c = let at = c.requires.f_lt_j in
-    both-kept c.requires.pair_pre _ (omega arith) (omega arith)
+multiplier_before-b1-requires c = both-kept c.requires.pair_pre _ (omega arith) (omega arith)
 
 pub multiplier_before-b2-requires : goal.multiplier_before-b2-requires
-multiplier_before-b2-requires c = let at = c.requires.f_lt_j in
-    both-kept-next c.requires.pair_pre _ (omega arith) (omega arith)
+multiplier_before-b2-requires c = both-kept-next c.requires.pair_pre _ (omega arith) (omega arith)
 
 pub get-b3-requires : goal.get-b3-requires
-get-b3-requires c = let at = c.requires.f_lt_j in
-    second-kept c.requires.pair_pre _ (omega arith) (omega arith)
+get-b3-requires c = second-kept c.requires.pair_pre _ (omega arith) (omega arith)
 
 pub less_three_of_two-requires : goal.less_three_of_two-requires
-less_three_of_two-requires c = let at = c.requires.f_lt_j in
+less_three_of_two-requires c =
+    let at = c.requires.f_lt_j in
     record { columns_pre = block-single-columns c.requires.pair_pre at.0 at.1; fits = search rules }
-
-pub overflow_add-result : goal.overflow_add-result
-overflow_add-result c = let at = c.requires.f_lt_j in
-    search rules
 
 pub returns-then-neither_zero : goal.returns-then-neither_zero
 returns-then-neither_zero c =
@@ -50,5 +41,4 @@ returns-then-neither_zero c =
     }
 
 pub returns : goal.returns
-returns c = let at = c.requires.f_lt_j in
-    record { part_after = both-none _ _ _ _ _ _ _ _ _ _ _; lower_bound = (omega arith, omega arith) }
+returns c = record { part_after = both-none _ _ _ _ _ _ _ _ _ _ _; lower_bound = (omega arith, omega arith) }

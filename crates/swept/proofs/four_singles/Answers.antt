@@ -6,44 +6,33 @@ use borrow.Author.Rules.{rules}
 use Rattle.swept.proofs.four_singles.Goals as goal
 
 pub multiplier_before-a1-requires : goal.multiplier_before-a1-requires
-multiplier_before-a1-requires c = let at = c.requires.f_lt_j in
-    both-kept c.requires.pair_pre _ (omega arith) (omega arith)
+multiplier_before-a1-requires c = both-kept c.requires.pair_pre _ (omega arith) (omega arith)
 
 pub get-a2-requires : goal.get-a2-requires
-get-a2-requires c = let at = c.requires.f_lt_j in
-    second-kept c.requires.pair_pre _ (omega arith) (omega arith)
+get-a2-requires c = second-kept c.requires.pair_pre _ (omega arith) (omega arith)
 
 pub multiplier_before-b1-requires : goal.multiplier_before-b1-requires
-multiplier_before-b1-requires c = let at = c.requires.f_lt_j in
-    both-kept c.requires.pair_pre _ (omega arith) (omega arith)
+multiplier_before-b1-requires c = both-kept c.requires.pair_pre _ (omega arith) (omega arith)
 
 pub get-b2-requires : goal.get-b2-requires
-get-b2-requires c = let at = c.requires.f_lt_j in
-    second-kept c.requires.pair_pre _ (omega arith) (omega arith)
+get-b2-requires c = second-kept c.requires.pair_pre _ (omega arith) (omega arith)
 
 pub multiplier_before-c1-requires : goal.multiplier_before-c1-requires
-multiplier_before-c1-requires c = let at = c.requires.f_lt_j in
-    both-kept c.requires.pair_pre _ (omega arith) (omega arith)
+multiplier_before-c1-requires c = both-kept c.requires.pair_pre _ (omega arith) (omega arith)
 
 pub get-c2-requires : goal.get-c2-requires
-get-c2-requires c = let at = c.requires.f_lt_j in
-    second-kept c.requires.pair_pre _ (omega arith) (omega arith)
+get-c2-requires c = second-kept c.requires.pair_pre _ (omega arith) (omega arith)
 
 pub multiplier_before-d1-requires : goal.multiplier_before-d1-requires
-multiplier_before-d1-requires c = let at = c.requires.f_lt_j in
-    both-kept c.requires.pair_pre _ (omega arith) (omega arith)
+multiplier_before-d1-requires c = both-kept c.requires.pair_pre _ (omega arith) (omega arith)
 
 pub get-d2-requires : goal.get-d2-requires
-get-d2-requires c = let at = c.requires.f_lt_j in
-    second-kept c.requires.pair_pre _ (omega arith) (omega arith)
+get-d2-requires c = second-kept c.requires.pair_pre _ (omega arith) (omega arith)
 
 pub less_two_of_four-requires : goal.less_two_of_four-requires
-less_two_of_four-requires c = let at = c.requires.f_lt_j in
+less_two_of_four-requires c =
+    let at = c.requires.f_lt_j in
     record { columns_pre = four-columns c.requires.pair_pre at.0 at.1; fits = search rules }
-
-pub overflow_add-result : goal.overflow_add-result
-overflow_add-result c = let at = c.requires.f_lt_j in
-    search rules
 
 pub returns-then-neither_zero : goal.returns-then-neither_zero
 returns-then-neither_zero c =
@@ -59,5 +48,4 @@ returns-then-neither_zero c =
     }
 
 pub returns : goal.returns
-returns c = let at = c.requires.f_lt_j in
-    record { part_after = both-none _ _ _ _ _ _ _ _ _ _ _; lower_bound = (omega arith, omega arith) }
+returns c = record { part_after = both-none _ _ _ _ _ _ _ _ _ _ _; lower_bound = (omega arith, omega arith) }
