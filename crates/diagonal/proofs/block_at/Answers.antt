@@ -4,4 +4,4 @@ use Rattle.diagonal.proofs.block_at.Goals as goal
 
 pub returns : goal.returns
 unfolding vec
-returns c = c.Block-of.ensures
+returns c = c.block_of.ensures

@@ -1,7 +1,7 @@
 -- What `scan::first_by_columns` owes. Assumes nothing.
 use Prim.Native.Nat.{ℕ, ◌-◌, ◌≤◌}
 use mathlib.Core.Path.{◌≡◌, ◌∙◌, ap}
-use mathlib.Core.Logic.{⊎_elim}
+use mathlib.Core.Bool.{not}
 use native.Mathlib.Omega.{arith}
 use Rattle.model.specs.Matrix.{view}
 use Rattle.model.specs.Factor.{columns_check}
@@ -12,6 +12,7 @@ use Rattle.total.proofs.Finite.{scan-pre}
 use Rattle.scan.proofs.Finite.{from_here, first-low, first-high, row-none, row_step, row-stop, row-end, column-none, column-end}
 use borrow.Author.Rules.{rules}
 use Rattle.scan.proofs.first_by_columns.Goals as goal
+use Rattle.scan.proofs.first_by_columns.Goals.{else-columns-test, then-columns-test+then-loop-row-test+then-not-is_finite}
 
 pub columns-init : goal.columns-init
 columns-init c = (search rules, search column-none)
@@ -32,10 +33,13 @@ pub columns-preserved : goal.columns-preserved
 columns-preserved c = (search rules, search row-end)
 
 pub returns-then-column-ncol : goal.returns-then-column-ncol
-returns-then-column-ncol c = ⊎_elim (λ w. absurd (let l = w.0.left in omega arith))
-    (λ w. ap (λ (i : ℕ). Refused (Input (record { 0 = c.columns.column }) (record { 0 = i }))) w.7
-    ∙ row-stop _ _ _ _ _ _ _ _ w.3.taken w.4.ensures w.5.ensures w.2.inv.2 w.6.taken)
-    c.columns-test.branch
+returns-then-column-ncol c =
+    elim c.columns-test.branch [
+      else-columns-test w ↦ absurd (let l = w.columns-test.false in omega arith)
+    | then-columns-test+then-loop-row-test+then-not-is_finite w ↦
+        ap (λ (i : ℕ). Refused (Input (record { 0 = c.columns.column }) (record { 0 = i }))) w.row-is
+        ∙ row-stop _ _ _ _ _ _ _ _ w.loop-row-test.true w.get.ensures w.is_finite.ensures w.loop-row.invariant.2 (ap not w.if-not-is_finite.true)
+    ]
 
 pub returns : goal.returns
 returns c = search column-end

@@ -8,11 +8,10 @@ pub loop-done-init : goal.loop-done-init
 loop-done-init c = (search rules, raised-none _ _ _ _)
 
 pub loop-done-preserved : goal.loop-done-preserved
-loop-done-preserved c = let block = c.before.before in
-    let test = block.before.before.before in (
+loop-done-preserved c = (
       search rules,
-      raised-step _ _ _ _ _ _ _ _ test.before.loop.invariant.1 test.loop-test.true
-          block.Block-of.ensures c.magnitude.ensures c.if-magnitude-bar.true,
+      raised-step _ _ _ _ _ _ _ _ c.loop-done.invariant.1 c.loop-done-test.true
+          c.block_of-block.ensures c.magnitude.ensures c.if-magnitude-bar.true,
     )
 
 pub returns-else-magnitude-bar : goal.returns-else-magnitude-bar

@@ -1,6 +1,5 @@
 -- `square_root::scaled` meets its contract. Assumes nothing.
 use mathlib.Core.Path.{sym, ◌∙◌, subst}
-use mathlib.Core.Logic.{⊎_elim}
 use mathlib.Core.Bool.{Bool, not}
 use Prim.Native.Nat.{◌/◌}
 use native.Mathlib.Omega.{arith}
@@ -8,9 +7,10 @@ use lib.Dec.{T}
 use Rattle.model.proofs.Root.{units-no-nan, units-bits}
 use Rattle.square_root.proofs.Steps.{halved-even, halved-odd}
 use Rattle.square_root.proofs.scaled.Goals as goal
+use Rattle.square_root.proofs.scaled.Goals.{then-e-eq0, else-e-eq0}
 
 pub near_root-requires : goal.near_root-requires
-near_root-requires c = ⊎_elim (λ w. omega arith) (λ w. omega arith) c.if-e-eq0.branch
+near_root-requires c = elim c.if-e-eq0.branch [ then-e-eq0 w ↦ omega arith | else-e-eq0 w ↦ omega arith ]
 
 pub float_from_bits-result : goal.float_from_bits-result
 float_from_bits-result c = let near = c.near_root.ensures in
@@ -20,4 +20,4 @@ pub returns : goal.returns
 returns c = let near = c.near_root.ensures in
     let e = c.args.e in
     units-bits _ (e / 2) near.from near.to (omega arith)
-    ∙ sym (⊎_elim (λ w. halved-even e near w.0.taken w.1) (λ w. halved-odd _ e near w.0.left w.1) c.if-e-eq0.branch)
+    ∙ sym (elim c.if-e-eq0.branch [ then-e-eq0 w ↦ halved-even e near w.if-e-eq0.true w.d-is | else-e-eq0 w ↦ halved-odd _ e near w.if-e-eq0.false w.d-is ])

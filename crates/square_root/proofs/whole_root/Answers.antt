@@ -6,11 +6,6 @@ use Rattle.square_root.proofs.Steps.{Nearer, first-pre, second-pre, heron-end, w
 use borrow.Author.Rules.{rules}
 use Rattle.square_root.proofs.whole_root.Goals as goal
 
-after : (c : goal.After-heron2) → Nearer c.before.before.before.args.d (2 ^ 27 - 1) c.heron2.result
-after c =
-    let at = c.before.before in
-    heron-end _ _ _ at.before.requires at.line.ensures c.before.heron.ensures _ c.heron2.ensures
-
 pub heron-requires : goal.heron-requires
 heron-requires c = search (rules, first-pre)
 
@@ -18,16 +13,16 @@ pub heron-q-requires : goal.heron-q-requires
 heron-q-requires c = search (rules, second-pre)
 
 pub overflow_mul-q : goal.overflow_mul-q
-overflow_mul-q c = omega (arith, after c)
+overflow_mul-q c = omega (arith, heron-end _ _ _ c.requires c.line.ensures c.heron.ensures _ c.heron-q.ensures)
 
 pub returns-then-q-d : goal.returns-then-q-d
-returns-then-q-d c = whole-right _ _ (after c.before) c.if-q-d.true
+returns-then-q-d c = whole-right _ _ (heron-end _ _ _ c.requires c.line.ensures c.heron.ensures _ c.heron-q.ensures) c.if-q-d.true
 
 pub overflow_mul-result-2 : goal.overflow_mul-result-2
-overflow_mul-result-2 c = omega (arith, less-square _ _ (after c.before))
+overflow_mul-result-2 c = omega (arith, less-square _ _ (heron-end _ _ _ c.requires c.line.ensures c.heron.ensures _ c.heron-q.ensures))
 
 pub overflow_sub-result-2 : goal.overflow_sub-result-2
-overflow_sub-result-2 c = less-square _ _ (after c.before)
+overflow_sub-result-2 c = less-square _ _ (heron-end _ _ _ c.requires c.line.ensures c.heron.ensures _ c.heron-q.ensures)
 
 pub returns : goal.returns
-returns c = whole-less _ _ (after c.before) c.if-q-d.false
+returns c = whole-less _ _ (heron-end _ _ _ c.requires c.line.ensures c.heron.ensures _ c.heron-q.ensures) c.if-q-d.false

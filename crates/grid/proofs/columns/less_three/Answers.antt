@@ -9,30 +9,26 @@ use Rattle.grid.proofs.Parts.{column-past, columns-ahead, columns-lent}
 use borrow.Author.Rules.{rules}
 use Rattle.grid.proofs.columns.less_three.Goals as goal
 
--- the last column that is read ends before column j begins
-room : (c : goal.Start) → column_start c.args.nrow (c.args.k + 2) + c.args.nrow ≤ column_start c.args.nrow c.args.j
-room c = column-past c.args.nrow (c.args.k + 2) c.args.j c.requires.past
-
 pub column_start-first-requires : goal.column_start-first-requires
-column_start-first-requires c = let far = room search in search rules
+column_start-first-requires c = let far = column-past c.args.nrow (c.args.k + 2) c.args.j c.requires.past in search rules
 
 pub column_start-second-requires : goal.column_start-second-requires
-column_start-second-requires c = let far = room search in search rules
+column_start-second-requires c = let far = column-past c.args.nrow (c.args.k + 2) c.args.j c.requires.past in search rules
 
 pub column_start-third-requires : goal.column_start-third-requires
-column_start-third-requires c = let far = room search in search rules
+column_start-third-requires c = let far = column-past c.args.nrow (c.args.k + 2) c.args.j c.requires.past in search rules
 
 pub offset_bounds-panel-a : goal.offset_bounds-panel-a
-offset_bounds-panel-a c = let far = room search in search rules
+offset_bounds-panel-a c = let far = column-past c.args.nrow (c.args.k + 2) c.args.j c.requires.past in search rules
 
 pub slice_bounds-less_three_ahead-count : goal.slice_bounds-less_three_ahead-count
-slice_bounds-less_three_ahead-count c = let far = room search in search rules
+slice_bounds-less_three_ahead-count c = let far = column-past c.args.nrow (c.args.k + 2) c.args.j c.requires.past in search rules
 
 pub slice_bounds-less_three_ahead-start : goal.slice_bounds-less_three_ahead-start
-slice_bounds-less_three_ahead-start c = let far = room search in search rules
+slice_bounds-less_three_ahead-start c = let far = column-past c.args.nrow (c.args.k + 2) c.args.j c.requires.past in search rules
 
 pub overflow_sub-own : goal.overflow_sub-own
-overflow_sub-own c = let far = room search in search rules
+overflow_sub-own c = let far = column-past c.args.nrow (c.args.k + 2) c.args.j c.requires.past in search rules
 
 pub less_three_ahead-requires : goal.less_three_ahead-requires
 less_three_ahead-requires c = let g = c.args in
@@ -50,10 +46,10 @@ returns c = let g = c.args in
     let second = c.column_start-second.result in
     let third = c.column_start-third.result in
     let own = c.column_start-own.result in
-    let far = room start in
+    let far = column-past c.args.nrow (c.args.k + 2) c.args.j c.requires.past in
     columns-lent g.nrow g.panel.now _ 3 _ first g.j own g.lo g.hi
     (pick g.k (g.k + 1) (g.k + 2) (g.k + 2)) (pick 0 (second - first) (third - first) (third - first)) (pick g.m.0 g.m.1 g.m.2 g.m.2)
     (search rules) (search rules) c.requires
     (pick-each (λ t z. (t ≤ g.k + 2) × (first + z ≡ column_start g.nrow t)) _ _ _ _ _ _ _ _
     (search rules) (search rules) (search rules) (search rules))
-    c.less_three_ahead.auto.0 c.less_three_ahead.ensures
+    c.less_three_ahead.auto.x c.less_three_ahead.ensures

@@ -16,15 +16,9 @@ pub get-requires : goal.get-requires
 get-requires c = search (rules, diagonal-in)
 
 pub returns-then-magnitude-threshold : goal.returns-then-magnitude-threshold
-returns-then-magnitude-threshold c = let read = c.before.before.before in
-    let lost = read.before in
-    let root = lost.before.before in
-    way-other _ _ _ _ _ _ _ _ _ lost.before.threshold.ensures root.before.before.row-greatest.ensures.0 root.root-of.ensures _ _ _
-    read.get.ensures c.magnitude.ensures c.threshold-2.ensures lost.if1.false c.if-magnitude-threshold.true
+returns-then-magnitude-threshold c = way-other _ _ _ _ _ _ _ _ _ c.threshold.ensures c.row_greatest-row.ensures.value c.root_of-rowmax.ensures _ _ _
+    c.get.ensures c.magnitude.ensures c.threshold-2.ensures c.if-own-threshold.false c.if-magnitude-threshold.true
 
 pub returns-else-magnitude-threshold : goal.returns-else-magnitude-threshold
-returns-else-magnitude-threshold c = let read = c.before.before.before in
-    let lost = read.before in
-    let root = lost.before.before in
-    way_block _ _ _ _ _ _ _ _ _ lost.before.threshold.ensures root.before.before.row-greatest.ensures.0 root.root-of.ensures _ _ _
-    read.get.ensures c.magnitude.ensures c.threshold-2.ensures lost.if1.false c.if-magnitude-threshold.false
+returns-else-magnitude-threshold c = way_block _ _ _ _ _ _ _ _ _ c.threshold.ensures c.row_greatest-row.ensures.value c.root_of-rowmax.ensures _ _ _
+    c.get.ensures c.magnitude.ensures c.threshold-2.ensures c.if-own-threshold.false c.if-magnitude-threshold.false

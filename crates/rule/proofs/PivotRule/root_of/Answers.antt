@@ -4,5 +4,4 @@ use Rattle.rule.proofs.Squares.{root-spared}
 use Rattle.rule.proofs.PivotRule.root_of.Goals as goal
 
 pub returns-then-square-is_finite : goal.returns-then-square-is_finite
-returns-then-square-is_finite c = let test = c.before in
-    root-spared _ _ _ _ (passes _ start.good.1.0.1) c.requires test.before.is_finite.ensures test.if1.true c.magnitude.ensures
+returns-then-square-is_finite c = root-spared _ _ _ _ (passes _ c.well_formed.1.0.1) c.requires c.is_finite.ensures c.if-square-is_finite.true c.magnitude.ensures
