@@ -13,9 +13,5 @@ pub returns-in-OutOfRounds : goal.returns-in-OutOfRounds
 returns-in-OutOfRounds c = search block-rounds
 
 pub returns-in-Numbers : goal.returns-in-Numbers
-returns-in-Numbers c = let done = c.before.before.before.before in
-    let told = done.before.before.before.before in
-    let settled = told.before.before in
-    let read = settled.before in
-    block-took _ _ _ _ _ _ _ _ _ _ _ _ _ _ _ _ _ read.before.before.before.before.exchange-if.ensures read.block_at.ensures
-    settled.settle-two.ensures told.settled.given.1 done.head-two.ensures.0 done.head-two.ensures.1
+returns-in-Numbers c = block-took _ _ _ _ _ _ _ _ _ _ _ _ _ _ _ _ _ c.exchange_if.ensures c.block_at.ensures
+    c.settle_two-settled.ensures c.in-Numbers.is c.head_two.ensures.rows c.head_two.ensures.kept

@@ -9,8 +9,5 @@ pub returns-in_default : goal.returns-in_default
 returns-in_default c = search single-stop
 
 pub returns : goal.returns
-returns c = let done = c.before.before.before.before in
-    let told = moved.before.before.before in
-    let settled = told.before.before in
-    single-took _ _ _ _ _ _ _ _ _ _ _ _ _ _ settled.before.get.ensures settled.settle-one.ensures told.settled.given.1
-    c.exchange_if.ensures done.head-one.ensures.0 done.head-one.ensures.1
+returns c = single-took _ _ _ _ _ _ _ _ _ _ _ _ _ _ c.get.ensures c.settle_one-settled.ensures c.in-Number.is
+    c.exchange_if.ensures c.head_one.ensures.rows c.head_one.ensures.kept
