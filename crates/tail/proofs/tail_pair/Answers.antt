@@ -14,19 +14,8 @@ pub diagonal_at-y-requires : goal.diagonal_at-y-requires
 diagonal_at-y-requires c = let both = c.requires.both_pre in
     pivot-pre _ _ _ _ _ _ _ _ _ _ _ _ c.requires.read_pre refl both.inside both.second
 
-pub past-last-requires : goal.past-last-requires
-past-last-requires c = omega (arith, c.requires.both_pre.inside, c.requires.read_pre.in_blocks)
-
 pub overflow_sub-last : goal.overflow_sub-last
 overflow_sub-last c = let more = past-later _ _ _ c.past-last.ensures in search rules
-
-pub overflow_sub-k : goal.overflow_sub-k
-overflow_sub-k c = let from = c.requires.read_pre.from in
-    search rules
-
-pub overflow_sub-k-2 : goal.overflow_sub-k-2
-overflow_sub-k-2 c = let from = c.requires.read_pre.from in
-    search rules
 
 pub place-start-requires : goal.place-start-requires
 place-start-requires c = let room = start_fits _ _ _ _ _ _ _ _ _ c.requires.read_pre c.requires.lent_pre.here in
