@@ -1,11 +1,6 @@
 -- What `exchange::exchange_cross` owes. Assumes nothing.
-use Prim.Native.Nat.{◌+◌, ◌-◌, ◌*◌, ◌≤◌}
-use mathlib.Core.Path.{◌≡◌}
 use native.Mathlib.Nat.{mul-le-mul_right}
 use native.Mathlib.Omega.{arith}
-use lib.ListN.{length}
-use Rattle.model.specs.Matrix.{view}
-use Rattle.exchange.specs.Exchange.{cross_exchanged}
 use Rattle.exchange.proofs.Parts.{cross-none, cross-step, cross-end}
 use borrow.Author.Rules.{rules}
 use Rattle.exchange.proofs.exchange_cross.Goals as goal

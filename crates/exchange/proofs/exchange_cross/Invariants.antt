@@ -1,12 +1,9 @@
 -- `exchange::exchange_cross` meets its contract. The invariant: the pairs before i are exchanged. The measure is what is left. Assumes nothing.
 use Prim.Native.Nat.{◌+◌, ◌-◌, ◌*◌, ◌≤◌}
 use mathlib.Core.Path.{◌≡◌}
-use native.Mathlib.Nat.{mul-le-mul_right}
-use native.Mathlib.Omega.{arith}
 use lib.ListN.{length}
 use Rattle.model.specs.Matrix.{view}
 use Rattle.exchange.specs.Exchange.{cross_exchanged}
-use Rattle.exchange.proofs.Parts.{cross-none, cross-step, cross-end}
 use Rattle.exchange.proofs.exchange_cross.Given as goal
 
 abbrev pub invariant-loop-i : goal.invariant-loop-i

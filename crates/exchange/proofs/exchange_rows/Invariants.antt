@@ -1,12 +1,9 @@
 -- `exchange::exchange_rows` meets its contract. The invariant: the columns before j are exchanged. The measure is what is left. Assumes nothing.
 use Prim.Native.Nat.{◌-◌, ◌*◌, ◌≤◌}
 use mathlib.Core.Path.{◌≡◌}
-use native.Mathlib.Nat.{mul-le-mul_right}
-use native.Mathlib.Omega.{arith}
 use lib.ListN.{length}
 use Rattle.model.specs.Matrix.{view}
 use Rattle.exchange.specs.Exchange.{rows_exchanged}
-use Rattle.exchange.proofs.Parts.{rows_none, rows_step, rows_end}
 use Rattle.exchange.proofs.exchange_rows.Given as goal
 
 abbrev pub invariant-loop-j : goal.invariant-loop-j
