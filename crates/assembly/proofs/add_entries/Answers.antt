@@ -1,9 +1,6 @@
 -- What `assembly::add_entries` owes. Assumes nothing.
-use mathlib.Core.Path.{◌≡◌}
-use Prim.Native.Nat.{◌-◌, ◌≤◌}
-use lib.ListN.{length}
-use Rattle.model.specs.Matrix.{view, vec, naturals}
-use Rattle.model.specs.Assembly.{assembled_from}
+use Prim.Native.Nat.{◌-◌}
+use Rattle.model.specs.Matrix.{vec, naturals}
 use Rattle.assembly.proofs.Laws.{place_in, entries_none, entries-step, entries-end}
 use borrow.Author.Rules.{rules}
 use Rattle.assembly.proofs.add_entries.Goals as goal

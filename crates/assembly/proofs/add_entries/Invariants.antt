@@ -5,7 +5,6 @@ use Prim.Native.Nat.{◌-◌, ◌≤◌}
 use lib.ListN.{length}
 use Rattle.model.specs.Matrix.{view, vec, naturals}
 use Rattle.model.specs.Assembly.{assembled_from}
-use Rattle.assembly.proofs.Laws.{place_in, entries_none, entries-step, entries-end}
 use Rattle.assembly.proofs.add_entries.Given as goal
 
 abbrev pub invariant-loop-k : goal.invariant-loop-k

@@ -1,10 +1,7 @@
 -- What `assembly::first_bad_place` owes. Assumes nothing.
-use mathlib.Core.Path.{◌≡◌}
-use Prim.Native.Nat.{◌-◌, ◌≤◌}
-use lib.ListN.{length}
+use Prim.Native.Nat.{◌-◌}
 use Rattle.model.specs.Matrix.{naturals}
-use Rattle.model.specs.Assembly.{first_not, place_sound}
-use Rattle.model.specs.declared.Refusal.TheVariants.{AssemblyPlace}
+use Rattle.model.specs.Assembly.{place_sound}
 use Rattle.checks.proofs.First.{first-none, first_step, first-bad, first-end}
 use borrow.Author.Rules.{rules}
 use Rattle.assembly.proofs.first_bad_place.Goals as goal

@@ -6,7 +6,6 @@ use lib.ListN.{length}
 use Rattle.model.specs.Matrix.{naturals}
 use Rattle.model.specs.Assembly.{first_not, place_sound}
 use Rattle.model.specs.declared.Refusal.TheVariants.{AssemblyPlace}
-use Rattle.checks.proofs.First.{first-none, first_step, first-bad, first-end}
 use Rattle.assembly.proofs.first_bad_place.Given as goal
 
 abbrev pub invariant-loop-k : goal.invariant-loop-k

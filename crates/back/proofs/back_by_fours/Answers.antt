@@ -1,9 +1,5 @@
 -- What `back::back_by_fours` owes. Assumes nothing.
-use Prim.Native.Nat.{◌*◌, ◌≤◌}
-use mathlib.Core.Path.{◌≡◌, refl}
-use lib.ListN.{length}
-use Rattle.model.specs.Matrix.{view, vec, naturals}
-use Rattle.back.specs.Back.{steps_back}
+use mathlib.Core.Path.{refl}
 use Rattle.back.proofs.Turns.{fours-pre, fours-step, fours-end}
 use borrow.Author.Rules.{rules}
 use Rattle.back.proofs.back_by_fours.Goals as goal

@@ -1,11 +1,10 @@
 -- `back::back_by_fours` meets its contract. The invariant: taking the first 4·f positions back makes what taking all 4·q of them makes; the measure is f.
 -- Assumes nothing.
 use Prim.Native.Nat.{◌*◌, ◌≤◌}
-use mathlib.Core.Path.{◌≡◌, refl}
+use mathlib.Core.Path.{◌≡◌}
 use lib.ListN.{length}
 use Rattle.model.specs.Matrix.{view, vec, naturals}
 use Rattle.back.specs.Back.{steps_back}
-use Rattle.back.proofs.Turns.{fours-pre, fours-step, fours-end}
 use Rattle.back.proofs.back_by_fours.Given as goal
 
 abbrev pub invariant-loop-f : goal.invariant-loop-f

@@ -1,9 +1,7 @@
 -- What `back::back_by_ones` owes. Assumes nothing.
-use Prim.Native.Nat.{◌-◌, ◌≤◌}
-use mathlib.Core.Path.{◌≡◌, refl}
-use lib.ListN.{length}
-use Rattle.model.specs.Matrix.{view, vec, naturals}
-use Rattle.back.specs.Back.{steps_back}
+use Prim.Native.Nat.{◌-◌}
+use mathlib.Core.Path.{refl}
+use Rattle.model.specs.Matrix.{vec}
 use Rattle.back.proofs.Turns.{ones-pre, ones_step, ones-end}
 use borrow.Author.Rules.{rules}
 use Rattle.back.proofs.back_by_ones.Goals as goal

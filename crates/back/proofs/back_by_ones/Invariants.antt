@@ -1,11 +1,10 @@
 -- `back::back_by_ones` meets its contract. The invariant: taking the positions before k back makes what taking all of them makes; the measure is what is left.
 -- Assumes nothing.
 use Prim.Native.Nat.{◌-◌, ◌≤◌}
-use mathlib.Core.Path.{◌≡◌, refl}
+use mathlib.Core.Path.{◌≡◌}
 use lib.ListN.{length}
 use Rattle.model.specs.Matrix.{view, vec, naturals}
 use Rattle.back.specs.Back.{steps_back}
-use Rattle.back.proofs.Turns.{ones-pre, ones_step, ones-end}
 use Rattle.back.proofs.back_by_ones.Given as goal
 
 abbrev pub invariant-loop-k : goal.invariant-loop-k

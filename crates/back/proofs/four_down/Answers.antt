@@ -1,11 +1,8 @@
 -- What `back::four_down` owes. Assumes nothing.
-use Prim.Native.Nat.{◌+◌, ◌-◌, ◌≤◌}
-use mathlib.Core.Path.{◌≡◌}
+use Prim.Native.Nat.{◌-◌}
 use native.Mathlib.Omega.{arith}
-use lib.ListN.{length}
-use Rattle.model.specs.Matrix.{view, vec}
+use Rattle.model.specs.Matrix.{vec}
 use Rattle.forward.proofs.Lent.{four-fit}
-use Rattle.back.specs.Back.{fallen_whole}
 use Rattle.back.proofs.Down.{four-there, whole-none, whole-step, whole-end}
 use borrow.Author.Rules.{rules}
 use Rattle.back.proofs.four_down.Goals as goal
@@ -16,14 +13,14 @@ four_places-at-requires c = four-fit _ _ _ _ (record { columns = c.requires.colu
 pub loop-i-init : goal.loop-i-init
 unfolding vec
 loop-i-init c = let at = c.four_places-at.ensures in (
-      search rules,
-      search rules,
-      four-there _ _ _ _ _ _ _ _ c.requires at.result_value at.result_value_2,
-      search whole-none,
-      search whole-none,
-      search whole-none,
-      search whole-none,
-    )
+  search rules,
+  search rules,
+  four-there _ _ _ _ _ _ _ _ c.requires at.result_value at.result_value_2,
+  search whole-none,
+  search whole-none,
+  search whole-none,
+  search whole-none,
+)
 
 pub loop-i-preserved : goal.loop-i-preserved
 unfolding vec

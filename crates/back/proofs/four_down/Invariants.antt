@@ -2,12 +2,9 @@
 -- of the rows. Assumes nothing.
 use Prim.Native.Nat.{◌+◌, ◌-◌, ◌≤◌}
 use mathlib.Core.Path.{◌≡◌}
-use native.Mathlib.Omega.{arith}
 use lib.ListN.{length}
 use Rattle.model.specs.Matrix.{view, vec}
-use Rattle.forward.proofs.Lent.{four-fit}
 use Rattle.back.specs.Back.{fallen_whole}
-use Rattle.back.proofs.Down.{four-there, whole-none, whole-step, whole-end}
 use Rattle.back.proofs.four_down.Given as goal
 
 abbrev pub invariant-loop-i : goal.invariant-loop-i

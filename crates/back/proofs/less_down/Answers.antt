@@ -1,10 +1,6 @@
 -- What `back::less_down` owes. Assumes nothing.
-use Prim.Native.Nat.{◌-◌, ◌≤◌}
-use mathlib.Core.Path.{◌≡◌}
-use lib.ListN.{length}
-use Rattle.model.specs.Matrix.{view, vec, naturals}
+use Prim.Native.Nat.{◌-◌}
 use Rattle.forward.proofs.Lent.{start_fits}
-use Rattle.back.specs.Back.{fallen}
 use Rattle.back.proofs.Down.{row_in, row_fits, down-none, down_step, down-end}
 use borrow.Author.Rules.{rules}
 use Rattle.back.proofs.less_down.Goals as goal

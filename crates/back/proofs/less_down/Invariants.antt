@@ -4,9 +4,7 @@ use Prim.Native.Nat.{◌-◌, ◌≤◌}
 use mathlib.Core.Path.{◌≡◌}
 use lib.ListN.{length}
 use Rattle.model.specs.Matrix.{view, vec, naturals}
-use Rattle.forward.proofs.Lent.{start_fits}
 use Rattle.back.specs.Back.{fallen}
-use Rattle.back.proofs.Down.{row_in, row_fits, down-none, down_step, down-end}
 use Rattle.back.proofs.less_down.Given as goal
 
 abbrev pub invariant-loop-i : goal.invariant-loop-i

@@ -5,11 +5,11 @@ use Rattle.buffers.proofs.begin.Goals as goal
 
 pub returns : goal.returns
 returns c = record {
-      panel = search rules;
-      d = search filled;
-      sub = search filled;
-      blocks = search filled;
-      lifts = search filled;
-      amounts = search filled;
-      order = search ordered;
-    }
+  panel = search rules;
+  d = search filled;
+  sub = search filled;
+  blocks = search filled;
+  lifts = search filled;
+  amounts = search filled;
+  order = search ordered;
+}

@@ -39,5 +39,7 @@ loop-k-preserved c = let inv = c.loop-k.invariant in
 
 pub returns : goal.returns
 returns c = let inv = c.loop-k.invariant in
-    record { order_after = search panel-end;
-             ran_to = notes-end _ _ _ _ _ _ _ c.requires.noted_to c.requires.panel_pre.here inv.run c.loop-k-test.false inv.to inv.few }
+    record {
+      order_after = search panel-end;
+      ran_to = notes-end _ _ _ _ _ _ _ c.requires.noted_to c.requires.panel_pre.here inv.run c.loop-k-test.false inv.to inv.few;
+    }

@@ -4,7 +4,6 @@ use mathlib.Core.Path.{◌≡◌}
 use lib.ListN.{length}
 use Rattle.model.specs.Matrix.{view}
 use Rattle.deferred.specs.Columns.{part_deferred}
-use Rattle.deferred.proofs.Parts.{columns-still, rows_none, rows_step, rows_end}
 use Rattle.deferred.proofs.defer_columns.Given as goal
 
 abbrev pub invariant-loop-lo : goal.invariant-loop-lo

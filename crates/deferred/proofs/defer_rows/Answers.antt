@@ -1,9 +1,5 @@
 -- What `deferred::defer_rows` owes. Assumes nothing.
-use Prim.Native.Nat.{◌-◌, ◌≤◌}
-use mathlib.Core.Path.{◌≡◌}
-use lib.ListN.{length}
-use Rattle.model.specs.Matrix.{view}
-use Rattle.deferred.specs.Columns.{part_deferred}
+use Prim.Native.Nat.{◌-◌}
 use Rattle.deferred.proofs.Parts.{columns-none, columns-still, columns-step, columns-end}
 use borrow.Author.Rules.{rules}
 use Rattle.deferred.proofs.defer_rows.Goals as goal

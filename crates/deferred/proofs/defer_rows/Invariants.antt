@@ -4,7 +4,6 @@ use mathlib.Core.Path.{◌≡◌}
 use lib.ListN.{length}
 use Rattle.model.specs.Matrix.{view}
 use Rattle.deferred.specs.Columns.{part_deferred}
-use Rattle.deferred.proofs.Parts.{columns-none, columns-still, columns-step, columns-end}
 use Rattle.deferred.proofs.defer_rows.Given as goal
 
 abbrev pub invariant-loop-c : goal.invariant-loop-c

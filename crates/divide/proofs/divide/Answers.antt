@@ -1,11 +1,5 @@
 -- What `divide::divide` owes. Assumes nothing.
-use Prim.Native.Nat.{◌-◌, ◌≤◌}
-use mathlib.Core.Path.{◌≡◌}
-use lib.ListN.{length}
-use Rattle.model.specs.Matrix.{vec, naturals, with_part}
-use Rattle.model.specs.Step.{diagonals_of}
-use Rattle.model.specs.Kept.{Starts}
-use Rattle.model.specs.Solve.{divided}
+use Prim.Native.Nat.{◌-◌}
 use Rattle.kernels.proofs.Laws.{with_part-end}
 use Rattle.kernels.proofs.Rules.{rule-none}
 use Rattle.divide.proofs.Laws.{pivot-pre, none_before, turn_step, turn-starts, turn-within, turn-less}

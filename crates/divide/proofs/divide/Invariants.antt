@@ -7,9 +7,6 @@ use Rattle.model.specs.Matrix.{vec, naturals, with_part}
 use Rattle.model.specs.Step.{diagonals_of}
 use Rattle.model.specs.Kept.{Starts}
 use Rattle.model.specs.Solve.{divided}
-use Rattle.kernels.proofs.Laws.{with_part-end}
-use Rattle.kernels.proofs.Rules.{rule-none}
-use Rattle.divide.proofs.Laws.{pivot-pre, none_before, turn_step, turn-starts, turn-within, turn-less}
 use Rattle.divide.proofs.divide.Given as goal
 
 abbrev pub invariant-loop-k : goal.invariant-loop-k

@@ -1,12 +1,10 @@
 -- What `forward::less_one` owes. Assumes nothing.
-use Prim.Native.Nat.{◌+◌, ◌-◌, ◌≤◌}
+use Prim.Native.Nat.{◌+◌, ◌-◌}
 use mathlib.Core.Path.{◌≡◌, refl}
 use lib.ListN.{length}
-use Rattle.model.specs.Matrix.{vec, with_part}
 use Rattle.kernels.specs.Rules.{pick, less_all}
 use Rattle.kernels.proofs.Laws.{with_part-end}
 use Rattle.kernels.proofs.Rules.{rule-none, pick-each}
-use Rattle.forward.specs.Forward.{less_of}
 use Rattle.forward.proofs.Lent.{less-step}
 use borrow.Author.Rules.{rules}
 use Rattle.forward.proofs.less_one.Goals as goal

@@ -1,13 +1,10 @@
 -- `forward::less_one` meets its contract. The invariant: the places before i are done by the rule; the measure is what is left. Assumes nothing.
-use Prim.Native.Nat.{◌+◌, ◌-◌, ◌≤◌}
-use mathlib.Core.Path.{◌≡◌, refl}
+use Prim.Native.Nat.{◌-◌, ◌≤◌}
+use mathlib.Core.Path.{◌≡◌}
 use lib.ListN.{length}
 use Rattle.model.specs.Matrix.{vec, with_part}
-use Rattle.kernels.specs.Rules.{pick, less_all}
-use Rattle.kernels.proofs.Laws.{with_part-end}
-use Rattle.kernels.proofs.Rules.{rule-none, pick-each}
+use Rattle.kernels.specs.Rules.{pick}
 use Rattle.forward.specs.Forward.{less_of}
-use Rattle.forward.proofs.Lent.{less-step}
 use Rattle.forward.proofs.less_one.Given as goal
 
 abbrev pub invariant-loop-i : goal.invariant-loop-i

@@ -1,9 +1,5 @@
 -- What `forward::lose_by_fours` owes. Assumes nothing.
-use Prim.Native.Nat.{◌-◌, ◌≤◌}
-use mathlib.Core.Path.{◌≡◌}
-use lib.ListN.{length}
-use Rattle.model.specs.Matrix.{view, vec, naturals}
-use Rattle.forward.specs.Forward.{columns_lost}
+use Prim.Native.Nat.{◌-◌}
 use Rattle.forward.proofs.Together.{fours-pre, fours-none, fours-step}
 use borrow.Author.Rules.{rules}
 use Rattle.forward.proofs.lose_by_fours.Goals as goal

@@ -4,7 +4,6 @@ use mathlib.Core.Path.{◌≡◌}
 use lib.ListN.{length}
 use Rattle.model.specs.Matrix.{view, vec, naturals}
 use Rattle.forward.specs.Forward.{columns_lost}
-use Rattle.forward.proofs.Together.{fours-pre, fours-none, fours-step}
 use Rattle.forward.proofs.lose_by_fours.Given as goal
 
 abbrev pub invariant-loop-k : goal.invariant-loop-k

@@ -1,8 +1,6 @@
 -- What `landing::begins_at` owes. Assumes nothing.
-use mathlib.Core.Path.{◌≡◌}
-use Prim.Native.Nat.{◌-◌, ◌≤◌}
+use Prim.Native.Nat.{◌-◌}
 use Rattle.model.specs.Matrix.{naturals}
-use Rattle.model.specs.Factor.{every_from}
 use Rattle.landing.specs.Rows.{stands_at}
 use Rattle.landing.proofs.Scans.{every-none, every-step, every-bad, every-end}
 use borrow.Author.Rules.{rules}

@@ -5,7 +5,6 @@ use Prim.Native.Nat.{◌-◌, ◌≤◌}
 use Rattle.model.specs.Matrix.{naturals}
 use Rattle.model.specs.Factor.{every_from}
 use Rattle.landing.specs.Rows.{stands_at}
-use Rattle.landing.proofs.Scans.{every-none, every-step, every-bad, every-end}
 use Rattle.landing.proofs.begins_at.Given as goal
 
 abbrev pub invariant-loop-j : goal.invariant-loop-j

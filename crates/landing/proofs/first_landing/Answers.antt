@@ -1,9 +1,7 @@
 -- What `landing::first_landing` owes. Assumes nothing.
-use mathlib.Core.Path.{◌≡◌}
-use Prim.Native.Nat.{◌-◌, ◌≤◌}
-use lib.ListN.{length}
+use Prim.Native.Nat.{◌-◌}
 use Rattle.model.specs.Matrix.{naturals}
-use Rattle.landing.specs.Rows.{lands_at, first_from}
+use Rattle.landing.specs.Rows.{lands_at}
 use Rattle.landing.proofs.Scans.{from-none, from_step, from-hit, from_end}
 use borrow.Author.Rules.{rules}
 use Rattle.landing.proofs.first_landing.Goals as goal

@@ -5,7 +5,6 @@ use Prim.Native.Nat.{◌-◌, ◌≤◌}
 use lib.ListN.{length}
 use Rattle.model.specs.Matrix.{naturals}
 use Rattle.landing.specs.Rows.{lands_at, first_from}
-use Rattle.landing.proofs.Scans.{from-none, from_step, from-hit, from_end}
 use Rattle.landing.proofs.first_landing.Given as goal
 
 abbrev pub invariant-loop-i : goal.invariant-loop-i

@@ -1,9 +1,6 @@
 -- What `landing::local_row` owes. Assumes nothing.
-use mathlib.Core.Path.{◌≡◌}
-use Prim.Native.Nat.{◌-◌, ◌≤◌}
-use lib.ListN.{length}
+use Prim.Native.Nat.{◌-◌}
 use Rattle.model.specs.Matrix.{naturals}
-use Rattle.model.specs.Update.{place_from}
 use Rattle.landing.proofs.Scans.{place-step, place-hit, place_end}
 use borrow.Author.Rules.{rules}
 use Rattle.landing.proofs.local_row.Goals as goal

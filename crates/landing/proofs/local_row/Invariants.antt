@@ -5,7 +5,6 @@ use Prim.Native.Nat.{◌-◌, ◌≤◌}
 use lib.ListN.{length}
 use Rattle.model.specs.Matrix.{naturals}
 use Rattle.model.specs.Update.{place_from}
-use Rattle.landing.proofs.Scans.{place-step, place-hit, place_end}
 use Rattle.landing.proofs.local_row.Given as goal
 
 abbrev pub invariant-loop-i : goal.invariant-loop-i

@@ -1,11 +1,8 @@
 -- `landing::locate` meets its contract. The invariant: `Locating` of Order.antt. The measure is what is left of the descendant's rows.
 -- Assumes nothing.
-use mathlib.Core.Path.{◌≡◌}
-use Prim.Native.Nat.{ℕ, ◌+◌, ◌-◌}
-use native.Mathlib.Omega.{arith}
-use lib.ListN.{length, set}
-use Rattle.model.specs.Matrix.{naturals}
-use Rattle.landing.proofs.Order.{Locating, locating-none, locating-step, locating-bad, locating-end, locating-all}
+use Prim.Native.Nat.{◌-◌}
+use lib.ListN.{length}
+use Rattle.landing.proofs.Order.{Locating}
 use Rattle.landing.proofs.locate.Given as goal
 
 abbrev pub invariant-loop-i : goal.invariant-loop-i

@@ -1,10 +1,5 @@
 -- What `landing::rising` owes. Assumes nothing.
-use mathlib.Core.Path.{◌≡◌}
-use Prim.Native.Nat.{◌-◌, ◌≤◌}
-use lib.ListN.{length}
-use Rattle.model.specs.Matrix.{naturals}
-use Rattle.model.specs.Factor.{every_from}
-use Rattle.landing.specs.Rows.{rises_at}
+use Prim.Native.Nat.{◌-◌}
 use Rattle.landing.proofs.Scans.{every-none, every-step, every-bad, every-end}
 use borrow.Author.Rules.{rules}
 use Rattle.landing.proofs.rising.Goals as goal

@@ -6,7 +6,6 @@ use lib.ListN.{length}
 use Rattle.model.specs.Matrix.{naturals}
 use Rattle.model.specs.Factor.{every_from}
 use Rattle.landing.specs.Rows.{rises_at}
-use Rattle.landing.proofs.Scans.{every-none, every-step, every-bad, every-end}
 use Rattle.landing.proofs.rising.Given as goal
 
 abbrev pub invariant-loop-i : goal.invariant-loop-i

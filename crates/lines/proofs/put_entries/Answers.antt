@@ -1,10 +1,6 @@
 -- What `lines::put_entries` owes. Assumes nothing.
-use mathlib.Core.Path.{◌≡◌}
-use Prim.Native.Nat.{◌+◌, ◌*◌, ◌-◌, ◌≤◌}
-use lib.ListN.{length}
+use Prim.Native.Nat.{◌-◌}
 use Rattle.grid.proofs.Laws.{in-panel}
-use Rattle.text.specs.Text.{Writes}
-use Rattle.lines.specs.Lines.{each, entry_field}
 use Rattle.lines.proofs.Laws.{each_none, entries-step, each-end}
 use borrow.Author.Rules.{rules}
 use Rattle.lines.proofs.put_entries.Goals as goal

@@ -3,10 +3,8 @@
 use mathlib.Core.Path.{◌≡◌}
 use Prim.Native.Nat.{◌+◌, ◌*◌, ◌-◌, ◌≤◌}
 use lib.ListN.{length}
-use Rattle.grid.proofs.Laws.{in-panel}
 use Rattle.text.specs.Text.{Writes}
 use Rattle.lines.specs.Lines.{each, entry_field}
-use Rattle.lines.proofs.Laws.{each_none, entries-step, each-end}
 use Rattle.lines.proofs.put_entries.Given as goal
 
 abbrev pub invariant-loop-j : goal.invariant-loop-j

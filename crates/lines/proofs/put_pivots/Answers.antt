@@ -1,9 +1,5 @@
 -- What `lines::put_pivots` owes. Assumes nothing.
-use mathlib.Core.Path.{◌≡◌}
-use Prim.Native.Nat.{◌+◌, ◌*◌, ◌-◌, ◌≤◌}
-use lib.ListN.{length}
-use Rattle.text.specs.Text.{Writes}
-use Rattle.lines.specs.Lines.{each, pivot_at}
+use Prim.Native.Nat.{◌-◌}
 use Rattle.lines.proofs.Laws.{each_none, pivots-step, each-end}
 use borrow.Author.Rules.{rules}
 use Rattle.lines.proofs.put_pivots.Goals as goal

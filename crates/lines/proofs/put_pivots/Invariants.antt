@@ -5,7 +5,6 @@ use Prim.Native.Nat.{◌+◌, ◌*◌, ◌-◌, ◌≤◌}
 use lib.ListN.{length}
 use Rattle.text.specs.Text.{Writes}
 use Rattle.lines.specs.Lines.{each, pivot_at}
-use Rattle.lines.proofs.Laws.{each_none, pivots-step, each-end}
 use Rattle.lines.proofs.put_pivots.Given as goal
 
 abbrev pub invariant-loop-k : goal.invariant-loop-k

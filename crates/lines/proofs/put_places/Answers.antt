@@ -1,9 +1,5 @@
 -- What `lines::put_places` owes. Assumes nothing.
-use mathlib.Core.Path.{◌≡◌}
-use Prim.Native.Nat.{◌+◌, ◌*◌, ◌-◌, ◌≤◌}
-use lib.ListN.{length}
-use Rattle.text.specs.Text.{Writes}
-use Rattle.lines.specs.Lines.{each, order_field}
+use Prim.Native.Nat.{◌-◌}
 use Rattle.lines.proofs.Laws.{each_none, places-step, each-end}
 use borrow.Author.Rules.{rules}
 use Rattle.lines.proofs.put_places.Goals as goal

@@ -5,7 +5,6 @@ use Prim.Native.Nat.{◌+◌, ◌*◌, ◌-◌, ◌≤◌}
 use lib.ListN.{length}
 use Rattle.text.specs.Text.{Writes}
 use Rattle.lines.specs.Lines.{each, order_field}
-use Rattle.lines.proofs.Laws.{each_none, places-step, each-end}
 use Rattle.lines.proofs.put_places.Given as goal
 
 abbrev pub invariant-loop-i : goal.invariant-loop-i

@@ -1,9 +1,5 @@
 -- What `lines::put_rows` owes. Assumes nothing.
-use mathlib.Core.Path.{◌≡◌}
-use Prim.Native.Nat.{◌+◌, ◌*◌, ◌-◌, ◌≤◌}
-use lib.ListN.{length}
-use Rattle.text.specs.Text.{Writes}
-use Rattle.lines.specs.Lines.{each, row_line}
+use Prim.Native.Nat.{◌-◌}
 use Rattle.lines.proofs.Laws.{each_none, each_step, each-end}
 use borrow.Author.Rules.{rules}
 use Rattle.lines.proofs.put_rows.Goals as goal

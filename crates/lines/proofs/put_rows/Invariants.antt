@@ -5,7 +5,6 @@ use Prim.Native.Nat.{◌+◌, ◌*◌, ◌-◌, ◌≤◌}
 use lib.ListN.{length}
 use Rattle.text.specs.Text.{Writes}
 use Rattle.lines.specs.Lines.{each, row_line}
-use Rattle.lines.proofs.Laws.{each_none, each_step, each-end}
 use Rattle.lines.proofs.put_rows.Given as goal
 
 abbrev pub invariant-loop-i : goal.invariant-loop-i

@@ -1,12 +1,7 @@
 -- What `order::first_bad_row` owes. Assumes nothing.
-use Prim.Native.Nat.{◌-◌, ◌≤◌}
-use mathlib.Core.Path.{◌≡◌}
-use lib.ListN.{length}
-use Rattle.model.specs.Matrix.{naturals}
-use Rattle.model.specs.Assembly.{first_not}
-use Rattle.model.specs.Solve.{order_sound, order_at}
+use Prim.Native.Nat.{◌-◌}
 use Rattle.checks.proofs.First.{first-none, first_step, first-bad, first-end}
-use Rattle.order.proofs.Laws.{seen_of, seen_none, seen_step, row-is-sound, row_in}
+use Rattle.order.proofs.Laws.{seen_none, seen_step, row-is-sound, row_in}
 use borrow.Author.Rules.{rules}
 use Rattle.order.proofs.first_bad_row.Goals as goal
 

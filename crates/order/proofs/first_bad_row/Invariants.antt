@@ -6,8 +6,7 @@ use lib.ListN.{length}
 use Rattle.model.specs.Matrix.{naturals}
 use Rattle.model.specs.Assembly.{first_not}
 use Rattle.model.specs.Solve.{order_sound, order_at}
-use Rattle.checks.proofs.First.{first-none, first_step, first-bad, first-end}
-use Rattle.order.proofs.Laws.{seen_of, seen_none, seen_step, row-is-sound, row_in}
+use Rattle.order.proofs.Laws.{seen_of}
 use Rattle.order.proofs.first_bad_row.Given as goal
 
 abbrev pub invariant-loop-k : goal.invariant-loop-k

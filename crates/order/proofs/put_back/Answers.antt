@@ -1,9 +1,5 @@
 -- What `order::put_back` owes. Assumes nothing.
-use Prim.Native.Nat.{◌-◌, ◌≤◌}
-use mathlib.Core.Path.{◌≡◌}
-use lib.ListN.{length}
-use Rattle.model.specs.Matrix.{vec, naturals}
-use Rattle.model.specs.Solve.{returned_from}
+use Prim.Native.Nat.{◌-◌}
 use Rattle.order.proofs.Laws.{row-there, back_none, back_step, back_end}
 use borrow.Author.Rules.{rules}
 use Rattle.order.proofs.put_back.Goals as goal

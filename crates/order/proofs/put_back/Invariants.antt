@@ -5,7 +5,6 @@ use mathlib.Core.Path.{◌≡◌}
 use lib.ListN.{length}
 use Rattle.model.specs.Matrix.{vec, naturals}
 use Rattle.model.specs.Solve.{returned_from}
-use Rattle.order.proofs.Laws.{row-there, back_none, back_step, back_end}
 use Rattle.order.proofs.put_back.Given as goal
 
 abbrev pub invariant-loop-k : goal.invariant-loop-k

@@ -1,9 +1,5 @@
 -- What `order::take` owes. Assumes nothing.
-use Prim.Native.Nat.{◌-◌, ◌≤◌}
-use mathlib.Core.Path.{◌≡◌}
-use lib.ListN.{length}
-use Rattle.model.specs.Matrix.{vec, naturals, with_part}
-use Rattle.model.specs.Solve.{ordered}
+use Prim.Native.Nat.{◌-◌}
 use Rattle.kernels.proofs.Laws.{with_part-end}
 use Rattle.kernels.proofs.Rules.{rule-none}
 use Rattle.order.proofs.Laws.{row-there, take_step}

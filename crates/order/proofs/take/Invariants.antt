@@ -4,9 +4,6 @@ use mathlib.Core.Path.{◌≡◌}
 use lib.ListN.{length}
 use Rattle.model.specs.Matrix.{vec, naturals, with_part}
 use Rattle.model.specs.Solve.{ordered}
-use Rattle.kernels.proofs.Laws.{with_part-end}
-use Rattle.kernels.proofs.Rules.{rule-none}
-use Rattle.order.proofs.Laws.{row-there, take_step}
 use Rattle.order.proofs.take.Given as goal
 
 abbrev pub invariant-loop-k : goal.invariant-loop-k

@@ -1,12 +1,9 @@
 -- `pairs::sweep_both` meets its contract. The invariant: the columns before j are swept; the measure is what is left. Assumes nothing.
 use Prim.Native.Nat.{◌+◌, ◌≤◌, ◌-◌}
-use mathlib.Core.Path.{◌≡◌, refl}
-use native.Mathlib.Omega.{arith}
+use mathlib.Core.Path.{◌≡◌}
 use lib.ListN.{length}
 use Rattle.model.specs.Matrix.{view}
 use Rattle.swept.specs.Swept.{swept_both}
-use Rattle.swept.proofs.Sweeps.{placed, both-none, both_end}
-use Rattle.swept.proofs.Several.{both-join}
 use Rattle.pairs.proofs.sweep_both.Given as goal
 
 abbrev pub invariant-loop-j : goal.invariant-loop-j

@@ -14,11 +14,11 @@ column_first-requires c = search (rules, sweep-column)
 
 pub loop-j-preserved : goal.loop-j-preserved
 loop-j-preserved c = let inv = c.loop-j.invariant in (
-      search rules,
-      search rules,
-      search rules,
-      first_step _ _ _ _ _ _ _ _ _ _ _ _ c.requires.past inv.0 inv.3 c.column_first.ensures,
-    )
+  search rules,
+  search rules,
+  search rules,
+  first_step _ _ _ _ _ _ _ _ _ _ _ _ c.requires.past inv.0 inv.3 c.column_first.ensures,
+)
 
 pub returns : goal.returns
 returns c = let inv = c.loop-j.invariant in first-end _ _ _ _ _ _ _ _ _ _ _ _ inv.1 (search rules) inv.3

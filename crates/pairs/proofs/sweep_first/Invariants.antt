@@ -1,12 +1,9 @@
 -- `pairs::sweep_first` meets its contract. The invariant: the columns before j are swept; the measure is what is left. Assumes nothing.
 use Prim.Native.Nat.{◌≤◌, ◌-◌}
-use mathlib.Core.Path.{◌≡◌, refl}
-use native.Mathlib.Omega.{arith}
+use mathlib.Core.Path.{◌≡◌}
 use lib.ListN.{length}
 use Rattle.model.specs.Matrix.{view}
 use Rattle.swept.specs.Swept.{swept_first}
-use Rattle.swept.proofs.Sweeps.{first-none, first_step, first-end}
-use Rattle.pairs.proofs.Calls.{sweep-column}
 use Rattle.pairs.proofs.sweep_first.Given as goal
 
 abbrev pub invariant-loop-j : goal.invariant-loop-j

@@ -1,6 +1,5 @@
 -- `pairs::sweep_next` meets its contract: several columns, or one. Assumes nothing.
 use Rattle.swept.proofs.Several.{both-more}
-use borrow.Author.Rules.{rules}
 use Rattle.pairs.proofs.sweep_next.Goals as goal
 
 pub returns-clause-part_after : goal.returns-clause-part_after

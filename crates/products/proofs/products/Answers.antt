@@ -1,10 +1,5 @@
 -- What `products::products` owes. Assumes nothing.
-use Prim.Native.Nat.{◌-◌, ◌≤◌}
-use mathlib.Core.Path.{◌≡◌}
-use lib.ListN.{length}
-use Rattle.model.specs.Matrix.{view}
-use Rattle.model.specs.Step.{diagonals_of}
-use Rattle.products.specs.Products.{with_products}
+use Prim.Native.Nat.{◌-◌}
 use Rattle.products.proofs.Product.{products-none, products-pre, products-step, products-end}
 use borrow.Author.Rules.{rules}
 use Rattle.products.proofs.products.Goals as goal

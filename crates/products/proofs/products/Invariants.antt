@@ -6,7 +6,6 @@ use lib.ListN.{length}
 use Rattle.model.specs.Matrix.{view}
 use Rattle.model.specs.Step.{diagonals_of}
 use Rattle.products.specs.Products.{with_products}
-use Rattle.products.proofs.Product.{products-none, products-pre, products-step, products-end}
 use Rattle.products.proofs.products.Given as goal
 
 abbrev pub invariant-loop-k : goal.invariant-loop-k

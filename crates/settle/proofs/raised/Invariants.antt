@@ -1,7 +1,7 @@
 -- `settle::raised` meets its contract. The loop's invariant: what the rounds left find from here is what all rounds find from the start.
 -- The measure is the rounds left. Assumes nothing.
 use Prim.Native.Nat.{◌≤◌, ◌-◌}
-use Rattle.settle.proofs.Laws.{Left, raised-none, raised-step, raised-enough, raised-out}
+use Rattle.settle.proofs.Laws.{Left}
 use Rattle.settle.proofs.raised.Given as goal
 
 abbrev pub invariant-loop-done : goal.invariant-loop-done

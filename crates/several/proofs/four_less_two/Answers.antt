@@ -1,11 +1,8 @@
 -- What `several::four_less_two` owes. Assumes nothing.
-use Prim.Native.Nat.{◌≤◌, ◌-◌}
-use mathlib.Core.Path.{◌≡◌, refl}
+use Prim.Native.Nat.{◌-◌}
+use mathlib.Core.Path.{refl}
 use native.Mathlib.Omega.{arith}
 use lib.ListN.{length, length-set}
-use Rattle.model.specs.Matrix.{vec}
-use Rattle.kernels.specs.Rules.{pick}
-use Rattle.several.specs.Several.{runs_by, four_less_two}
 use Rattle.several.proofs.Runs.{runs_none, four-step, runs-end}
 use borrow.Author.Rules.{rules}
 use Rattle.several.proofs.four_less_two.Goals as goal

@@ -1,13 +1,11 @@
 -- `several::four_less_two` meets its contract. The invariant: i places of each of the four runs are done by their rules.
 -- Assumes nothing.
 use Prim.Native.Nat.{◌≤◌, ◌-◌}
-use mathlib.Core.Path.{◌≡◌, refl}
-use native.Mathlib.Omega.{arith}
-use lib.ListN.{length, length-set}
+use mathlib.Core.Path.{◌≡◌}
+use lib.ListN.{length}
 use Rattle.model.specs.Matrix.{vec}
 use Rattle.kernels.specs.Rules.{pick}
 use Rattle.several.specs.Several.{runs_by, four_less_two}
-use Rattle.several.proofs.Runs.{runs_none, four-step, runs-end}
 use Rattle.several.proofs.four_less_two.Given as goal
 
 abbrev pub invariant-loop-i : goal.invariant-loop-i

@@ -1,11 +1,7 @@
 -- What `several::two_less_three` owes. Assumes nothing.
-use Prim.Native.Nat.{◌≤◌, ◌-◌}
-use mathlib.Core.Path.{◌≡◌}
+use Prim.Native.Nat.{◌-◌}
 use native.Mathlib.Omega.{arith}
-use lib.ListN.{length, length-set}
-use Rattle.model.specs.Matrix.{vec}
-use Rattle.kernels.specs.Rules.{pick}
-use Rattle.several.specs.Several.{runs_by, two_less_three}
+use lib.ListN.{length-set}
 use Rattle.several.proofs.Runs.{runs_none, two-step, runs-end}
 use borrow.Author.Rules.{rules}
 use Rattle.several.proofs.two_less_three.Goals as goal

@@ -2,12 +2,10 @@
 -- Assumes nothing.
 use Prim.Native.Nat.{◌≤◌, ◌-◌}
 use mathlib.Core.Path.{◌≡◌}
-use native.Mathlib.Omega.{arith}
-use lib.ListN.{length, length-set}
+use lib.ListN.{length}
 use Rattle.model.specs.Matrix.{vec}
 use Rattle.kernels.specs.Rules.{pick}
 use Rattle.several.specs.Several.{runs_by, two_less_three}
-use Rattle.several.proofs.Runs.{runs_none, two-step, runs-end}
 use Rattle.several.proofs.two_less_three.Given as goal
 
 abbrev pub invariant-loop-i : goal.invariant-loop-i

@@ -1,10 +1,6 @@
 -- What `solve::first_bad_number` owes. Assumes nothing.
-use mathlib.Core.Path.{◌≡◌}
-use Prim.Native.Nat.{◌-◌, ◌≤◌}
-use lib.ListN.{length}
+use Prim.Native.Nat.{◌-◌}
 use Rattle.model.specs.Matrix.{vec}
-use Rattle.model.specs.Assembly.{first_not}
-use Rattle.model.specs.Solve.{right_side_at}
 use Rattle.checks.specs.Finite.{finite_at}
 use Rattle.checks.proofs.First.{first-none, first_step, first-bad, first-end}
 use borrow.Author.Rules.{rules}

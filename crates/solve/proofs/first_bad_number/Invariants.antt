@@ -3,11 +3,9 @@
 use mathlib.Core.Path.{◌≡◌}
 use Prim.Native.Nat.{◌-◌, ◌≤◌}
 use lib.ListN.{length}
-use Rattle.model.specs.Matrix.{vec}
 use Rattle.model.specs.Assembly.{first_not}
 use Rattle.model.specs.Solve.{right_side_at}
 use Rattle.checks.specs.Finite.{finite_at}
-use Rattle.checks.proofs.First.{first-none, first_step, first-bad, first-end}
 use Rattle.solve.proofs.first_bad_number.Given as goal
 
 abbrev pub invariant-loop-k : goal.invariant-loop-k

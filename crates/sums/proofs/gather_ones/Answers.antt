@@ -1,9 +1,5 @@
 -- What `sums::gather_ones` owes. Assumes nothing.
-use Prim.Native.Nat.{◌-◌, ◌≤◌}
-use mathlib.Core.Path.{◌≡◌}
-use lib.ListN.{length}
-use Rattle.model.specs.Matrix.{view, vec, with_part}
-use Rattle.sums.specs.Sums.{later_row, rows_from, gathered}
+use Prim.Native.Nat.{◌-◌}
 use Rattle.sums.proofs.Sum.{ones_none, ones-pre, ones_step, ones-end}
 use borrow.Author.Rules.{rules}
 use Rattle.sums.proofs.gather_ones.Goals as goal

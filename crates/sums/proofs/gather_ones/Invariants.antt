@@ -4,7 +4,6 @@ use mathlib.Core.Path.{◌≡◌}
 use lib.ListN.{length}
 use Rattle.model.specs.Matrix.{view, vec, with_part}
 use Rattle.sums.specs.Sums.{later_row, rows_from, gathered}
-use Rattle.sums.proofs.Sum.{ones_none, ones-pre, ones_step, ones-end}
 use Rattle.sums.proofs.gather_ones.Given as goal
 
 abbrev pub invariant-loop-t : goal.invariant-loop-t

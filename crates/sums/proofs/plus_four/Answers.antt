@@ -1,9 +1,5 @@
 -- What `sums::plus_four` owes. Assumes nothing.
-use Prim.Native.Nat.{◌-◌, ◌≤◌}
-use mathlib.Core.Path.{◌≡◌}
-use lib.ListN.{length}
-use Rattle.model.specs.Matrix.{vec, with_part}
-use Rattle.kernels.specs.Rules.{ahead, plus_four}
+use Prim.Native.Nat.{◌-◌}
 use Rattle.kernels.proofs.Laws.{with_part-end}
 use Rattle.kernels.proofs.Rules.{rule-none}
 use Rattle.sums.proofs.Sum.{four-step}

@@ -5,9 +5,6 @@ use mathlib.Core.Path.{◌≡◌}
 use lib.ListN.{length}
 use Rattle.model.specs.Matrix.{vec, with_part}
 use Rattle.kernels.specs.Rules.{ahead, plus_four}
-use Rattle.kernels.proofs.Laws.{with_part-end}
-use Rattle.kernels.proofs.Rules.{rule-none}
-use Rattle.sums.proofs.Sum.{four-step}
 use Rattle.sums.proofs.plus_four.Given as goal
 
 abbrev pub invariant-loop-i : goal.invariant-loop-i

@@ -1,14 +1,13 @@
 -- `tail::apply_bk_panel_trailing` meets its contract. The invariant: a pivot begins at k, and the steps from k on make of the panel what all steps make of
 -- it as it was; the measure is the columns that are left. Assumes nothing.
 use Prim.Native.Nat.{◌≤◌, ◌-◌}
-use mathlib.Core.Path.{◌≡◌, refl, ◌∙◌}
+use mathlib.Core.Path.{◌≡◌}
 use lib.ListN.{length}
 use Rattle.model.specs.Matrix.{view, naturals}
 use Rattle.model.specs.Step.{diagonals_of, row_after_steps}
 use Rattle.model.specs.Kept.{Starts}
 use Rattle.whole.specs.Whole.{below}
 use Rattle.eliminate.specs.Eliminate.{in_panel}
-use Rattle.tail.proofs.Laws.{tail-end, turn-less, turn-from, sizes-kept}
 use Rattle.tail.proofs.apply_bk_panel_trailing.Given as goal
 
 abbrev pub invariant-loop-k : goal.invariant-loop-k

@@ -1,6 +1,5 @@
 -- What `text::put_decimal` owes: one digit; or the front, then the last digit. Assumes nothing.
 use native.Mathlib.Omega.{arith}
-use borrow.Author.Rules.{rules}
 use Rattle.text.proofs.Laws.{decimal-one, decimal-last, decimal-front}
 use Rattle.text.proofs.+put_decimal.Goals as goal
 

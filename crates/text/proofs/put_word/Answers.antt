@@ -1,8 +1,5 @@
 -- What `text::put_word` owes. Assumes nothing.
-use mathlib.Core.Path.{◌≡◌}
-use Prim.Native.Nat.{◌+◌, ◌≤◌, ◌-◌}
-use lib.ListN.{length, take}
-use Rattle.text.specs.Text.{Writes}
+use Prim.Native.Nat.{◌-◌}
 use Rattle.text.proofs.Laws.{word_none, word-step, word_end}
 use borrow.Author.Rules.{rules}
 use Rattle.text.proofs.put_word.Goals as goal

@@ -1,11 +1,6 @@
 -- What `update_checks::first_bad_column` owes. Assumes nothing.
-use mathlib.Core.Path.{◌≡◌}
-use mathlib.Core.List.{[]}
-use Prim.Native.Nat.{◌-◌, ◌≤◌}
-use Rattle.model.specs.Assembly.{first_not}
-use Rattle.model.specs.Update.{descendant_sound, number_at}
+use Prim.Native.Nat.{◌-◌}
 use Rattle.checks.proofs.First.{first-none, first_step, first-bad, first-end}
-use Rattle.landing.specs.Nodes.{descendant_of}
 use borrow.Author.Rules.{rules}
 use Rattle.update_checks.proofs.first_bad_column.Goals as goal
 

@@ -5,7 +5,6 @@ use mathlib.Core.List.{[]}
 use Prim.Native.Nat.{◌-◌, ◌≤◌}
 use Rattle.model.specs.Assembly.{first_not}
 use Rattle.model.specs.Update.{descendant_sound, number_at}
-use Rattle.checks.proofs.First.{first-none, first_step, first-bad, first-end}
 use Rattle.landing.specs.Nodes.{descendant_of}
 use Rattle.update_checks.proofs.first_bad_column.Given as goal
 

@@ -1,10 +1,8 @@
 -- What `update_rows::subtract` owes. Assumes nothing.
-use mathlib.Core.Path.{◌≡◌, refl}
-use Prim.Native.Nat.{◌-◌, ◌≤◌}
-use lib.ListN.{length}
-use Rattle.model.specs.Matrix.{view, vec, naturals}
+use mathlib.Core.Path.{refl}
+use Prim.Native.Nat.{◌-◌}
+use Rattle.model.specs.Matrix.{vec, naturals}
 use Rattle.kernels.specs.Rules.{behind}
-use Rattle.update_rows.specs.Apply.{less_from}
 use Rattle.update_rows.proofs.Less.{subtract-place, less-step, less-end}
 use borrow.Author.Rules.{rules}
 use Rattle.update_rows.proofs.subtract.Goals as goal

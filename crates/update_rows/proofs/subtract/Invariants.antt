@@ -1,12 +1,11 @@
 -- `update_rows::subtract` meets its contract. The invariant: going on from row r with the panel as it is gives what the whole loop gives. The measure is
 -- what is left of the rows. Assumes nothing.
-use mathlib.Core.Path.{◌≡◌, refl}
+use mathlib.Core.Path.{◌≡◌}
 use Prim.Native.Nat.{◌-◌, ◌≤◌}
 use lib.ListN.{length}
 use Rattle.model.specs.Matrix.{view, vec, naturals}
 use Rattle.kernels.specs.Rules.{behind}
 use Rattle.update_rows.specs.Apply.{less_from}
-use Rattle.update_rows.proofs.Less.{subtract-place, less-step, less-end}
 use Rattle.update_rows.proofs.subtract.Given as goal
 
 abbrev pub invariant-loop-r : goal.invariant-loop-r

@@ -1,11 +1,8 @@
 -- What `update_rows::update_row` owes. Assumes nothing.
-use mathlib.Core.Path.{◌≡◌, refl}
-use Prim.Native.Nat.{◌+◌, ◌-◌, ◌≤◌, ◌<◌}
+use mathlib.Core.Path.{refl}
+use Prim.Native.Nat.{◌-◌}
 use native.Mathlib.Omega.{arith}
-use lib.ListN.{length}
-use Rattle.model.specs.Matrix.{view, naturals}
-use Rattle.update_sums.specs.Acc.{acc_of, from_row}
-use Rattle.update_rows.specs.Apply.{less_from}
+use Rattle.model.specs.Matrix.{naturals}
 use Rattle.update_rows.proofs.Landing.{row-none, row_done, lands-from, lands-before, rows-later, part_step}
 use borrow.Author.Rules.{rules}
 use Rattle.update_rows.proofs.update_row.Goals as goal
@@ -25,13 +22,13 @@ update_part-requires c = record { apply_pre = rows-later _ _ _ _ _ _ _ _ _ _ _ _
 
 pub loop-lo-preserved : goal.loop-lo-preserved
 loop-lo-preserved c = (
-      search rules,
-      search rules,
-      search rules,
-      search rules,
-      search rules,
-      part_step _ _ _ _ _ _ _ _ _ (search rules) (search rules) c.update_part.ensures c.loop-lo.invariant.5,
-    )
+  search rules,
+  search rules,
+  search rules,
+  search rules,
+  search rules,
+  part_step _ _ _ _ _ _ _ _ _ (search rules) (search rules) c.update_part.ensures c.loop-lo.invariant.5,
+)
 
 pub returns : goal.returns
 unfolding naturals

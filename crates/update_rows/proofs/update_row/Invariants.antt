@@ -1,13 +1,11 @@
 -- `update_rows::update_row` meets its contract: a row that does not land changes nothing. Of one that does, the invariant: going on from row lo with the
 -- panel as it is gives what all parts give. The measure is what is left of the rows. Assumes nothing.
-use mathlib.Core.Path.{◌≡◌, refl}
+use mathlib.Core.Path.{◌≡◌}
 use Prim.Native.Nat.{◌+◌, ◌-◌, ◌≤◌, ◌<◌}
-use native.Mathlib.Omega.{arith}
 use lib.ListN.{length}
 use Rattle.model.specs.Matrix.{view, naturals}
 use Rattle.update_sums.specs.Acc.{acc_of, from_row}
 use Rattle.update_rows.specs.Apply.{less_from}
-use Rattle.update_rows.proofs.Landing.{row-none, row_done, lands-from, lands-before, rows-later, part_step}
 use Rattle.update_rows.proofs.update_row.Given as goal
 
 abbrev pub invariant-loop-lo : goal.invariant-loop-lo

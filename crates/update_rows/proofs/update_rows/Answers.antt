@@ -1,10 +1,6 @@
 -- What `update_rows::update_rows` owes. Assumes nothing.
-use mathlib.Core.Path.{◌≡◌, refl}
-use Prim.Native.Nat.{◌-◌, ◌≤◌}
-use lib.ListN.{length}
-use Rattle.model.specs.Matrix.{view, naturals}
-use Rattle.landing.specs.Nodes.{descendant_of}
-use Rattle.update_rows.specs.Apply.{rows_applied}
+use mathlib.Core.Path.{refl}
+use Prim.Native.Nat.{◌-◌}
 use Rattle.update_rows.proofs.Landing.{rows-later, rows_step, rows_end}
 use borrow.Author.Rules.{rules}
 use Rattle.update_rows.proofs.update_rows.Goals as goal
@@ -17,11 +13,11 @@ update_row-requires c = record { apply_pre = search rows-later; krows_len = sear
 
 pub loop-c-preserved : goal.loop-c-preserved
 loop-c-preserved c = (
-      search rules,
-      search rules,
-      search rules,
-      rows_step _ _ _ _ _ _ _ _ _ c.loop-c-test.true c.update_row.ensures c.loop-c.invariant.3,
-    )
+  search rules,
+  search rules,
+  search rules,
+  rows_step _ _ _ _ _ _ _ _ _ c.loop-c-test.true c.update_row.ensures c.loop-c.invariant.3,
+)
 
 pub returns : goal.returns
 returns c = search rows_end

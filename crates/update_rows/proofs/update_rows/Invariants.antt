@@ -1,12 +1,11 @@
 -- `update_rows::update_rows` meets its contract. The invariant: going on from row c with the panel as it is gives what the whole loop gives; acc keeps its
 -- length. The measure is what is left of the rows. Assumes nothing.
-use mathlib.Core.Path.{◌≡◌, refl}
+use mathlib.Core.Path.{◌≡◌}
 use Prim.Native.Nat.{◌-◌, ◌≤◌}
 use lib.ListN.{length}
 use Rattle.model.specs.Matrix.{view, naturals}
 use Rattle.landing.specs.Nodes.{descendant_of}
 use Rattle.update_rows.specs.Apply.{rows_applied}
-use Rattle.update_rows.proofs.Landing.{rows-later, rows_step, rows_end}
 use Rattle.update_rows.proofs.update_rows.Given as goal
 
 abbrev pub invariant-loop-c : goal.invariant-loop-c

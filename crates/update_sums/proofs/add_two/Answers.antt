@@ -1,11 +1,7 @@
 -- What `update_sums::add_two` owes. Assumes nothing.
-use mathlib.Core.Path.{◌≡◌, sym}
-use Prim.Native.Nat.{◌-◌, ◌≤◌}
-use lib.ListN.{length}
-use Rattle.model.specs.Matrix.{vec, with_part}
-use Rattle.kernels.specs.Rules.{plus_times}
+use mathlib.Core.Path.{sym}
+use Prim.Native.Nat.{◌-◌}
 use Rattle.kernels.proofs.Laws.{with_part-none}
-use Rattle.update_sums.specs.Acc.{from_row}
 use Rattle.update_sums.proofs.Numbers.{two-step, two-end}
 use borrow.Author.Rules.{rules}
 use Rattle.update_sums.proofs.add_two.Goals as goal

@@ -1,12 +1,10 @@
 -- `update_sums::add_two` meets its contract. The invariant: the first i numbers have gained both terms. The measure is what is left. Assumes nothing.
-use mathlib.Core.Path.{◌≡◌, sym}
+use mathlib.Core.Path.{◌≡◌}
 use Prim.Native.Nat.{◌-◌, ◌≤◌}
 use lib.ListN.{length}
 use Rattle.model.specs.Matrix.{vec, with_part}
 use Rattle.kernels.specs.Rules.{plus_times}
-use Rattle.kernels.proofs.Laws.{with_part-none}
 use Rattle.update_sums.specs.Acc.{from_row}
-use Rattle.update_sums.proofs.Numbers.{two-step, two-end}
 use Rattle.update_sums.proofs.add_two.Given as goal
 
 abbrev pub invariant-loop-i : goal.invariant-loop-i

@@ -1,10 +1,6 @@
 -- What `update_sums::sum_pairs` owes. Assumes nothing.
-use mathlib.Core.Path.{◌≡◌}
-use Prim.Native.Nat.{◌-◌, ◌≤◌}
+use Prim.Native.Nat.{◌-◌}
 use native.Mathlib.Omega.{arith}
-use lib.ListN.{length}
-use Rattle.model.specs.Matrix.{vec, with_part}
-use Rattle.update_sums.specs.Acc.{acc_of, from_row}
 use Rattle.update_sums.proofs.Numbers.{sum-weight, sum_rows, sums_none, sums-two, sums-from}
 use borrow.Author.Rules.{rules}
 use Rattle.update_sums.proofs.sum_pairs.Goals as goal
@@ -23,10 +19,10 @@ add_two-requires c = record { rows_pre = sum_rows _ _ _ _ _ _ _ _ _ _ _ c.requir
 
 pub loop-s-preserved : goal.loop-s-preserved
 loop-s-preserved c = (
-      search rules,
-      search rules,
-      sums-two _ _ _ _ _ _ _ _ _ _ _ _ _ _ c.weight-v.ensures c.weight-w.ensures c.loop-s.invariant.2 c.add_two.ensures,
-    )
+  search rules,
+  search rules,
+  sums-two _ _ _ _ _ _ _ _ _ _ _ _ _ _ c.weight-v.ensures c.weight-w.ensures c.loop-s.invariant.2 c.add_two.ensures,
+)
 
 pub returns : goal.returns
 returns c = record { acc_after = search sums-from; upper_bound = search rules }

@@ -2,11 +2,9 @@
 -- columns. Assumes nothing.
 use mathlib.Core.Path.{◌≡◌}
 use Prim.Native.Nat.{◌-◌, ◌≤◌}
-use native.Mathlib.Omega.{arith}
 use lib.ListN.{length}
 use Rattle.model.specs.Matrix.{vec, with_part}
 use Rattle.update_sums.specs.Acc.{acc_of, from_row}
-use Rattle.update_sums.proofs.Numbers.{sum-weight, sum_rows, sums_none, sums-two, sums-from}
 use Rattle.update_sums.proofs.sum_pairs.Given as goal
 
 abbrev pub invariant-loop-s : goal.invariant-loop-s

@@ -1,10 +1,5 @@
 -- What `eliminate::sweeps::sweep_one` owes. Assumes nothing.
-use Prim.Native.Nat.{◌+◌, ◌≤◌, ◌-◌}
-use mathlib.Core.Path.{◌≡◌}
-use lib.ListN.{length}
-use Rattle.model.specs.Matrix.{view}
-use Rattle.grid.specs.Rules.{column_of}
-use Rattle.eliminate.specs.Eliminate.{in_panel, swept_one}
+use Prim.Native.Nat.{◌-◌}
 use Rattle.eliminate.proofs.Region.{sweep-one-none, sweep-one-step, sweep-one-end, later-pre, multiplier-in}
 use borrow.Author.Rules.{rules}
 use Rattle.eliminate.proofs.sweeps.sweep_one.Goals as goal

@@ -5,7 +5,6 @@ use lib.ListN.{length}
 use Rattle.model.specs.Matrix.{view}
 use Rattle.grid.specs.Rules.{column_of}
 use Rattle.eliminate.specs.Eliminate.{in_panel, swept_one}
-use Rattle.eliminate.proofs.Region.{sweep-one-none, sweep-one-step, sweep-one-end, later-pre, multiplier-in}
 use Rattle.eliminate.proofs.sweeps.sweep_one.Given as goal
 
 abbrev pub invariant-loop-j : goal.invariant-loop-j

@@ -1,10 +1,5 @@
 -- What `eliminate::sweeps::sweep_two` owes. Assumes nothing.
-use Prim.Native.Nat.{◌+◌, ◌≤◌, ◌-◌}
-use mathlib.Core.Path.{◌≡◌}
-use lib.ListN.{length}
-use Rattle.model.specs.Matrix.{view}
-use Rattle.grid.specs.Rules.{column_of}
-use Rattle.eliminate.specs.Eliminate.{in_panel, swept_two}
+use Prim.Native.Nat.{◌-◌}
 use Rattle.eliminate.proofs.Region.{sweep-two-none, sweep-two-step, sweep-two-end, later-pre-next, multiplier-in, multiplier-in-next}
 use borrow.Author.Rules.{rules}
 use Rattle.eliminate.proofs.sweeps.sweep_two.Goals as goal

@@ -5,7 +5,6 @@ use lib.ListN.{length}
 use Rattle.model.specs.Matrix.{view}
 use Rattle.grid.specs.Rules.{column_of}
 use Rattle.eliminate.specs.Eliminate.{in_panel, swept_two}
-use Rattle.eliminate.proofs.Region.{sweep-two-none, sweep-two-step, sweep-two-end, later-pre-next, multiplier-in, multiplier-in-next}
 use Rattle.eliminate.proofs.sweeps.sweep_two.Given as goal
 
 abbrev pub invariant-loop-j : goal.invariant-loop-j
