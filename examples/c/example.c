@@ -1,13 +1,11 @@
 /*
- * A whole use of the library: a root node is factored, its inertia counted and its system solved, for a right side and
- * for one that is refused; then a target is assembled, updated by a factored descendant, and factored; then an update
- * is refused. `run` beside this file compiles it and compares what it prints with example.stdout. Numbers of a factor
- * are printed by their bits, as the program node prints them.
+ * A whole use of the library: a node is factored and its inertia counted; then a target is assembled, updated by a
+ * factored descendant, and factored; then an update is refused. `run` beside this file compiles it and compares what it
+ * prints with example.stdout. Numbers of a factor are printed by their bits, as the program node prints them.
  */
 #include "misuktaan.h"
 
 #include <inttypes.h>
-#include <math.h>
 #include <stdio.h>
 #include <string.h>
 
@@ -83,38 +81,26 @@ static struct misuktaan_outcome factor(size_t ncol, size_t nrow, const double *i
     return o;
 }
 
-static void print_numbers(const char *what, const double *numbers, size_t n)
+static void print_panel(const char *what, const double *panel, size_t n)
 {
     printf("%s", what);
     for (size_t i = 0; i < n; i++) {
-        printf(" %g", numbers[i]);
+        printf(" %g", panel[i]);
     }
     printf("\n");
 }
 
-/* Solves a system of two columns, and prints the vector: the solution, or after a refusal the right side as it was. */
-static void solve(const struct factors *f, double *vector)
-{
-    accepted(misuktaan_solve(2, 2, f->panel, 4, f->d, 2, f->sub, 2, f->blocks, 2, f->order, 2, vector, 2));
-    print_numbers("vector", vector, 2);
-}
-
 /* [1, 2; 8] by its lower triangle; the 0 is an upper position, which is not read. */
-static void factor_root(void)
+static void factor_square(void)
 {
     const double square[] = {1.0, 2.0, 0.0, 8.0};
     struct factors f;
-    printf("-- a root node of two columns\n");
+    printf("-- a node of two columns\n");
     factor(2, 2, square, &f);
 
     printf("-- its inertia, from D alone\n");
     struct misuktaan_outcome o = misuktaan_inertia(f.d, 2, f.sub, 2, f.blocks, 2);
     printf("inertia %zu %zu %zu\n", o.positive, o.negative, o.zero);
-
-    printf("-- x0 + 2 x1 = 5, 2 x0 + 8 x1 = 18\n");
-    solve(&f, (double[]){5.0, 18.0});
-    printf("-- a right side that is not finite in row 1\n");
-    solve(&f, (double[]){5.0, INFINITY});
 }
 
 /* The descendant k of one column, over the rows 5 and 7 of the system, updates a target of one column and two rows. */
@@ -138,10 +124,10 @@ static void update_target(void)
     double panel[] = {0.0, 0.0};
     printf("-- a target assembled, updated and factored\n");
     if (accepted(misuktaan_assemble(1, 2, rows, 3, cols, 3, numbers, 3, panel, 2))) {
-        print_numbers("assembled", panel, 2);
+        print_panel("assembled", panel, 2);
     }
     if (accepted(update((const uint32_t[]){5, 7}, panel, &k))) {
-        print_numbers("updated", panel, 2);
+        print_panel("updated", panel, 2);
     }
     factor(1, 2, panel, &f);
 
@@ -151,7 +137,7 @@ static void update_target(void)
 
 int main(void)
 {
-    factor_root();
+    factor_square();
     update_target();
     return 0;
 }
