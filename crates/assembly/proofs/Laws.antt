@@ -1,10 +1,10 @@
 -- Laws of the assembly call: its checks in turn, the entries one by one, and what it leaves. Assumes nothing.
 use mathlib.Core.Path.{◌≡◌, sym, ◌∙◌, ap}
-use mathlib.Core.Bool.{Bool, true, false, not}
+use mathlib.Core.Bool.{Bool, true, false}
 use mathlib.Core.List.{List}
 use Prim.Native.Nat.{ℕ, suc, ◌+◌, ◌-◌, ◌*◌, ◌≤◌, ◌<◌}
 use native.Mathlib.Omega.{arith}
-use borrow.Author.Tests.{eqb-true, ltb-true, not-false}
+use borrow.Author.Tests.{eqb-true, ltb-true}
 use lib.ListN.{length, get_or, set}
 use lib.Ieee.{Float, nan}
 use Rattle.model.specs.Scalar.{◌⊕◌}
@@ -50,14 +50,14 @@ module _ (ncol nrow : ℕ) (es : Entries) (panel : List Float) where
   places_check = first_not (place_sound ncol nrow (naturals es.rows) (naturals es.cols)) AssemblyPlace (length es.rows) 0
 
   module _ (b : Bool) (h : b ≡ entries_sound ncol nrow es panel) where
-    pub check-lengths : not b ≡ true → Refused AssemblyLength ≡ assembly_check ncol nrow es panel
+    pub check-lengths : b ≡ false → Refused AssemblyLength ≡ assembly_check ncol nrow es panel
     unfolding assembly_check
     check-lengths x = rw (← h, x)
 
-    pub check-columns : not b ≡ false → length es.cols ≡ length es.rows
-    check-columns x = (lengths ncol nrow es panel (sym h ∙ not-false b x)).cols
+    pub check-columns : b ≡ true → length es.cols ≡ length es.rows
+    check-columns x = (lengths ncol nrow es panel (sym h ∙ x)).cols
 
-    module _ (k : Check) (x : not b ≡ false) (e : k ≡ places_check) where
+    module _ (k : Check) (x : b ≡ true) (e : k ≡ places_check) where
       pub check-places : (r : Refusal) → k ≡ Refused r → k ≡ assembly_check ncol nrow es panel
       unfolding assembly_check
       check-places r y = rw (← h, x) (first-refuses k r places_check _ y e)
@@ -66,7 +66,7 @@ module _ (ncol nrow : ℕ) (es : Entries) (panel : List Float) where
           → l ≡ first_not (finite_at es.numbers) AssemblyNumber (length es.numbers) 0 → l ≡ assembly_check ncol nrow es panel
       unfolding assembly_check finite_at
       check-numbers l y f =
-          let n : length es.numbers ≡ length es.rows = (lengths ncol nrow es panel (sym h ∙ not-false b x)).numbers in
+          let n : length es.numbers ≡ length es.rows = (lengths ncol nrow es panel (sym h ∙ x)).numbers in
           rw (← h, x) (second-decides k l places_check _ y e (rw n at f))
 
 -- ---- the entries

@@ -28,7 +28,7 @@ module _ (d sub : List Float) (blocks : List ℕ) (k : Check) (e : k ≡ inertia
       let pass : inertia_check d sub blocks ≡ Sound = sym e ∙ h in
       let ok : lists ≡ true = not-refused lists InertiaLength (first-sound (refuse_if (not lists) InertiaLength) (check_bytes blocks) pass) in
       record {
-        sub = eqb-true (length sub) (length d) (search (and_left, and_right));
+        sub = eqb-true (length sub) (length d) (search and_left);
         blocks = eqb-true (length blocks) (length d) (search (and_left, and_right));
         check = second-sound (refuse_if (not lists) InertiaLength) (check_bytes blocks) pass;
       }

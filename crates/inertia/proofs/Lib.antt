@@ -1,4 +1,3 @@
 -- Laws of the tally and of the call, cited by the proofs here.
 pub mod Running
-pub mod Machine
 pub mod Answered

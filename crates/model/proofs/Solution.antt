@@ -13,7 +13,6 @@ use Rattle.model.specs.Sizes.{most_columns, most_rows}
 use Rattle.model.specs.Scalar.{◌⊗◌}
 use Rattle.model.specs.Matrix.{Row, Mat, view, vec, naturals, put, tabulate}
 use Rattle.model.specs.Step.{Diagonals, diagonals_of}
-use Rattle.model.specs.Factor as factor
 use Rattle.model.specs.Factor.{Outcome, shape_sound, after_head, stands}
 use Rattle.model.specs.Answer.{or_else, refuse_if}
 use Rattle.model.specs.Inertia.{check_bytes}

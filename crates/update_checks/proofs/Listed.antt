@@ -4,7 +4,7 @@ use mathlib.Core.Bool.{Bool, true, false, not, ◌&&◌, ◌||◌}
 use mathlib.Core.List.{List}
 use Prim.Native.Nat.{ℕ, ◌+◌, ◌-◌, ◌*◌, ◌≤◌}
 use native.Mathlib.Omega.{arith}
-use borrow.Author.Tests.{le-leb, lt-leb, leb-true, leb-false, eqb-true, not-true, not-false}
+use borrow.Author.Tests.{le-leb, lt-leb, leb-true, leb-false, eqb-true}
 use lib.Dec.{leb, eqb}
 use lib.ListN.{length}
 use lib.Ieee.{Float}
@@ -30,12 +30,12 @@ use Rattle.update_checks.specs.Lists.{lists_check, Sizes, ColumnPre}
 
 -- ---- the stated lengths fit a machine word, once the descendant's sizes are sound
 
-module _ (nk mk : ℕ) (s : not (leb nk most_columns && leb mk most_rows) ≡ false) where
+module _ (nk mk : ℕ) (s : leb nk most_columns && leb mk most_rows ≡ true) where
   columns-few : nk ≤ most_columns
-  columns-few = leb-true nk most_columns (and_left (leb nk most_columns) (leb mk most_rows) (not-false (leb nk most_columns && leb mk most_rows) s))
+  columns-few = leb-true nk most_columns (and_left (leb nk most_columns) (leb mk most_rows) s)
 
   rows_few : mk ≤ most_rows
-  rows_few = leb-true mk most_rows (and_right (leb nk most_columns) (leb mk most_rows) (not-false (leb nk most_columns && leb mk most_rows) s))
+  rows_few = leb-true mk most_rows (and_right (leb nk most_columns) (leb mk most_rows) s)
 
   pub rows_fit : Fits w64 (nk + mk)
   rows_fit = record { fits = omega (arith, columns-few, rows_few) }
@@ -49,25 +49,25 @@ module _ (nk mk : ℕ) (s : not (leb nk most_columns && leb mk most_rows) ≡ fa
 -- ---- refusal 13: b is the shape's test
 
 module _ (t : Target) (k : Descendant) (panel : List Float) (b : Bool) (h : b ≡ shape_sound t.ncol t.nrow) where
-  pub lengths-shape : not b ≡ true → false ≡ update_sound t k panel
+  pub lengths-shape : b ≡ false → false ≡ update_sound t k panel
   unfolding update_sound
-  lengths-shape x = rw (← h, not-true b x)
+  lengths-shape x = rw (← h, x)
 
-  module _ (x : not b ≡ false) where
-    pub lengths-sizes : not (leb k.nk most_columns && leb k.mk most_rows) ≡ true → false ≡ update_sound t k panel
+  module _ (x : b ≡ true) where
+    pub lengths-sizes : leb k.nk most_columns && leb k.mk most_rows ≡ false → false ≡ update_sound t k panel
     unfolding update_sound
     lengths-sizes y =
-        rw (← h, not-false b x) (test (leb k.nk most_columns)
-        (λ l. let m : leb k.mk most_rows ≡ false = not-true (leb k.mk most_rows) (rw l at y) in
+        rw (← h, x) (test (leb k.nk most_columns)
+        (λ l. let m : leb k.mk most_rows ≡ false = rw l at y in
         rw (l, lt-leb (k.nk + k.mk) most_rows (omega (arith, leb-false k.mk most_rows m))))
         (λ l. rw l))
 
-    pub lengths-rest : not (leb k.nk most_columns && leb k.mk most_rows) ≡ false →
+    pub lengths-rest : leb k.nk most_columns && leb k.mk most_rows ≡ true →
         leb (k.nk + k.mk) most_rows && (eqb (length panel) (t.nrow * t.ncol) && (eqb (length t.rows) t.nrow
         && (eqb (length k.panel) ((k.nk + k.mk) * k.nk) && (eqb (length k.d) k.nk && (eqb (length k.sub) k.nk
         && (eqb (length k.blocks) k.nk && eqb (length k.rows) k.mk)))))) ≡ update_sound t k panel
     unfolding update_sound
-    lengths-rest y = rw (← h, not-false b x, le-leb k.nk most_columns (columns-few k.nk k.mk y))
+    lengths-rest y = rw (← h, x, le-leb k.nk most_columns (columns-few k.nk k.mk y))
 
 -- ---- past refusal 13
 
@@ -92,13 +92,13 @@ sizes t k panel h =
 -- ---- refusals 13 to 16 in turn: b, c and d are the answers of the tests of 13, 14 and 15
 
 module _ (t : Target) (k : Descendant) (panel : List Float) (b : Bool) (h : b ≡ update_sound t k panel) where
-  pub lists-lengths : not b ≡ true → Refused UpdateLength ≡ lists_check t k panel
+  pub lists-lengths : b ≡ false → Refused UpdateLength ≡ lists_check t k panel
   unfolding lists_check
   lists-lengths x = rw (← h, x)
 
-  module _ (x : not b ≡ false) where
+  module _ (x : b ≡ true) where
     passed : Sizes t k (length panel)
-    passed = sizes t k panel (sym h ∙ not-false b x)
+    passed = sizes t k panel (sym h ∙ x)
 
     pub lists-columns : ColumnsPre t.ncol (length t.rows)
     lists-columns = record { few = omega (arith, passed.columns); there = omega (arith, passed.target, passed.head) }
@@ -109,31 +109,31 @@ module _ (t : Target) (k : Descendant) (panel : List Float) (b : Bool) (h : b �
       unfolding rises_at stands_at
       target-test = rw passed.target at i
 
-      pub lists-target : not c ≡ true → Refused TargetRows ≡ lists_check t k panel
+      pub lists-target : c ≡ false → Refused TargetRows ≡ lists_check t k panel
       unfolding lists_check
       lists-target y = rw (← h, x, ← target-test, y)
 
-      module _ (y : not c ≡ false) (d : Bool) (j : d ≡ every_from (rises_at (naturals k.rows) (length k.rows)) (length k.rows) 0) where
+      module _ (y : c ≡ true) (d : Bool) (j : d ≡ every_from (rises_at (naturals k.rows) (length k.rows)) (length k.rows) 0) where
         descendant-test : d ≡ rising (naturals k.rows) k.mk
         unfolding rises_at
         descendant-test = rw passed.descendant at j
 
-        pub lists-descendant : not d ≡ true → Refused DescendantRows ≡ lists_check t k panel
+        pub lists-descendant : d ≡ false → Refused DescendantRows ≡ lists_check t k panel
         unfolding lists_check
         lists-descendant z = rw (← h, x, ← target-test, y, ← descendant-test, z)
 
-        pub lists-bytes : (r : Check) → not d ≡ false → r ≡ check_bytes k.blocks → r ≡ lists_check t k panel
+        pub lists-bytes : (r : Check) → d ≡ true → r ≡ check_bytes k.blocks → r ≡ lists_check t k panel
         unfolding lists_check
         lists-bytes r z e = rw (← h, x, ← target-test, y, ← descendant-test, z) e
 
 -- ---- refusal 18: b is the test of d, e of the subdiagonal, f of the numbers below the head
 
 module _ (k : Descendant) (c : ℕ) (b : Bool) (h : b ≡ is_finite (vec k.d c)) where
-  pub column-d : not b ≡ true → false ≡ descendant_sound k c
+  pub column-d : b ≡ false → false ≡ descendant_sound k c
   unfolding descendant_sound
-  column-d x = rw (← h, not-true b x)
+  column-d x = rw (← h, x)
 
-  module _ (x : not b ≡ false) (e : Bool) (g : e ≡ is_finite (vec k.sub c)) where
+  module _ (x : b ≡ true) (e : Bool) (g : e ≡ is_finite (vec k.sub c)) where
     under : (s e : Bool) → s && not e ≡ true → not s || e ≡ false
     under true true y = sym y
     under true false y = refl
@@ -146,7 +146,7 @@ module _ (k : Descendant) (c : ℕ) (b : Bool) (h : b ≡ is_finite (vec k.d c))
 
     pub column-sub : begins (naturals k.blocks) c && not e ≡ true → false ≡ descendant_sound k c
     unfolding descendant_sound
-    column-sub y = rw (← h, not-false b x, ← g, under (begins (naturals k.blocks) c) e y)
+    column-sub y = rw (← h, x, ← g, under (begins (naturals k.blocks) c) e y)
 
     pub column-rest : (f : Bool) → begins (naturals k.blocks) c && not e ≡ false
         → f ≡ column_finite (view (k.nk + k.mk) k.panel) c k.nk (k.nk + k.mk)
@@ -154,7 +154,7 @@ module _ (k : Descendant) (c : ℕ) (b : Bool) (h : b ≡ is_finite (vec k.d c))
     unfolding descendant_sound column_finite
     column-rest f y i =
         let m : k.nk + k.mk - k.nk ≡ k.mk = omega arith in
-        rw (← h, not-false b x, ← g, over (begins (naturals k.blocks) c) e y) (rw m at i)
+        rw (← h, x, ← g, over (begins (naturals k.blocks) c) e y) (rw m at i)
 
 pub column-down : (nk mk c panel d sub blocks : ℕ) → ColumnPre nk mk c panel d sub blocks → DownPre (nk + mk) c nk (nk + mk) panel
 column-down nk mk c panel d sub blocks w =

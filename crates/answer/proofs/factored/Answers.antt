@@ -3,6 +3,6 @@ use Rattle.record.proofs.Laws.{asked-sizes}
 use Rattle.answer.proofs.factored.Goals as goal
 
 pub panel_size-numbers-requires : goal.panel_size-numbers-requires
-panel_size-numbers-requires c = let start = c.before.before in
-    let sizes = asked-sizes start.args.stream.now start.args.c start.requires.0 in
+panel_size-numbers-requires c =
+    let sizes = asked-sizes c.args.stream.now c.args.c c.requires.stream_value in
     (sizes.rows, sizes.columns)

@@ -14,6 +14,6 @@ returns-in-Factor c = let w = c.factored.ensures in
     record { out_after = written w; upper_bound = omega (arith, w.room) }
 
 pub returns-in-Refused : goal.returns-in-Refused
-returns-in-Refused c = let asked = c.before.before.before in
-    let w = refused-printed _ _ (sym asked.before.before.asked_by.ensures ∙ asked.asked2.given.1) c.Put-refused.ensures in
+returns-in-Refused c =
+    let w = refused-printed _ _ (sym c.asked_by-asked.ensures ∙ c.in-Refused.is) c.put_refused.ensures in
     record { out_after = written w; upper_bound = omega (arith, w.room) }

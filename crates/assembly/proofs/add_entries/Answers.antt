@@ -13,8 +13,7 @@ loop-k-init c = (search rules, search rules, search entries_none)
 
 pub add_at-requires : goal.add_at-requires
 unfolding naturals
-add_at-requires c = let at = c.before.before.before.before in
-    place_in _ _ _ _ _ _ _ c.requires at.loop-test.true at.before.loop.invariant.1
+add_at-requires c = place_in _ _ _ _ _ _ _ c.requires c.loop-k-test.true c.loop-k.invariant.1
 
 pub loop-k-preserved : goal.loop-k-preserved
 unfolding naturals vec

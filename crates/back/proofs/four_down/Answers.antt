@@ -18,7 +18,7 @@ unfolding vec
 loop-i-init c = let at = c.four_places-at.ensures in (
       search rules,
       search rules,
-      four-there _ _ _ _ _ _ _ _ c.requires at.0 at.1,
+      four-there _ _ _ _ _ _ _ _ c.requires at.result_value at.result_value_2,
       search whole-none,
       search whole-none,
       search whole-none,
@@ -33,10 +33,10 @@ loop-i-preserved c = let g = c.args in
       search rules,
       search rules,
       there,
-      whole-step _ g.x.now _ _ g.lo _ _ _ at.0.0 (search rules) (search rules) s0,
-      whole-step _ g.x.now _ _ g.lo _ _ _ at.0.1 (search rules) (search rules) s1,
-      whole-step _ g.x.now _ _ g.lo _ _ _ at.1.0 (search rules) (search rules) s2,
-      whole-step _ g.x.now _ _ g.lo _ _ _ at.1.1 (search rules) (search rules) s3,
+      whole-step _ g.x.now _ _ g.lo _ _ _ at.result_value.0 (search rules) (search rules) s0,
+      whole-step _ g.x.now _ _ g.lo _ _ _ at.result_value.1 (search rules) (search rules) s1,
+      whole-step _ g.x.now _ _ g.lo _ _ _ at.result_value_2.0 (search rules) (search rules) s2,
+      whole-step _ g.x.now _ _ g.lo _ _ _ at.result_value_2.1 (search rules) (search rules) s3,
     )
 
 pub returns : goal.returns

@@ -1,8 +1,4 @@
--- What `buffers::copy_all` owes. Assumes nothing.
-use Prim.Native.Nat.{◌≤◌, ◌-◌}
-use mathlib.Core.Path.{◌≡◌}
-use lib.ListN.{length}
-use Rattle.model.specs.Matrix.{vec, with_part}
+-- What `buffers::copy_all` owes: nothing is copied at first, one part more, and the last part. Assumes nothing.
 use Rattle.kernels.proofs.Rules.{rule-none}
 use Rattle.buffers.proofs.Buffers.{copy_step, copy-end}
 use borrow.Author.Rules.{rules}

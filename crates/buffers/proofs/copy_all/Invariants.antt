@@ -3,8 +3,6 @@ use Prim.Native.Nat.{◌≤◌, ◌-◌}
 use mathlib.Core.Path.{◌≡◌}
 use lib.ListN.{length}
 use Rattle.model.specs.Matrix.{vec, with_part}
-use Rattle.kernels.proofs.Rules.{rule-none}
-use Rattle.buffers.proofs.Buffers.{copy_step, copy-end}
 use Rattle.buffers.proofs.copy_all.Given as goal
 
 abbrev pub invariant-loop-a : goal.invariant-loop-a

@@ -4,6 +4,4 @@ use borrow.Author.Rules.{rules}
 use Rattle.buffers.proofs.copy_part.Goals as goal
 
 pub returns : goal.returns
-returns c = let second = c.before.before in
-    let first = second.before.before.before.before in
-    copy-through _ _ _ _ _ _ _ (search rules) (search rules) (search rules) first.copy.ensures second.copy2.ensures
+returns c = copy-through _ _ _ _ _ _ _ (search rules) (search rules) (search rules) c.copy.ensures c.copy-2.ensures

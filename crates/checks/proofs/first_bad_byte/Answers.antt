@@ -1,12 +1,6 @@
 -- What `checks::first_bad_byte` owes. Assumes nothing.
-use mathlib.Core.Path.{◌≡◌}
-use Prim.Native.Nat.{◌-◌, ◌≤◌}
-use lib.ListN.{length}
-use Rattle.model.specs.Matrix.{naturals}
-use Rattle.model.specs.Assembly.{first_not}
-use Rattle.model.specs.Inertia.{byte_sound, check_bytes}
 use Rattle.checks.proofs.First.{first_step, first-bad, first-end}
-use Rattle.checks.proofs.Bytes.{byte_at, bytes-scan}
+use Rattle.checks.proofs.Bytes.{bytes-scan}
 use borrow.Author.Rules.{rules}
 use Rattle.checks.proofs.first_bad_byte.Goals as goal
 

@@ -6,8 +6,7 @@ use lib.ListN.{length}
 use Rattle.model.specs.Matrix.{naturals}
 use Rattle.model.specs.Assembly.{first_not}
 use Rattle.model.specs.Inertia.{byte_sound, check_bytes}
-use Rattle.checks.proofs.First.{first_step, first-bad, first-end}
-use Rattle.checks.proofs.Bytes.{byte_at, bytes-scan}
+use Rattle.checks.proofs.Bytes.{byte_at}
 use Rattle.checks.proofs.first_bad_byte.Given as goal
 
 abbrev pub invariant-loop-k : goal.invariant-loop-k

@@ -1,8 +1,4 @@
 -- What `greatest::greatest_along` owes. Assumes nothing.
-use Prim.Native.Nat.{◌-◌, ◌≤◌}
-use mathlib.Core.Path.{◌≡◌}
-use Rattle.model.specs.Matrix.{view}
-use Rattle.greatest.specs.Greatest.{greatest_along}
 use Rattle.greatest.proofs.Squares.{along-step, along-end, row_in}
 use borrow.Author.Rules.{rules}
 use Rattle.greatest.proofs.greatest_along.Goals as goal

@@ -4,7 +4,6 @@ use Prim.Native.Nat.{◌-◌, ◌≤◌}
 use mathlib.Core.Path.{◌≡◌}
 use Rattle.model.specs.Matrix.{view}
 use Rattle.greatest.specs.Greatest.{greatest_along}
-use Rattle.greatest.proofs.Squares.{along-step, along-end, row_in}
 use Rattle.greatest.proofs.greatest_along.Given as goal
 
 abbrev pub invariant-loop-j : goal.invariant-loop-j

@@ -1,8 +1,4 @@
 -- What `greatest::greatest_down` owes. Assumes nothing.
-use Prim.Native.Nat.{◌-◌, ◌≤◌}
-use mathlib.Core.Path.{◌≡◌}
-use Rattle.model.specs.Matrix.{view}
-use Rattle.greatest.specs.Greatest.{greatest_down}
 use Rattle.greatest.proofs.Squares.{down_step, down-end}
 use borrow.Author.Rules.{rules}
 use Rattle.greatest.proofs.greatest_down.Goals as goal

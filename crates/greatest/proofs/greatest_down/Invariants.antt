@@ -4,7 +4,6 @@ use Prim.Native.Nat.{◌-◌, ◌≤◌}
 use mathlib.Core.Path.{◌≡◌}
 use Rattle.model.specs.Matrix.{view}
 use Rattle.greatest.specs.Greatest.{greatest_down}
-use Rattle.greatest.proofs.Squares.{down_step, down-end}
 use Rattle.greatest.proofs.greatest_down.Given as goal
 
 abbrev pub invariant-loop-i : goal.invariant-loop-i

@@ -1,15 +1,7 @@
--- What `inertia::tally` owes. Assumes nothing.
-use Prim.Native.Nat.{◌-◌, ◌≤◌}
-use mathlib.Core.Path.{◌≡◌}
-use lib.ListN.{length}
-use Rattle.model.specs.Matrix.{vec, naturals}
-use Rattle.model.specs.Inertia.{tallied_from, tallied_of}
-use Rattle.inertia.proofs.Running.{total, pivot-pre, past-within, past-less, total-step, tally-none, tally-step, tally-end}
+-- What `inertia::tally` owes: room for the next pivot, one pivot or block more, and the end. Assumes nothing.
+use Rattle.inertia.proofs.Running.{pivot-pre, past-within, past-less, total-step, tally-step, tally-end}
 use borrow.Author.Rules.{rules}
 use Rattle.inertia.proofs.tally.Goals as goal
-
-pub loop-k-init : goal.loop-k-init
-loop-k-init c = (search rules, search rules, search tally-none)
 
 pub diagonal_at-requires : goal.diagonal_at-requires
 diagonal_at-requires c = search (rules, pivot-pre)

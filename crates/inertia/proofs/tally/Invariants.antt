@@ -5,7 +5,7 @@ use mathlib.Core.Path.{◌≡◌}
 use lib.ListN.{length}
 use Rattle.model.specs.Matrix.{vec, naturals}
 use Rattle.model.specs.Inertia.{tallied_from, tallied_of}
-use Rattle.inertia.proofs.Running.{total, pivot-pre, past-within, past-less, total-step, tally-none, tally-step, tally-end}
+use Rattle.inertia.proofs.Running.{total}
 use Rattle.inertia.proofs.tally.Given as goal
 
 abbrev pub invariant-loop-k : goal.invariant-loop-k

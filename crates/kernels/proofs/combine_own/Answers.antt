@@ -1,10 +1,6 @@
 -- What `kernels::combine_own` owes. Assumes nothing.
-use Prim.Native.Nat.{◌+◌, ◌≤◌, ◌-◌}
-use mathlib.Core.Path.{◌≡◌}
 use native.Mathlib.Omega.{arith}
-use lib.ListN.{length, length-set}
-use Rattle.model.specs.Matrix.{vec, with_part}
-use Rattle.kernels.specs.Rules.{behind, ahead, combined}
+use lib.ListN.{length-set}
 use Rattle.kernels.proofs.Rules.{combine-own-none, combine-own-step, combine-own-end}
 use borrow.Author.Rules.{rules}
 use Rattle.kernels.proofs.combine_own.Goals as goal

@@ -2,11 +2,9 @@
 -- Assumes nothing.
 use Prim.Native.Nat.{◌+◌, ◌≤◌, ◌-◌}
 use mathlib.Core.Path.{◌≡◌}
-use native.Mathlib.Omega.{arith}
-use lib.ListN.{length, length-set}
+use lib.ListN.{length}
 use Rattle.model.specs.Matrix.{vec, with_part}
 use Rattle.kernels.specs.Rules.{behind, ahead, combined}
-use Rattle.kernels.proofs.Rules.{combine-own-none, combine-own-step, combine-own-end}
 use Rattle.kernels.proofs.combine_own.Given as goal
 
 abbrev pub invariant-loop-i : goal.invariant-loop-i

@@ -3,8 +3,6 @@ use Prim.Native.Nat.{◌≤◌, ◌-◌}
 use mathlib.Core.Path.{◌≡◌}
 use lib.ListN.{length}
 use Rattle.model.specs.Matrix.{vec, with_part}
-use Rattle.kernels.proofs.Laws.{with_part-end}
-use Rattle.kernels.proofs.Rules.{rule-none, copy_step}
 use Rattle.kernels.proofs.copy.Given as goal
 
 abbrev pub invariant-loop-i : goal.invariant-loop-i

@@ -1,9 +1,8 @@
 -- What `kernels::less_three_ahead` owes. Assumes nothing.
-use Prim.Native.Nat.{◌+◌, ◌≤◌, ◌-◌}
+use Prim.Native.Nat.{◌+◌, ◌≤◌}
 use mathlib.Core.Path.{◌≡◌}
 use lib.ListN.{length}
-use Rattle.model.specs.Matrix.{vec, with_part}
-use Rattle.kernels.specs.Rules.{pick, less_all, less_runs}
+use Rattle.kernels.specs.Rules.{pick, less_all}
 use Rattle.kernels.proofs.Rules.{from-none, less-step, pick-each, from_end}
 use borrow.Author.Rules.{rules}
 use Rattle.kernels.proofs.less_three_ahead.Goals as goal

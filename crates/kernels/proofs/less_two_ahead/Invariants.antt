@@ -3,8 +3,7 @@ use Prim.Native.Nat.{◌+◌, ◌≤◌, ◌-◌}
 use mathlib.Core.Path.{◌≡◌}
 use lib.ListN.{length}
 use Rattle.model.specs.Matrix.{vec, with_part}
-use Rattle.kernels.specs.Rules.{pick, less_all, less_runs}
-use Rattle.kernels.proofs.Rules.{from-none, less-step, pick-each, from_end}
+use Rattle.kernels.specs.Rules.{pick, less_runs}
 use Rattle.kernels.proofs.less_two_ahead.Given as goal
 
 abbrev pub invariant-loop-i : goal.invariant-loop-i

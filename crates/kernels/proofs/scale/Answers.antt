@@ -1,9 +1,4 @@
 -- What `kernels::scale` owes. Assumes nothing.
-use Prim.Native.Nat.{◌≤◌, ◌-◌}
-use mathlib.Core.Path.{◌≡◌}
-use lib.ListN.{length}
-use Rattle.model.specs.Matrix.{vec, with_part}
-use Rattle.kernels.specs.Rules.{times}
 use Rattle.kernels.proofs.Laws.{with_part-end}
 use Rattle.kernels.proofs.Rules.{rule-none, times-step}
 use borrow.Author.Rules.{rules}

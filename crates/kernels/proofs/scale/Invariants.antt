@@ -4,8 +4,6 @@ use mathlib.Core.Path.{◌≡◌}
 use lib.ListN.{length}
 use Rattle.model.specs.Matrix.{vec, with_part}
 use Rattle.kernels.specs.Rules.{times}
-use Rattle.kernels.proofs.Laws.{with_part-end}
-use Rattle.kernels.proofs.Rules.{rule-none, times-step}
 use Rattle.kernels.proofs.scale.Given as goal
 
 abbrev pub invariant-loop-i : goal.invariant-loop-i

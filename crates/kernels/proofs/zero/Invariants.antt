@@ -4,7 +4,6 @@ use mathlib.Core.Path.{◌≡◌}
 use mathlib.Core.List.{◌++◌}
 use lib.ListN.{length, drop, replicate}
 use Rattle.model.specs.Scalar.{zero_f}
-use Rattle.kernels.proofs.Rules.{fill_step, fill_end}
 use Rattle.kernels.proofs.zero.Given as goal
 
 abbrev pub invariant-loop-i : goal.invariant-loop-i

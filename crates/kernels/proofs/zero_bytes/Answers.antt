@@ -1,8 +1,4 @@
 -- What `kernels::zero_bytes` owes. Assumes nothing.
-use Prim.Native.Nat.{◌≤◌, ◌-◌}
-use mathlib.Core.Path.{◌≡◌}
-use mathlib.Core.List.{◌++◌}
-use lib.ListN.{length, drop, replicate}
 use Rattle.kernels.proofs.Rules.{fill_step, fill_end}
 use borrow.Author.Rules.{rules}
 use Rattle.kernels.proofs.zero_bytes.Goals as goal

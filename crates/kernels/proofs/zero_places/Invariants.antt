@@ -3,7 +3,6 @@ use Prim.Native.Nat.{◌≤◌, ◌-◌}
 use mathlib.Core.Path.{◌≡◌}
 use mathlib.Core.List.{◌++◌}
 use lib.ListN.{length, drop, replicate}
-use Rattle.kernels.proofs.Rules.{fill_step, fill_end}
 use Rattle.kernels.proofs.zero_places.Given as goal
 
 abbrev pub invariant-loop-i : goal.invariant-loop-i

@@ -8,21 +8,24 @@ use Rattle.landing.proofs.Order.{Locating, locating-none, locating-step, locatin
 use borrow.Author.Rules.{rules}
 use Rattle.landing.proofs.locate.Goals as goal
 
-step : (c : goal.Else1 invariant-loop decreases-loop)
-    → Locating (entered c).args.rows.now (entered c).args.krows.now (entered c).args.start (length (entered c).args.places.now)
-    (set (head c).loop.places (head c).loop.i c.before.local-row.result.0) (c.before.local-row.result.0 + 1) ((head c).loop.i + 1)
+-- a turn that goes on keeps the invariant
+step : (c : goal.Else-p-rows)
+    → Locating c.args.rows.now c.args.krows.now c.args.start (length c.args.places.now)
+    (set c.loop-i.places c.loop-i.i c.local_row-place.result.0) (c.local_row-place.result.0 + 1) (c.loop-i.i + 1)
 unfolding naturals
 step c =
-    locating-step _ _ _ _ _ (entered c).requires _ _ _ (head c).loop.invariant c.before.before.before.loop-test.true c.before.local-row.ensures
-    c.if1.false
+    locating-step _ _ _ _ _ c.requires _ _ _ c.loop-i.invariant c.loop-i-test.true c.local_row-place.ensures
+    c.if-p-rows.false
 
 pub loop-i-init : goal.loop-i-init
 loop-i-init c = search (rules, locating-none)
 
 pub returns-then-p-rows : goal.returns-then-p-rows
 unfolding naturals
-returns-then-p-rows c = let at = c.before.before.before in
-    record { value = locating-bad _ _ _ _ _ c.requires _ _ _ at.before.loop.invariant at.loop-test.true c.local_row-place.ensures c.if-p-rows.true; located = λ e. absurd (let z : ◌≡◌ {A = ℕ} 0 1 = cc in omega arith) }
+returns-then-p-rows c = record {
+  value = locating-bad _ _ _ _ _ c.requires _ _ _ c.loop-i.invariant c.loop-i-test.true c.local_row-place.ensures c.if-p-rows.true;
+  located = λ e. absurd (let z : ◌≡◌ {A = ℕ} 0 1 = cc in omega arith);
+}
 
 pub overflow_cast-places : goal.overflow_cast-places
 overflow_cast-places c = omega (arith, (step c).next, c.requires.few)
@@ -34,4 +37,7 @@ pub loop-i-preserved : goal.loop-i-preserved
 loop-i-preserved c = step c
 
 pub returns : goal.returns
-returns c = record { value = locating-end _ _ _ _ _ c.requires _ _ c.loop-i.invariant c.loop-i-test.false; located = λ e. locating-all _ _ _ _ _ c.requires _ _ c.loop-i.invariant c.loop-i-test.false }
+returns c = record {
+  value = locating-end _ _ _ _ _ c.requires _ _ c.loop-i.invariant c.loop-i-test.false;
+  located = λ e. locating-all _ _ _ _ _ c.requires _ _ c.loop-i.invariant c.loop-i-test.false;
+}

@@ -1,5 +1,5 @@
 -- `lines::put_entries` meets its contract.
--- The invariant: the first j numbers stand from `at` on, in 17 bytes each; the measure is what is left. Assumes nothing.
+-- The invariant: the first j numbers stand from `at` on, in 17 bytes each. Assumes nothing.
 use mathlib.Core.Path.{◌≡◌}
 use Prim.Native.Nat.{◌+◌, ◌*◌, ◌-◌, ◌≤◌}
 use lib.ListN.{length}
@@ -12,6 +12,3 @@ use Rattle.lines.proofs.put_entries.Given as goal
 abbrev pub invariant-loop-j : goal.invariant-loop-j
 invariant-loop-j l =
     (l.j ≤ l.ncol) × (length l.out ≡ length l.initial.out) × (l.end ≡ l.at + 17 * l.j) × Writes l.initial.out l.at (each (entry_field l.nrow l.panel l.i) l.j) l.out l.end
-
-abbrev pub decreases-loop-j : goal.decreases-loop-j
-decreases-loop-j l = l.ncol - l.j

@@ -1,5 +1,5 @@
 -- `lines::put_pivots` meets its contract.
--- The invariant: the first k lines stand from `at` on, in at most 120 bytes each; the measure is what is left. Assumes nothing.
+-- The invariant: the first k lines stand from `at` on, in at most 120 bytes each. Assumes nothing.
 use mathlib.Core.Path.{◌≡◌}
 use Prim.Native.Nat.{◌+◌, ◌*◌, ◌-◌, ◌≤◌}
 use lib.ListN.{length}
@@ -11,6 +11,3 @@ use Rattle.lines.proofs.put_pivots.Given as goal
 abbrev pub invariant-loop-k : goal.invariant-loop-k
 invariant-loop-k l =
     (l.k ≤ l.k-end) × (l.k-end ≡ length l.d) × (length l.out ≡ length l.initial.out) × (l.end ≤ l.at + 120 * l.k) × Writes l.initial.out l.at (each (pivot_at l.d l.sub l.blocks l.lifts l.amounts) l.k) l.out l.end
-
-abbrev pub decreases-loop-k : goal.decreases-loop-k
-decreases-loop-k l = l.k-end - l.k

@@ -1,5 +1,5 @@
 -- `lines::put_places` meets its contract.
--- The invariant: the first i places stand from `at` on, in at most 21 bytes each; the measure is what is left. Assumes nothing.
+-- The invariant: the first i places stand from `at` on, in at most 21 bytes each. Assumes nothing.
 use mathlib.Core.Path.{◌≡◌}
 use Prim.Native.Nat.{◌+◌, ◌*◌, ◌-◌, ◌≤◌}
 use lib.ListN.{length}
@@ -11,6 +11,3 @@ use Rattle.lines.proofs.put_places.Given as goal
 abbrev pub invariant-loop-i : goal.invariant-loop-i
 invariant-loop-i l =
     (l.i ≤ l.i-end) × (l.i-end ≡ length l.order) × (length l.out ≡ length l.initial.out) × (l.end ≤ l.at + 21 * l.i) × Writes l.initial.out l.at (each (order_field l.order) l.i) l.out l.end
-
-abbrev pub decreases-loop-i : goal.decreases-loop-i
-decreases-loop-i l = l.i-end - l.i

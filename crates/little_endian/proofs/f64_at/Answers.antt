@@ -4,4 +4,4 @@ use lib.Ieee.{binary64, of_bits}
 use Rattle.little_endian.proofs.f64_at.Goals as goal
 
 pub returns : goal.returns
-returns c = c.number_of_lem.ensures ∙ ap (of_bits binary64) c.u64_at.ensures
+returns c = c.number_of.ensures ∙ ap (of_bits binary64) c.u64_at.ensures

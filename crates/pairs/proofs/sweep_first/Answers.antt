@@ -1,10 +1,6 @@
 -- What `pairs::sweep_first` owes. Assumes nothing.
-use Prim.Native.Nat.{◌≤◌, ◌-◌}
-use mathlib.Core.Path.{◌≡◌, refl}
+use mathlib.Core.Path.{refl}
 use native.Mathlib.Omega.{arith}
-use lib.ListN.{length}
-use Rattle.model.specs.Matrix.{view}
-use Rattle.swept.specs.Swept.{swept_first}
 use Rattle.swept.proofs.Sweeps.{first-none, first_step, first-end}
 use Rattle.pairs.proofs.Calls.{sweep-column}
 use borrow.Author.Rules.{rules}
@@ -17,13 +13,11 @@ pub column_first-requires : goal.column_first-requires
 column_first-requires c = search (rules, sweep-column)
 
 pub loop-j-preserved : goal.loop-j-preserved
-loop-j-preserved c = let turn = c.before.before.before.before in
-    let inv = turn.before.loop.invariant in
-    let pre = turn.before.before.before.before.requires in (
+loop-j-preserved c = let inv = c.loop-j.invariant in (
       search rules,
       search rules,
       search rules,
-      first_step _ _ _ _ _ _ _ _ _ _ _ _ pre.past inv.0 inv.3 c.column_first.ensures,
+      first_step _ _ _ _ _ _ _ _ _ _ _ _ c.requires.past inv.0 inv.3 c.column_first.ensures,
     )
 
 pub returns : goal.returns

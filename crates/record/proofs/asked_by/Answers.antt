@@ -13,18 +13,15 @@ pub returns-then-not-sizes_sound : goal.returns-then-not-sizes_sound
 returns-then-not-sizes_sound c = search sizes-refuse
 
 pub overflow_mul-c : goal.overflow_mul-c
-overflow_mul-c c = record { fits = omega (arith, numbers-few _ _ c.sizes_sound.ensures c.if-not-sizes_sound.false) }
+overflow_mul-c c = record { fits = omega (arith, numbers-few _ _ c.sizes_sound.ensures (rw c.if-not-sizes_sound.false)) }
 
 pub second_sound-requires : goal.second_sound-requires
-second_sound-requires c = numbers-few _ _ c.sizes_sound.ensures c.if-not-sizes_sound.false
+second_sound-requires c = numbers-few _ _ c.sizes_sound.ensures (rw c.if-not-sizes_sound.false)
 
 pub returns-then-not-second_sound : goal.returns-then-not-second_sound
 returns-then-not-second_sound c = search second-refuses
 
 pub returns : goal.returns
-returns c = let second = c.before in
-    let small = second.before.before in
-    let read = small.before.before in
-    let first = read.before in
-    none-refuses _ _ first.before.first-sound.ensures first.if1.false _ read.settings.ensures
-    _ small.before.sizes-sound.ensures small.if2.false _ second.second-sound.ensures c.if-not-second_sound.false
+returns c =
+    none-refuses _ _ c.first_sound.ensures (rw c.if-not-first_sound.false) _ c.settings-c.ensures
+    _ c.sizes_sound.ensures (rw c.if-not-sizes_sound.false) _ c.second_sound.ensures (rw c.if-not-second_sound.false)

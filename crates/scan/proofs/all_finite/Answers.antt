@@ -1,8 +1,4 @@
 -- What `scan::all_finite` owes. Assumes nothing.
-use Prim.Native.Nat.{◌-◌, ◌≤◌}
-use mathlib.Core.Path.{◌≡◌}
-use Rattle.model.specs.Matrix.{vec}
-use Rattle.model.specs.Factor.{mark_of}
 use Rattle.scan.proofs.Finite.{all_none, all-step, all_end}
 use borrow.Author.Rules.{rules}
 use Rattle.scan.proofs.all_finite.Goals as goal

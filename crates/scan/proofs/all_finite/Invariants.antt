@@ -3,7 +3,6 @@ use Prim.Native.Nat.{◌-◌, ◌≤◌}
 use mathlib.Core.Path.{◌≡◌}
 use Rattle.model.specs.Matrix.{vec}
 use Rattle.model.specs.Factor.{mark_of}
-use Rattle.scan.proofs.Finite.{all_none, all-step, all_end}
 use Rattle.scan.proofs.all_finite.Given as goal
 
 abbrev pub invariant-loop-i : goal.invariant-loop-i

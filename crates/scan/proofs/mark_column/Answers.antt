@@ -1,8 +1,4 @@
 -- What `scan::mark_column` owes. Assumes nothing.
-use Prim.Native.Nat.{◌-◌, ◌≤◌}
-use mathlib.Core.Path.{◌≡◌}
-use lib.ListN.{length}
-use Rattle.scan.specs.Marks.{part_marked}
 use Rattle.scan.proofs.Marks.{part_none, part_step, part_end}
 use borrow.Author.Rules.{rules}
 use Rattle.scan.proofs.mark_column.Goals as goal

@@ -3,7 +3,6 @@ use Prim.Native.Nat.{◌-◌, ◌≤◌}
 use mathlib.Core.Path.{◌≡◌}
 use lib.ListN.{length}
 use Rattle.scan.specs.Marks.{part_marked}
-use Rattle.scan.proofs.Marks.{part_none, part_step, part_end}
 use Rattle.scan.proofs.mark_column.Given as goal
 
 abbrev pub invariant-loop-i : goal.invariant-loop-i

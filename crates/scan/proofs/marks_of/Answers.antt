@@ -1,9 +1,4 @@
 -- What `scan::marks_of` owes. Assumes nothing.
-use Prim.Native.Nat.{◌-◌, ◌≤◌}
-use mathlib.Core.Path.{◌≡◌}
-use lib.ListN.{length}
-use Rattle.model.specs.Matrix.{view}
-use Rattle.scan.specs.Marks.{tail_marks}
 use Rattle.scan.proofs.Marks.{tail_none, tail-clean, tail-pre, tail_step, tail-end}
 use borrow.Author.Rules.{rules}
 use Rattle.scan.proofs.marks_of.Goals as goal

@@ -5,7 +5,6 @@ use mathlib.Core.Path.{◌≡◌}
 use lib.ListN.{length}
 use Rattle.model.specs.Matrix.{view}
 use Rattle.scan.specs.Marks.{tail_marks}
-use Rattle.scan.proofs.Marks.{tail_none, tail-clean, tail-pre, tail_step, tail-end}
 use Rattle.scan.proofs.marks_of.Given as goal
 
 abbrev pub invariant-loop-j : goal.invariant-loop-j

@@ -32,14 +32,14 @@ pub bounds-x-w-in-loop-i : goal.bounds-x-w-in-loop-i
 bounds-x-w-in-loop-i c = simp length-set (omega arith)
 
 pub loop-i-preserved : goal.loop-i-preserved
-loop-i-preserved c = let turn = within.before in
-    let start = turn.before in
-    let g = start.args in
+loop-i-preserved c =
+    let g = c.args in
+    let inv = c.loop-i.invariant in
     let l = c.loop-i-test.true in (
       search rules,
       search rules,
-      four-step _ turn.loop.x g.p g.to.0 g.to.1 g.to.2 g.to.3 turn.loop.i g.n (length g.x.now) _ _ _ _ _ _ _ _
-          l start.pre turn.loop.inv.1 turn.loop.inv.2 _ _ _ refl refl refl,
+      four-step _ c.loop-i.x g.p g.to.0 g.to.1 g.to.2 g.to.3 c.loop-i.i g.n (length g.x.now) _ _ _ _ _ _ _ _
+          l c.requires inv.1 inv.2 _ _ _ refl refl refl,
     )
 
 pub returns : goal.returns

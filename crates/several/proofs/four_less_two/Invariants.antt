@@ -1,4 +1,4 @@
--- `several::four_less_two` meets its contract. The invariant: i places of each of the four runs are done by their rules; the measure is what is left.
+-- `several::four_less_two` meets its contract. The invariant: i places of each of the four runs are done by their rules.
 -- Assumes nothing.
 use Prim.Native.Nat.{◌≤◌, ◌-◌}
 use mathlib.Core.Path.{◌≡◌, refl}
@@ -14,6 +14,3 @@ abbrev pub invariant-loop-i : goal.invariant-loop-i
 invariant-loop-i l =
     (l.i ≤ l.n) × (length l.x ≡ length l.initial.x)
     × (vec l.x ≡ runs_by (vec l.initial.x) (pick l.q l.y l.z l.w) l.i (four_less_two (vec l.initial.x) l.p (pick l.q l.y l.z l.w) l.a.0 l.a.1 l.b.0 l.b.1 l.c.0 l.c.1 l.d.0 l.d.1) 4)
-
-abbrev pub decreases-loop-i : goal.decreases-loop-i
-decreases-loop-i l = l.n - l.i

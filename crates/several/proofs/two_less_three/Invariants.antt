@@ -1,4 +1,4 @@
--- `several::two_less_three` meets its contract. The invariant: i places of each of the two runs are done by their rules; the measure is what is left.
+-- `several::two_less_three` meets its contract. The invariant: i places of each of the two runs are done by their rules.
 -- Assumes nothing.
 use Prim.Native.Nat.{◌≤◌, ◌-◌}
 use mathlib.Core.Path.{◌≡◌}
@@ -14,6 +14,3 @@ abbrev pub invariant-loop-i : goal.invariant-loop-i
 invariant-loop-i l =
     (l.i ≤ l.n) × (length l.x ≡ length l.initial.x)
     × (vec l.x ≡ runs_by (vec l.initial.x) (pick l.q l.y l.y l.y) l.i (two_less_three (vec l.initial.x) l.p l.r (pick l.q l.y l.y l.y) l.a.0 l.a.1 l.a.2 l.b.0 l.b.1 l.b.2) 2)
-
-abbrev pub decreases-loop-i : goal.decreases-loop-i
-decreases-loop-i l = l.n - l.i

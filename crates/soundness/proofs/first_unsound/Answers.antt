@@ -1,15 +1,7 @@
--- What `soundness::first_unsound` owes. Assumes nothing.
-use Prim.Native.Nat.{◌≤◌, ◌-◌}
-use mathlib.Core.Path.{◌≡◌}
-use Rattle.model.specs.Matrix.{view}
-use Rattle.model.specs.Step.{diagonals_of}
-use Rattle.model.specs.Factor.{result_check}
-use Rattle.soundness.proofs.Result.{result-none, result-step, result-found, result-end}
+-- What `soundness::first_unsound` owes: the refusal, one column more, and the end. Assumes nothing.
+use Rattle.soundness.proofs.Result.{result-step, result-found, result-end}
 use borrow.Author.Rules.{rules}
 use Rattle.soundness.proofs.first_unsound.Goals as goal
-
-pub loop-k-init : goal.loop-k-init
-loop-k-init c = search (rules, result-none)
 
 pub returns-then-not-column_sound : goal.returns-then-not-column_sound
 returns-then-not-column_sound c = search result-found

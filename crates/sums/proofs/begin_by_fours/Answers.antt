@@ -1,7 +1,9 @@
 -- `sums::begin_by_fours` meets its contract: zeros, then the fours of both columns. Assumes nothing.
 use Rattle.sums.proofs.Sum.{fours-begun}
-use borrow.Author.Rules.{rules}
 use Rattle.sums.proofs.begin_by_fours.Goals as goal
 
-pub returns : goal.returns
-returns c = record { x_after = search fours-begun; y_after = search fours-begun; upper_bound = search rules }
+pub returns-clause-x_after : goal.returns-clause-x_after
+returns-clause-x_after c = search fours-begun
+
+pub returns-clause-y_after : goal.returns-clause-y_after
+returns-clause-y_after c = search fours-begun

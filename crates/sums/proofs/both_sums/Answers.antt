@@ -2,5 +2,8 @@
 use Rattle.sums.proofs.Sum.{sums-whole}
 use Rattle.sums.proofs.both_sums.Goals as goal
 
-pub returns : goal.returns
-returns c = record { x_after = search sums-whole; y_after = search sums-whole }
+pub returns-clause-x_after : goal.returns-clause-x_after
+returns-clause-x_after c = search sums-whole
+
+pub returns-clause-y_after : goal.returns-clause-y_after
+returns-clause-y_after c = search sums-whole

@@ -6,55 +6,45 @@ use borrow.Author.Rules.{rules}
 use Rattle.swept.proofs.single_block_two.Goals as goal
 
 pub multiplier_before-a1-requires : goal.multiplier_before-a1-requires
-multiplier_before-a1-requires c = let at = c.requires.f_lt_j in
-    both-kept c.requires.pair_pre _ (omega arith) (omega arith)
+multiplier_before-a1-requires c = both-kept c.requires.pair_pre _ (omega arith) (omega arith)
 
 pub get-a2-requires : goal.get-a2-requires
-get-a2-requires c = let at = c.requires.f_lt_j in
-    second-kept c.requires.pair_pre _ (omega arith) (omega arith)
+get-a2-requires c = second-kept c.requires.pair_pre _ (omega arith) (omega arith)
 
 pub overflow_add-l : goal.overflow_add-l
-overflow_add-l c = let at = placed c.requires.pair_pre in
-    search rules
+overflow_add-l c = let at = placed c.requires.pair_pre in search rules
 
 pub get-a3-requires : goal.get-a3-requires
-get-a3-requires c = let at = c.requires.f_lt_j in
-    second-kept-next c.requires.pair_pre _ (omega arith) (omega arith)
+get-a3-requires c = second-kept-next c.requires.pair_pre _ (omega arith) (omega arith)
 
 pub multiplier_before-b1-requires : goal.multiplier_before-b1-requires
-multiplier_before-b1-requires c = let at = c.requires.f_lt_j in
-    both-kept c.requires.pair_pre _ (omega arith) (omega arith)
+multiplier_before-b1-requires c = both-kept c.requires.pair_pre _ (omega arith) (omega arith)
 
 pub get-b2-requires : goal.get-b2-requires
-get-b2-requires c = let at = c.requires.f_lt_j in
-    second-kept c.requires.pair_pre _ (omega arith) (omega arith)
+get-b2-requires c = second-kept c.requires.pair_pre _ (omega arith) (omega arith)
 
 pub overflow_add-l-2 : goal.overflow_add-l-2
-overflow_add-l-2 c = let at = placed c.requires.pair_pre in
-    search rules
+overflow_add-l-2 c = let at = placed c.requires.pair_pre in search rules
 
 pub get-b3-requires : goal.get-b3-requires
-get-b3-requires c = let at = c.requires.f_lt_j in
-    second-kept-next c.requires.pair_pre _ (omega arith) (omega arith)
+get-b3-requires c = second-kept-next c.requires.pair_pre _ (omega arith) (omega arith)
 
 pub less_three_of_two-requires : goal.less_three_of_two-requires
-less_three_of_two-requires c = let at = c.requires.f_lt_j in
+less_three_of_two-requires c =
+    let at = c.requires.f_lt_j in
     record { columns_pre = single-block-columns c.requires.pair_pre at.0 at.1; fits = search rules }
 
-pub overflow_add-result : goal.overflow_add-result
-overflow_add-result c = let at = c.requires.f_lt_j in
-    search rules
-
 pub returns-then-neither_zero : goal.returns-then-neither_zero
-returns-then-neither_zero c = let tested = c.before.before.before.before in
-    let other = tested.before.before in
-    let one = other.before.before.before in
-    record { part_after = single-block-done _ _ _ _ _ _ _ _ _ c.requires.pair_pre.next c.requires.pair_pre.last c.requires.f_lt_j.0
-          one.before.before.multiplier-before.ensures one.before.get.ensures one.get2.ensures
-          other.before.before.multiplier-before2.ensures other.before.get3.ensures other.get4.ensures
-          tested.before.neither-zero.ensures tested.if1.true
-          c.less_three_of_two.ensures; lower_bound = (omega arith, c.requires.f_lt_j.1) }
+returns-then-neither_zero c =
+    let pre = c.requires.pair_pre in
+    let at = c.requires.f_lt_j in
+    record {
+      part_after = single-block-done _ _ _ _ _ _ _ _ _ pre.next pre.last at.0
+          c.multiplier_before-a1.ensures c.get-a2.ensures c.get-a3.ensures
+          c.multiplier_before-b1.ensures c.get-b2.ensures c.get-b3.ensures
+          c.neither_zero.ensures c.if-neither_zero.true c.less_three_of_two.ensures;
+      lower_bound = (omega arith, at.1);
+    }
 
 pub returns : goal.returns
-returns c = let at = c.requires.f_lt_j in
-    record { part_after = both-none _ _ _ _ _ _ _ _ _ _ _; lower_bound = (omega arith, omega arith) }
+returns c = record { part_after = both-none _ _ _ _ _ _ _ _ _ _ _; lower_bound = (omega arith, omega arith) }

@@ -4,14 +4,10 @@ use borrow.Author.Rules.{rules}
 use Rattle.tail.proofs.stays.Goals as goal
 
 pub partner-p-requires : goal.partner-p-requires
-partner-p-requires c = let b = c.before.before in
-    let inside = block_in _ _ _ _ _ b.before.before.before.requires.1 b.block-begins.ensures c.if-block_begins.true in
-    search rules
+partner-p-requires c = let inside = block_in _ _ _ _ _ c.requires.here_pre c.block_begins.ensures c.if-block_begins.true in search rules
 
 pub returns-then-block_begins : goal.returns-then-block_begins
-returns-then-block_begins c = let p = c.before.before in
-    let b = p.before.before.before in
-    stays-block _ _ _ _ _ b.block-begins.ensures p.before.before.if1.true p.partner.ensures
+returns-then-block_begins c = stays-block _ _ _ _ _ c.block_begins.ensures c.if-block_begins.true c.partner-p.ensures
 
 pub returns : goal.returns
 returns c = stays-single _ _ _ _ c.block_begins.ensures c.if-block_begins.false

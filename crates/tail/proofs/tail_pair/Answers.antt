@@ -14,19 +14,8 @@ pub diagonal_at-y-requires : goal.diagonal_at-y-requires
 diagonal_at-y-requires c = let both = c.requires.both_pre in
     pivot-pre _ _ _ _ _ _ _ _ _ _ _ _ c.requires.read_pre refl both.inside both.second
 
-pub past-last-requires : goal.past-last-requires
-past-last-requires c = omega (arith, c.requires.both_pre.inside, c.requires.read_pre.in_blocks)
-
 pub overflow_sub-last : goal.overflow_sub-last
 overflow_sub-last c = let more = past-later _ _ _ c.past-last.ensures in search rules
-
-pub overflow_sub-k : goal.overflow_sub-k
-overflow_sub-k c = let from = c.requires.read_pre.from in
-    search rules
-
-pub overflow_sub-k-2 : goal.overflow_sub-k-2
-overflow_sub-k-2 c = let from = c.requires.read_pre.from in
-    search rules
 
 pub place-start-requires : goal.place-start-requires
 place-start-requires c = let room = start_fits _ _ _ _ _ _ _ _ _ c.requires.read_pre c.requires.lent_pre.here in
@@ -61,23 +50,26 @@ column_from-requires-2 c = let both = c.requires.both_pre in
     let more = past-later _ _ _ both.next in
     row-ahead _ _ _ _ _ _ both.second (omega arith) c.partner-kq.ensures
 
-pub below_pair-requires : goal.below_pair-requires
-below_pair-requires c = let h = let both = c.requires.both_pre in
-    pair-pre _ _ _ _ _ _ _ _ _ _ _ _ _ _ (lent-kept _ _ _ _ _ c.requires.lent_pre c.arrive.auto.0) c.requires.read_pre both.first
+pub below_pair-requires-clause-pair_pre : goal.below_pair-requires-clause-pair_pre
+below_pair-requires-clause-pair_pre c = let both = c.requires.both_pre in
+    (pair-pre _ _ _ _ _ _ _ _ _ _ _ _ _ _ (lent-kept _ _ _ _ _ c.requires.lent_pre c.arrive.auto.part) c.requires.read_pre both.first
     (part_count _ _ c.args.mult.now refl _ c.place-start.ensures) _ _ _ _ _ _ _ _ _ _ both.next both.inside both.second
     c.diagonal_at-x.ensures c.diagonal_at-y.ensures c.past-last.ensures refl refl
     (column-is _ _ _ _ c.column_from.ensures c.partner-kp.ensures)
-    (column-is _ _ _ _ c.column_from-2.ensures c.partner-kq.ensures) in
-    record { pair_pre = h.0; kp_lt_columns = h.1 }
+    (column-is _ _ _ _ c.column_from-2.ensures c.partner-kq.ensures)).0
+
+pub below_pair-requires-clause-kp_lt_columns : goal.below_pair-requires-clause-kp_lt_columns
+below_pair-requires-clause-kp_lt_columns c = let both = c.requires.both_pre in
+    let ahead = row-ahead _ _ _ c.args.k.0 _ _ both.first (omega arith) c.partner-kp.ensures in
+    omega (arith, both.first.partner, c.requires.lent_pre.here)
 
 pub returns : goal.returns
-returns c = let f = c.before.before.before in
-    let r = c.requires.read_pre in
+returns c = let r = c.requires.read_pre in
     let both = c.requires.both_pre in
     let more = past-later _ _ _ both.next in
     pair-done _ _ _ _ (kept_from _ _ _ _ _ _ c.args.mult.now r.from r.width c.place-start.ensures refl)
     _ _ _ _ _ _ _ _ both.first c.arrive.ensures _ _ _ _ _ _
     (omega arith) both.second both.stays c.diagonal_at-x.ensures c.diagonal_at-y.ensures
-    (column-is _ _ _ _ f.before.column-from.ensures c.partner-kp.ensures)
-    (column-is _ _ _ _ f.column-from2.ensures c.partner-kq.ensures) refl
+    (column-is _ _ _ _ c.column_from.ensures c.partner-kp.ensures)
+    (column-is _ _ _ _ c.column_from-2.ensures c.partner-kq.ensures) refl
     c.below_pair.ensures

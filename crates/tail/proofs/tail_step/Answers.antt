@@ -14,31 +14,27 @@ place-start-requires c = let room = start_fits _ _ _ _ _ _ _ _ _ c.requires.read
     search rules
 
 pub offset_bounds-mult-start : goal.offset_bounds-mult-start
-offset_bounds-mult-start c = let s = entry (begun (read c)) in
-    let room = start_fits _ _ _ _ _ _ _ _ _ s.pre.1.0 s.pre.0.here in
+offset_bounds-mult-start c = let room = start_fits _ _ _ _ _ _ _ _ _ c.requires.read_pre c.requires.lent_pre.here in
     search rules
 
 pub slice_bounds-below_step-count : goal.slice_bounds-below_step-count
-slice_bounds-below_step-count c = let s = entry (begun (read c)) in
-    let room = start_fits _ _ _ _ _ _ _ _ _ s.pre.1.0 s.pre.0.here in
+slice_bounds-below_step-count c = let room = start_fits _ _ _ _ _ _ _ _ _ c.requires.read_pre c.requires.lent_pre.here in
     search rules
 
 pub slice_bounds-below_step-start : goal.slice_bounds-below_step-start
-slice_bounds-below_step-start c = let s = entry (begun (read c)) in
-    let room = start_fits _ _ _ _ _ _ _ _ _ s.pre.1.0 s.pre.0.here in
+slice_bounds-below_step-start c = let room = start_fits _ _ _ _ _ _ _ _ _ c.requires.read_pre c.requires.lent_pre.here in
     search rules
 
 pub column_from-requires : goal.column_from-requires
 column_from-requires c = row-ahead _ _ _ _ _ _ c.requires.here_pre (search rules) c.partner-kp.ensures
 
 pub below_step-requires : goal.below_step-requires
-below_step-requires c = step-pre _ _ _ _ _ _ _ _ _ _ _ _ _ _ (lent-kept _ _ _ _ _ c.requires.lent_pre c.arrive.auto.0) c.requires.read_pre c.requires.here_pre
+below_step-requires c = step-pre _ _ _ _ _ _ _ _ _ _ _ _ _ _ (lent-kept _ _ _ _ _ c.requires.lent_pre c.arrive.auto.part) c.requires.read_pre c.requires.here_pre
     (part_count _ _ c.args.mult.now refl _ c.place-start.ensures) _ _ _ _ c.diagonal_at-pivot.ensures
     (column-is _ _ _ _ c.column_from.ensures c.partner-kp.ensures)
 
 pub returns : goal.returns
-returns c = let f = c.before.before.before in
-    let r = c.requires.read_pre in
-    step-done _ _ _ _ (kept_from _ _ _ _ _ _ c.args.mult.now r.from r.width f.before.before.before.place.ensures refl)
+returns c = let r = c.requires.read_pre in
+    step-done _ _ _ _ (kept_from _ _ _ _ _ _ c.args.mult.now r.from r.width c.place-start.ensures refl)
     _ _ _ _ _ _ _ _ c.requires.here_pre c.arrive.ensures _ _
-    c.diagonal_at-pivot.ensures (column-is _ _ _ _ f.column-from.ensures c.partner-kp.ensures) c.below_step.ensures
+    c.diagonal_at-pivot.ensures (column-is _ _ _ _ c.column_from.ensures c.partner-kp.ensures) c.below_step.ensures

@@ -1,10 +1,5 @@
 -- What `total::long_sum` owes. Assumes nothing.
-use Prim.Native.Nat.{◌+◌, ◌-◌, ◌/◌, ◌%◌}
-use mathlib.Core.Path.{◌≡◌}
 use native.Mathlib.Omega.{arith}
-use Rattle.model.specs.Matrix.{vec}
-use Rattle.model.specs.Panel.{sum_from}
-use Rattle.total.specs.Finite.{sixteen}
 use Rattle.total.proofs.Sums.{sum-none, even-turn, odd-turn, long-end}
 use borrow.Author.Rules.{rules}
 use Rattle.total.proofs.long_sum.Goals as goal

@@ -2,11 +2,9 @@
 -- Assumes nothing.
 use Prim.Native.Nat.{◌+◌, ◌-◌, ◌/◌, ◌%◌}
 use mathlib.Core.Path.{◌≡◌}
-use native.Mathlib.Omega.{arith}
 use Rattle.model.specs.Matrix.{vec}
 use Rattle.model.specs.Panel.{sum_from}
 use Rattle.total.specs.Finite.{sixteen}
-use Rattle.total.proofs.Sums.{sum-none, even-turn, odd-turn, long-end}
 use Rattle.total.proofs.long_sum.Given as goal
 
 abbrev pub invariant-loop-i : goal.invariant-loop-i

@@ -1,9 +1,4 @@
 -- What `total::lower_sum` owes. Assumes nothing.
-use Prim.Native.Nat.{◌-◌, ◌≤◌}
-use mathlib.Core.Path.{◌≡◌}
-use Rattle.model.specs.Matrix.{view}
-use Rattle.model.specs.Panel.{sum_from}
-use Rattle.total.specs.Finite.{column_sum}
 use Rattle.total.proofs.Sums.{sum-none, sum-turn, sum-end}
 use Rattle.total.proofs.Finite.{scan-pre}
 use borrow.Author.Rules.{rules}

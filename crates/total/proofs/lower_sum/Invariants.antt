@@ -5,8 +5,6 @@ use mathlib.Core.Path.{◌≡◌}
 use Rattle.model.specs.Matrix.{view}
 use Rattle.model.specs.Panel.{sum_from}
 use Rattle.total.specs.Finite.{column_sum}
-use Rattle.total.proofs.Sums.{sum-none, sum-turn, sum-end}
-use Rattle.total.proofs.Finite.{scan-pre}
 use Rattle.total.proofs.lower_sum.Given as goal
 
 abbrev pub invariant-loop-j : goal.invariant-loop-j

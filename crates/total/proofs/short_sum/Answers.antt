@@ -1,9 +1,4 @@
 -- What `total::short_sum` owes. Assumes nothing.
-use Prim.Native.Nat.{◌-◌, ◌≤◌}
-use mathlib.Core.Path.{◌≡◌}
-use lib.ListN.{length}
-use Rattle.model.specs.Matrix.{vec}
-use Rattle.model.specs.Panel.{sum_from}
 use Rattle.total.proofs.Sums.{sum-none, short-turn, sum-end}
 use borrow.Author.Rules.{rules}
 use Rattle.total.proofs.short_sum.Goals as goal

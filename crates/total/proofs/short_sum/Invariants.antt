@@ -5,7 +5,6 @@ use mathlib.Core.Path.{◌≡◌}
 use lib.ListN.{length}
 use Rattle.model.specs.Matrix.{vec}
 use Rattle.model.specs.Panel.{sum_from}
-use Rattle.total.proofs.Sums.{sum-none, short-turn, sum-end}
 use Rattle.total.proofs.short_sum.Given as goal
 
 abbrev pub invariant-loop-i : goal.invariant-loop-i

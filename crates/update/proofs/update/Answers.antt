@@ -9,8 +9,7 @@ pub returns-then-nk-eq0 : goal.returns-then-nk-eq0
 returns-then-nk-eq0 c = update-none _ _ _ _ c.lists_check-checked.ensures c.in-Sound.is c.if-nk-eq0.true
 
 pub update_columns-requires : goal.update_columns-requires
-update_columns-requires c = let told = c.before.before in
-    lists-pre _ _ _ _ told.before.before.lists-check.ensures told.enum_told.given.1 c.if-nk-eq0.false
+update_columns-requires c = lists-pre _ _ _ _ c.lists_check-checked.ensures c.in-Sound.is c.if-nk-eq0.false
 
 pub returns : goal.returns
 returns c = update-columns _ _ _ _ c.lists_check-checked.ensures c.in-Sound.is _ c.update_columns.ensures

@@ -18,15 +18,15 @@ returns-in_default-checked c = columns-number _ _ _ c.requires _ c.first_landing
     c.first_bad_column-checked.ensures _ c.answer-in_default-checked.result c.in_default-checked.is c.answer-in_default-checked.ensures
 
 pub update_rows-requires : goal.update_rows-requires
-update_rows-requires c = record { apply_pre = apply-pre _ _ _ c.requires _ c.first_landing-start.ensures _ (c.locate-located.ensures.located c.in-Sound.is) (search rules); krows_len = c.requires.sizes.descendant }
+update_rows-requires c = record {
+  apply_pre = apply-pre _ _ _ c.requires _ c.first_landing-start.ensures _ (c.locate-located.ensures.located c.in-Sound.is) (search rules);
+  krows_len = c.requires.sizes.descendant;
+}
 
 pub returns : goal.returns
 unfolding descendant_sound
-returns c = let numbers = all_sound.before.before in
-    let sound = numbers.before in
-    let located = sound.before.before.before in
-    let landing = located.before.before in
-    columns-done _ _ _ c.requires _ landing.first-landing.ensures _ located.locate.ensures.0 _ sound.enum_told.given.1
-    numbers.first-bad-column.ensures _ c.in-Sound-checked.is
-    (panel-is _ _ _ c.requires _ landing.first-landing.ensures _ (located.locate.ensures.1 sound.enum_told.given.1)
+returns c =
+    columns-done _ _ _ c.requires _ c.first_landing-start.ensures _ c.locate-located.ensures.value _ c.in-Sound.is
+    c.first_bad_column-checked.ensures _ c.in-Sound-checked.is
+    (panel-is _ _ _ c.requires _ c.first_landing-start.ensures _ (c.locate-located.ensures.located c.in-Sound.is)
     _ _ (search rules) refl c.update_rows.ensures)

@@ -19,5 +19,4 @@ pub overflow_mul-panels-2 : goal.overflow_mul-panels-2
 overflow_mul-panels-2 c = search numbers_fit
 
 pub returns : goal.returns
-returns c = let sized = c.before.before in
-    lengths-rest _ _ _ _ sized.before.before.shape-sound.ensures sized.before.if1.false sized.if2.false
+returns c = lengths-rest _ _ _ _ c.shape_sound.ensures c.if-not-shape_sound.false c.if-not-nk-mk.false

@@ -12,20 +12,17 @@ target_sound-requires c = lists-columns _ _ _ _ c.lengths_sound.ensures c.if-not
 
 pub returns-then-not-target_sound : goal.returns-then-not-target_sound
 unfolding update_sound
-returns-then-not-target_sound c = let sized = c.before.before in
-    lists-target _ _ _ _ sized.before.lengths-sound.ensures sized.if1.false _ c.target_sound.ensures c.if-not-target_sound.true
+returns-then-not-target_sound c =
+    lists-target _ _ _ _ c.lengths_sound.ensures c.if-not-lengths_sound.false _ c.target_sound.ensures c.if-not-target_sound.true
 
 pub returns-then-not-rising : goal.returns-then-not-rising
 unfolding update_sound
-returns-then-not-rising c = let begun = c.before.before in
-    let sized = begun.before.before in
-    lists-descendant _ _ _ _ sized.before.lengths-sound.ensures sized.if1.false _ begun.before.target_sound.ensures begun.if2.false _
+returns-then-not-rising c =
+    lists-descendant _ _ _ _ c.lengths_sound.ensures c.if-not-lengths_sound.false _ c.target_sound.ensures c.if-not-target_sound.false _
     c.rising.ensures c.if-not-rising.true
 
 pub returns : goal.returns
 unfolding update_sound
-returns c = let risen = c.before in
-    let begun = risen.before.before in
-    let sized = begun.before.before in
-    lists-bytes _ _ _ _ sized.before.lengths-sound.ensures sized.if1.false _ begun.before.target_sound.ensures begun.if2.false _
-    risen.before.rising.ensures c.first_bad_byte.result risen.if3.false c.first_bad_byte.ensures
+returns c =
+    lists-bytes _ _ _ _ c.lengths_sound.ensures c.if-not-lengths_sound.false _ c.target_sound.ensures c.if-not-target_sound.false _
+    c.rising.ensures c.first_bad_byte.result c.if-not-rising.false c.first_bad_byte.ensures

@@ -14,8 +14,8 @@ loop-r-init c = (search rules, search rules, search rules, refl)
 
 pub overflow_cast-places : goal.overflow_cast-places
 unfolding naturals
-overflow_cast-places c = let at = c.before.before in
-    let row = (c.requires.inside at.before.loop.r at.before.loop.invariant.0 at.loop-test.true).row in
+overflow_cast-places c =
+    let row = (c.requires.inside c.loop-r.r c.loop-r.invariant.0 c.loop-r-test.true).row in
     search (rules, row)
 
 pub less_at-requires : goal.less_at-requires

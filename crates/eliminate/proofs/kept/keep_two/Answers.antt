@@ -4,9 +4,9 @@ use borrow.Author.Rules.{rules}
 use Rattle.eliminate.proofs.kept.keep_two.Goals as goal
 
 pub combine-requires : goal.combine-requires
-combine-requires c = let pre = c.requires in
+combine-requires c =
     keep-parts _ _ _ _ _ _ _ _ _ _ _ _ c.column_start-kept.ensures c.column_start-source.ensures
-    c.column_start-second.ensures pre.0 pre.1.0 pre.1.1
+    c.column_start-second.ensures c.requires.keep_pre c.requires.source_pre c.requires.source_pre_2
 
 pub returns : goal.returns
 returns c = search (rules, keep-two-lent)

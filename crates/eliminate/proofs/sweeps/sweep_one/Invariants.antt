@@ -1,4 +1,4 @@
--- `eliminate::sweeps::sweep_one` meets its contract. The invariant: the columns before j are swept; the measure is what is left. Assumes nothing.
+-- `eliminate::sweeps::sweep_one` meets its contract. The invariant: the columns before j are swept. Assumes nothing.
 use Prim.Native.Nat.{◌+◌, ◌≤◌, ◌-◌}
 use mathlib.Core.Path.{◌≡◌}
 use lib.ListN.{length}
@@ -12,6 +12,3 @@ abbrev pub invariant-loop-j : goal.invariant-loop-j
 invariant-loop-j l =
     (l.k + 1 ≤ l.j) × (l.j ≤ l.ke) × (length l.panel ≡ length l.initial.panel) ×
     (view l.at.nrow l.panel ≡ swept_one (view l.at.nrow l.initial.panel) (column_of (in_panel l.kb l.ke (view l.at.nb l.mult)) l.k) l.k l.j l.lo l.hi)
-
-abbrev pub decreases-loop-j : goal.decreases-loop-j
-decreases-loop-j l = l.ke - l.j

@@ -22,15 +22,13 @@ pub less_two-requires : goal.less_two-requires
 less_two-requires c = search (rules, later-pre-next)
 
 pub loop-j-preserved : goal.loop-j-preserved
-loop-j-preserved c = let got = c.before.before.before.before in
-    let turn = got.before.before.before in
-    let start = turn.before.before.before.before in
-    let inv = turn.before.loop.invariant in (
+loop-j-preserved c =
+    let inv = c.loop-j.invariant in (
       search rules,
       search rules,
       search rules,
-      sweep-two-step _ _ _ _ _ _ _ _ _ _ _ _ _ inv.0 turn.loop-test.true start.requires.from inv.3 got.before.before.later.ensures
-          got.before.get.ensures got.get2.ensures c.less_two.ensures,
+      sweep-two-step _ _ _ _ _ _ _ _ _ _ _ _ _ inv.0 c.loop-j-test.true c.requires.from inv.3 c.later-top.ensures
+          c.get-m1.ensures c.get-m2.ensures c.less_two.ensures,
     )
 
 pub returns : goal.returns

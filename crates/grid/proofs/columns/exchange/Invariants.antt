@@ -1,11 +1,9 @@
 -- `grid::columns::exchange` meets its contract. The invariant: the rows from lo up to i are exchanged; the measure is what is left. Assumes nothing.
 use Prim.Native.Nat.{◌≤◌, ◌-◌}
 use mathlib.Core.Path.{◌≡◌}
-use native.Mathlib.Omega.{arith}
-use lib.ListN.{length, length-set}
+use lib.ListN.{length}
 use Rattle.model.specs.Matrix.{view}
 use Rattle.grid.specs.Rules.{columns_exchanged}
-use Rattle.grid.proofs.Exchange.{exchange-none, exchange-step, exchange-end, exchange-same}
 use Rattle.grid.proofs.columns.exchange.Given as goal
 
 abbrev pub invariant-loop-i : goal.invariant-loop-i

@@ -1,0 +1,7 @@
+-- `lines::put_accepted` meets its contract: its parts one after another. Assumes nothing.
+use borrow.Author.Rules.{rules}
+use Rattle.lines.proofs.Laws.{accepted-is}
+use Rattle.lines.proofs.put_accepted.Goals as goal
+
+pub returns-clause-writes : goal.returns-clause-writes
+returns-clause-writes c = search (rules, accepted-is)
