@@ -3,4 +3,4 @@ use Rattle.capi.proofs.Laws.{factor-left}
 use Rattle.capi.proofs.misuktaan_factor.Goals as goal
 
 pub returns : goal.returns
-returns c = factor-left c.of_factor.ensures (rw moded.Mode-of.ensures at c.factor.ensures)
+returns c = factor-left c.of_factor.ensures (rw c.mode_of-mode.ensures at c.factor.ensures)
