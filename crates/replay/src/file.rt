@@ -1,6 +1,6 @@
 // Lists read from the file of answers, and buffers held to what the file has next. Both go by chunks of 4,096 bytes.
-// A list fills the first places of a room. Where the file ends too early or cannot be read, ones stand for the bits that
-// it lacks.
+// A list fills the first places of a room. Where the file ends too early or cannot be read, ones stand for the bits
+// that it lacks.
 ghost use Rattle.std.specs.Prelude.{◌≡◌, ◌+◌, ◌*◌, ◌≤◌, min, length};
 
 use std::fs::File;
