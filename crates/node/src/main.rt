@@ -1,33 +1,91 @@
 // The program `node`: one node's records from standard input, its factor or its refusal to standard output.
-// What it writes is a function of what it reads, `answer::respond`, which answers any bytes. A stream that goes on past
-// the longest good one asks what its first LONGEST + 1 bytes ask (`asked-prefix` of crate record), so no more is read.
+// What it writes is a function of what it reads, `answer::respond`, which answers any bytes; `run` says so of any
+// reader and any writer. A stream that goes on past the longest good one asks what its first LONGEST + 1 bytes ask
+// (`asked-prefix` of crate record), so no more is read. Where a read fails, what came before it is the stream.
 // Where standard output takes nothing more, one line on standard error says so, the only one that ever stands there.
 #![tactic(auto)]
 
-ghost use Rattle.std.specs.Prelude.{◌≤◌};
+ghost use Rattle.std.specs.Prelude.{◌≤◌, ◌<◌, IsTrue, length, take};
+ghost use Rattle.std.specs.Io.KnownBytes.{Consumes, Appends, IsAtEnd};
+ghost use Rattle.node.specs.Run.{AnswersPart, AnswersAll};
 
 use answer::ROOM;
-use libc::{STDERR_FILENO, STDIN_FILENO, STDOUT_FILENO};
 use record::LONGEST;
+use std::io::{Read, Write};
+
+// What was read into a place: how many bytes stand at its start, and whether no read failed.
+#[derive(Clone, Copy)]
+struct Filled {
+    bytes: usize,
+    sound: bool,
+}
+
+// Reads until the place is full, the input ends or a read fails.
+fn read_full<R: Read>(reader: &mut R, place: &mut [u8]) -> Filled
+    ensures in_bounds { result.bytes ≤ length place.new }
+    ensures bytes { Consumes (R.remaining reader.old) (R.remaining reader.new) (take result.bytes place.new) }
+    ensures end { IsTrue result.sound → result.bytes < length place.new → IsAtEnd (R.remaining reader.new) }
+{
+    let mut done = 0;
+    while done < place.len() {
+        match reader.read(&mut place[done..]) {
+            Ok(0) => {
+                return Filled {
+                    bytes: done,
+                    sound: true,
+                };
+            }
+            Ok(n) => done += n,
+            Err(_) => {
+                return Filled {
+                    bytes: done,
+                    sound: false,
+                };
+            }
+        }
+    }
+    Filled {
+        bytes: done,
+        sound: true,
+    }
+}
 
 // Writes the first n bytes of the text, and answers whether all of them were taken. It takes an array, whose type says
 // how many bytes are there.
-fn print(text: &[u8; ROOM], n: usize) -> bool
+fn print<W: Write>(writer: &mut W, text: &[u8; ROOM], n: usize) -> bool
     requires { n ≤ 32768 }
+    ensures { IsTrue result → Appends (W.contents writer.old) (W.contents writer.new) (take n text.now) }
 {
     let bytes: &[u8] = text;
-    io::write_all(STDOUT_FILENO, &bytes[..n])
+    writer.write_all(&bytes[..n]).is_ok()
 }
 
-fn main() {
+// What a run came to: whether no read failed, and whether all that is printed was taken.
+#[derive(Clone, Copy)]
+struct Ran {
+    sound: bool,
+    taken: bool,
+}
+
+// Reads a stream and writes what is printed for it.
+fn run<R: Read, W: Write>(reader: &mut R, writer: &mut W) -> Ran
+    ensures part { AnswersPart (R.remaining reader.old) (R.remaining reader.new)
+        (W.contents writer.old) (W.contents writer.new) result }
+    ensures all { AnswersAll (R.remaining reader.old) (W.contents writer.old) (W.contents writer.new) result }
+{
     let mut stream = [0u8; LONGEST + 1];
-    let read = io::read_full(STDIN_FILENO, &mut stream);
+    let read = read_full(reader, &mut stream);
     let mut text = [0u8; ROOM];
-    let written = answer::respond(&stream[..read], &mut text);
-    if !print(&text, written) {
-        io::write_all(
-            STDERR_FILENO,
-            b"node: standard output could not be written\n",
-        );
+    let written = answer::respond(&stream[..read.bytes], &mut text);
+    Ran {
+        sound: read.sound,
+        taken: print(writer, &text, written),
+    }
+}
+
+fn main(rt: HostRuntime) {
+    let ran = run(&mut rt.stdin(), &mut rt.stdout());
+    if !ran.taken {
+        let _ = eprintln!(rt; "node: standard output could not be written");
     }
 }

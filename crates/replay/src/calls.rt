@@ -7,6 +7,7 @@ use crate::file;
 use crate::file::Left;
 use model::{Applied, Lengths, Settings};
 use outcome::Outcome;
+use std::fs::File;
 
 // Room for the lists of a case: of pivots or entries; of rows; of the numbers of a panel or a working buffer.
 const COLUMNS: usize = 130;
@@ -20,15 +21,15 @@ fn room(x: f64) -> [f64; 30000]
 }
 
 // The recorded answer, with which every case begins.
-fn read_answer(fd: i32) -> Outcome {
+fn read_answer(answers: &mut File) -> Outcome {
     Outcome {
-        number: file::count(fd),
-        a: file::count(fd),
-        b: file::count(fd),
-        rounds: file::count(fd),
-        positive: file::count(fd),
-        negative: file::count(fd),
-        zero: file::count(fd),
+        number: file::count(answers),
+        a: file::count(answers),
+        b: file::count(answers),
+        rounds: file::count(answers),
+        positive: file::count(answers),
+        negative: file::count(answers),
+        zero: file::count(answers),
     }
 }
 
@@ -41,13 +42,13 @@ fn same(x: Outcome, y: Outcome) -> bool {
 
 // ---- factor
 
-fn read_settings(fd: i32) -> Settings {
-    let ncol = file::count(fd);
-    let nrow = file::count(fd);
-    let nb = file::count(fd);
-    let limit = file::count(fd);
-    let lift = file::count(fd) == 1;
-    let mode = outcome::mode_of(lift, file::number(fd));
+fn read_settings(answers: &mut File) -> Settings {
+    let ncol = file::count(answers);
+    let nrow = file::count(answers);
+    let nb = file::count(answers);
+    let limit = file::count(answers);
+    let lift = file::count(answers) == 1;
+    let mode = outcome::mode_of(lift, file::number(answers));
     Settings {
         ncol,
         nrow,
@@ -74,23 +75,23 @@ fn work_after(number: usize) -> Left {
     }
 }
 
-fn read_lengths(fd: i32) -> Lengths {
+fn read_lengths(answers: &mut File) -> Lengths {
     Lengths {
-        input: file::count(fd),
-        panel: file::count(fd),
-        d: file::count(fd),
-        sub: file::count(fd),
-        blocks: file::count(fd),
-        lifts: file::count(fd),
-        amounts: file::count(fd),
-        order: file::count(fd),
-        marks: file::count(fd),
-        work: file::count(fd),
+        input: file::count(answers),
+        panel: file::count(answers),
+        d: file::count(answers),
+        sub: file::count(answers),
+        blocks: file::count(answers),
+        lifts: file::count(answers),
+        amounts: file::count(answers),
+        order: file::count(answers),
+        marks: file::count(answers),
+        work: file::count(answers),
     }
 }
 
 fn factor_left(
-    fd: i32,
+    answers: &mut File,
     number: usize,
     n: Lengths,
     panel: &[f64],
@@ -104,18 +105,18 @@ fn factor_left(
     work: &[f64],
 ) -> bool {
     let left = outputs_after(number);
-    let mut same = file::numbers_left(fd, left, n.panel, panel);
-    same = file::numbers_left(fd, left, n.d, d) & same;
-    same = file::numbers_left(fd, left, n.sub, sub) & same;
-    same = file::bytes_left(fd, left, n.blocks, blocks) & same;
-    same = file::bytes_left(fd, left, n.lifts, lifts) & same;
-    same = file::numbers_left(fd, left, n.amounts, amounts) & same;
-    same = file::counts_left(fd, left, n.order, order) & same;
-    same = file::bytes_left(fd, left, n.marks, marks) & same;
-    file::numbers_left(fd, work_after(number), n.work, work) & same
+    let mut same = file::numbers_left(answers, left, n.panel, panel);
+    same = file::numbers_left(answers, left, n.d, d) & same;
+    same = file::numbers_left(answers, left, n.sub, sub) & same;
+    same = file::bytes_left(answers, left, n.blocks, blocks) & same;
+    same = file::bytes_left(answers, left, n.lifts, lifts) & same;
+    same = file::numbers_left(answers, left, n.amounts, amounts) & same;
+    same = file::counts_left(answers, left, n.order, order) & same;
+    same = file::bytes_left(answers, left, n.marks, marks) & same;
+    file::numbers_left(answers, work_after(number), n.work, work) & same
 }
 
-fn factor_same(fd: i32, recorded: Outcome, c: Settings, n: Lengths) -> bool {
+fn factor_same(answers: &mut File, recorded: Outcome, c: Settings, n: Lengths) -> bool {
     let mut of_input = room(0.0);
     let mut of_panel = room(file::HELD);
     let mut of_d = [file::HELD; COLUMNS];
@@ -126,7 +127,7 @@ fn factor_same(fd: i32, recorded: Outcome, c: Settings, n: Lengths) -> bool {
     let mut of_order = [file::HELD_COUNT; ROWS];
     let mut of_marks = [file::HELD_BYTE; ROWS];
     let mut of_work = room(file::HELD);
-    let input = file::numbers(fd, n.input, &mut of_input);
+    let input = file::numbers(answers, n.input, &mut of_input);
     let factored = factor::factor(
         c,
         input,
@@ -141,7 +142,7 @@ fn factor_same(fd: i32, recorded: Outcome, c: Settings, n: Lengths) -> bool {
         file::first_numbers(n.work, &mut of_work),
     );
     let left = factor_left(
-        fd,
+        answers,
         recorded.number,
         n,
         &of_panel,
@@ -157,40 +158,40 @@ fn factor_same(fd: i32, recorded: Outcome, c: Settings, n: Lengths) -> bool {
     same(outcome::of_factor(factored), recorded) & left
 }
 
-pub(crate) fn factor_case(fd: i32) -> bool {
-    let recorded = read_answer(fd);
-    let c = read_settings(fd);
-    let n = read_lengths(fd);
-    factor_same(fd, recorded, c, n)
+pub(crate) fn factor_case(answers: &mut File) -> bool {
+    let recorded = read_answer(answers);
+    let c = read_settings(answers);
+    let n = read_lengths(answers);
+    factor_same(answers, recorded, c, n)
 }
 
 // ---- inertia
 
 // The lengths of its lists.
-#[derive(Drop)]
+#[derive(Clone, Copy)]
 struct Pivots {
     d: usize,
     sub: usize,
     blocks: usize,
 }
 
-fn read_pivots(fd: i32) -> Pivots {
+fn read_pivots(answers: &mut File) -> Pivots {
     Pivots {
-        d: file::count(fd),
-        sub: file::count(fd),
-        blocks: file::count(fd),
+        d: file::count(answers),
+        sub: file::count(answers),
+        blocks: file::count(answers),
     }
 }
 
-pub(crate) fn inertia_case(fd: i32) -> bool {
-    let recorded = read_answer(fd);
-    let n = read_pivots(fd);
+pub(crate) fn inertia_case(answers: &mut File) -> bool {
+    let recorded = read_answer(answers);
+    let n = read_pivots(answers);
     let mut of_d = [0.0; COLUMNS];
     let mut of_sub = [0.0; COLUMNS];
     let mut of_blocks = [0u8; COLUMNS];
-    let d = file::numbers(fd, n.d, &mut of_d);
-    let sub = file::numbers(fd, n.sub, &mut of_sub);
-    let blocks = file::bytes(fd, n.blocks, &mut of_blocks);
+    let d = file::numbers(answers, n.d, &mut of_d);
+    let sub = file::numbers(answers, n.sub, &mut of_sub);
+    let blocks = file::bytes(answers, n.blocks, &mut of_blocks);
     same(
         outcome::of_inertia(inertia::inertia(d, sub, blocks)),
         recorded,
@@ -200,13 +201,13 @@ pub(crate) fn inertia_case(fd: i32) -> bool {
 // ---- assembly, update and solve
 
 // Whether the call answers as recorded, and leaves the list that it writes so.
-fn list_same(fd: i32, recorded: Outcome, applied: Applied, list: &[f64]) -> bool {
-    let left = file::numbers_left(fd, Left::Recorded, list.len(), list);
+fn list_same(answers: &mut File, recorded: Outcome, applied: Applied, list: &[f64]) -> bool {
+    let left = file::numbers_left(answers, Left::Recorded, list.len(), list);
     same(outcome::of_panel(applied), recorded) & left
 }
 
 // A target's shape, and the lengths of the lists of entries and of its panel.
-#[derive(Drop)]
+#[derive(Clone, Copy)]
 struct Entries {
     ncol: usize,
     nrow: usize,
@@ -216,34 +217,34 @@ struct Entries {
     panel: usize,
 }
 
-fn read_entries(fd: i32) -> Entries {
+fn read_entries(answers: &mut File) -> Entries {
     Entries {
-        ncol: file::count(fd),
-        nrow: file::count(fd),
-        rows: file::count(fd),
-        cols: file::count(fd),
-        numbers: file::count(fd),
-        panel: file::count(fd),
+        ncol: file::count(answers),
+        nrow: file::count(answers),
+        rows: file::count(answers),
+        cols: file::count(answers),
+        numbers: file::count(answers),
+        panel: file::count(answers),
     }
 }
 
-pub(crate) fn assembly_case(fd: i32) -> bool {
-    let recorded = read_answer(fd);
-    let n = read_entries(fd);
+pub(crate) fn assembly_case(answers: &mut File) -> bool {
+    let recorded = read_answer(answers);
+    let n = read_entries(answers);
     let mut of_rows = [0usize; COLUMNS];
     let mut of_cols = [0usize; COLUMNS];
     let mut of_numbers = [0.0; COLUMNS];
     let mut of_panel = room(0.0);
-    let rows = file::counts(fd, n.rows, &mut of_rows);
-    let cols = file::counts(fd, n.cols, &mut of_cols);
-    let numbers = file::numbers(fd, n.numbers, &mut of_numbers);
-    let panel = file::numbers(fd, n.panel, &mut of_panel);
+    let rows = file::counts(answers, n.rows, &mut of_rows);
+    let cols = file::counts(answers, n.cols, &mut of_cols);
+    let numbers = file::numbers(answers, n.numbers, &mut of_numbers);
+    let panel = file::numbers(answers, n.panel, &mut of_panel);
     let applied = assembly::assemble(n.ncol, n.nrow, rows, cols, numbers, panel);
-    list_same(fd, recorded, applied, panel)
+    list_same(answers, recorded, applied, panel)
 }
 
 // The shapes of a target and a descendant, the row of the target's first column, and the lengths of their lists.
-#[derive(Drop)]
+#[derive(Clone, Copy)]
 struct Nodes {
     ncol: usize,
     nrow: usize,
@@ -259,26 +260,26 @@ struct Nodes {
     krows: usize,
 }
 
-fn read_nodes(fd: i32) -> Nodes {
+fn read_nodes(answers: &mut File) -> Nodes {
     Nodes {
-        ncol: file::count(fd),
-        nrow: file::count(fd),
-        nk: file::count(fd),
-        mk: file::count(fd),
-        first: file::global_row(fd),
-        rows: file::count(fd),
-        panel: file::count(fd),
-        kpanel: file::count(fd),
-        kd: file::count(fd),
-        ksub: file::count(fd),
-        kblocks: file::count(fd),
-        krows: file::count(fd),
+        ncol: file::count(answers),
+        nrow: file::count(answers),
+        nk: file::count(answers),
+        mk: file::count(answers),
+        first: file::global_row(answers),
+        rows: file::count(answers),
+        panel: file::count(answers),
+        kpanel: file::count(answers),
+        kd: file::count(answers),
+        ksub: file::count(answers),
+        kblocks: file::count(answers),
+        krows: file::count(answers),
     }
 }
 
-pub(crate) fn update_case(fd: i32) -> bool {
-    let recorded = read_answer(fd);
-    let n = read_nodes(fd);
+pub(crate) fn update_case(answers: &mut File) -> bool {
+    let recorded = read_answer(answers);
+    let n = read_nodes(answers);
     let mut of_rows = [0u32; file::GLOBAL_ROWS];
     let mut of_panel = room(0.0);
     let mut of_kpanel = room(0.0);
@@ -286,21 +287,21 @@ pub(crate) fn update_case(fd: i32) -> bool {
     let mut of_ksub = [0.0; COLUMNS];
     let mut of_kblocks = [0u8; COLUMNS];
     let mut of_krows = [0u32; file::GLOBAL_ROWS];
-    let rows = file::global_rows(fd, n.rows, &mut of_rows);
-    let panel = file::numbers(fd, n.panel, &mut of_panel);
-    let kpanel = file::numbers(fd, n.kpanel, &mut of_kpanel);
-    let kd = file::numbers(fd, n.kd, &mut of_kd);
-    let ksub = file::numbers(fd, n.ksub, &mut of_ksub);
-    let kblocks = file::bytes(fd, n.kblocks, &mut of_kblocks);
-    let krows = file::global_rows(fd, n.krows, &mut of_krows);
+    let rows = file::global_rows(answers, n.rows, &mut of_rows);
+    let panel = file::numbers(answers, n.panel, &mut of_panel);
+    let kpanel = file::numbers(answers, n.kpanel, &mut of_kpanel);
+    let kd = file::numbers(answers, n.kd, &mut of_kd);
+    let ksub = file::numbers(answers, n.ksub, &mut of_ksub);
+    let kblocks = file::bytes(answers, n.kblocks, &mut of_kblocks);
+    let krows = file::global_rows(answers, n.krows, &mut of_krows);
     let applied = update::update(
         n.ncol, n.nrow, n.first, rows, panel, n.nk, n.mk, kpanel, kd, ksub, kblocks, krows,
     );
-    list_same(fd, recorded, applied, panel)
+    list_same(answers, recorded, applied, panel)
 }
 
 // A root node's shape, and the lengths of the lists of its factor and of the vector.
-#[derive(Drop)]
+#[derive(Clone, Copy)]
 struct System {
     ncol: usize,
     nrow: usize,
@@ -312,34 +313,34 @@ struct System {
     vector: usize,
 }
 
-fn read_system(fd: i32) -> System {
+fn read_system(answers: &mut File) -> System {
     System {
-        ncol: file::count(fd),
-        nrow: file::count(fd),
-        panel: file::count(fd),
-        d: file::count(fd),
-        sub: file::count(fd),
-        blocks: file::count(fd),
-        order: file::count(fd),
-        vector: file::count(fd),
+        ncol: file::count(answers),
+        nrow: file::count(answers),
+        panel: file::count(answers),
+        d: file::count(answers),
+        sub: file::count(answers),
+        blocks: file::count(answers),
+        order: file::count(answers),
+        vector: file::count(answers),
     }
 }
 
-pub(crate) fn solve_case(fd: i32) -> bool {
-    let recorded = read_answer(fd);
-    let n = read_system(fd);
+pub(crate) fn solve_case(answers: &mut File) -> bool {
+    let recorded = read_answer(answers);
+    let n = read_system(answers);
     let mut of_panel = room(0.0);
     let mut of_d = [0.0; COLUMNS];
     let mut of_sub = [0.0; COLUMNS];
     let mut of_blocks = [0u8; COLUMNS];
     let mut of_order = [0usize; COLUMNS];
     let mut of_vector = [0.0; COLUMNS];
-    let panel = file::numbers(fd, n.panel, &mut of_panel);
-    let d = file::numbers(fd, n.d, &mut of_d);
-    let sub = file::numbers(fd, n.sub, &mut of_sub);
-    let blocks = file::bytes(fd, n.blocks, &mut of_blocks);
-    let order = file::counts(fd, n.order, &mut of_order);
-    let vector = file::numbers(fd, n.vector, &mut of_vector);
+    let panel = file::numbers(answers, n.panel, &mut of_panel);
+    let d = file::numbers(answers, n.d, &mut of_d);
+    let sub = file::numbers(answers, n.sub, &mut of_sub);
+    let blocks = file::bytes(answers, n.blocks, &mut of_blocks);
+    let order = file::counts(answers, n.order, &mut of_order);
+    let vector = file::numbers(answers, n.vector, &mut of_vector);
     let applied = solve::solve(n.ncol, n.nrow, panel, d, sub, blocks, order, vector);
-    list_same(fd, recorded, applied, vector)
+    list_same(answers, recorded, applied, vector)
 }

@@ -1,6 +1,10 @@
 // Lists read from the file of answers, and buffers held to what the file has next. Both go by chunks of 4,096 bytes.
-// A list fills the first places of a room. Where the file ends too early, ones stand for the bits that it lacks.
+// A list fills the first places of a room. Where the file ends too early or cannot be read, ones stand for the bits
+// that it lacks.
 ghost use Rattle.std.specs.Prelude.{◌≡◌, ◌+◌, ◌*◌, ◌≤◌, min, length};
+
+use std::fs::File;
+use std::io::Read;
 
 // The most numbers, global rows, counts and bytes of a chunk.
 const NUMBERS: usize = 512;
@@ -22,7 +26,7 @@ pub(crate) const HELD_COUNT: usize = 0x4242;
 const LACKING: u8 = 0xff;
 
 // What a call is to leave in a buffer: what the file has next, zeros, or what it held.
-#[derive(Drop)]
+#[derive(Clone, Copy)]
 pub(crate) enum Left {
     Recorded,
     Zeros,
@@ -64,48 +68,65 @@ pub(crate) fn first_bytes<'a>(n: usize, room: &'a mut [u8]) -> &'a mut [u8] {
     &mut room[0..most]
 }
 
+// ---- bytes, read
+
+// Reads until the place is full, the file ends or a read fails, and answers how many bytes stand at its start.
+pub(crate) fn read_full(answers: &mut File, place: &mut [u8]) -> usize
+    ensures { result ≤ length place.new }
+{
+    let mut done = 0;
+    while done < place.len() {
+        match answers.read(&mut place[done..]) {
+            Ok(0) => return done,
+            Ok(n) => done += n,
+            Err(_) => return done,
+        }
+    }
+    done
+}
+
 // ---- a count, a global row, a number, read
 
-pub(crate) fn count(fd: i32) -> usize {
+pub(crate) fn count(answers: &mut File) -> usize {
     let mut bytes = [LACKING; 2];
-    io::read_full(fd, &mut bytes);
+    read_full(answers, &mut bytes);
     count_at(&bytes, 0)
 }
 
-pub(crate) fn global_row(fd: i32) -> u32 {
+pub(crate) fn global_row(answers: &mut File) -> u32 {
     let mut bytes = [LACKING; 4];
-    io::read_full(fd, &mut bytes);
+    read_full(answers, &mut bytes);
     little_endian::u32_at(&bytes, 0) as u32
 }
 
-pub(crate) fn number(fd: i32) -> f64 {
+pub(crate) fn number(answers: &mut File) -> f64 {
     let mut bytes = [LACKING; 8];
-    io::read_full(fd, &mut bytes);
+    read_full(answers, &mut bytes);
     little_endian::f64_at(&bytes, 0)
 }
 
 // ---- lists of n, read
 
-fn read_some_numbers(fd: i32, out: &mut [f64])
+fn read_some_numbers(answers: &mut File, out: &mut [f64])
     requires { length out.old ≤ 512 }
 {
     let mut chunk = chunk_of(LACKING);
-    io::read_full(fd, first_bytes(out.len() * 8, &mut chunk));
+    read_full(answers, first_bytes(out.len() * 8, &mut chunk));
     little_endian::numbers_at(&chunk, 0, out);
 }
 
-fn read_numbers(fd: i32, out: &mut [f64]) {
+fn read_numbers(answers: &mut File, out: &mut [f64]) {
     let mut at = 0;
     while at < out.len() {
         let end = at + least(out.len() - at, NUMBERS);
-        read_some_numbers(fd, &mut out[at..end]);
+        read_some_numbers(answers, &mut out[at..end]);
         at = end;
     }
 }
 
-pub(crate) fn numbers<'a>(fd: i32, n: usize, room: &'a mut [f64]) -> &'a mut [f64] {
+pub(crate) fn numbers<'a>(answers: &mut File, n: usize, room: &'a mut [f64]) -> &'a mut [f64] {
     let list = first_numbers(n, room);
-    read_numbers(fd, list);
+    read_numbers(answers, list);
     list
 }
 
@@ -117,10 +138,10 @@ fn counts_of(chunk: &[u8], out: &mut [usize])
     }
 }
 
-pub(crate) fn counts<'a>(fd: i32, n: usize, room: &'a mut [usize]) -> &'a mut [usize] {
+pub(crate) fn counts<'a>(answers: &mut File, n: usize, room: &'a mut [usize]) -> &'a mut [usize] {
     let most = least(least(n, COUNTS), room.len());
     let mut chunk = chunk_of(LACKING);
-    io::read_full(fd, first_bytes(most * 2, &mut chunk));
+    read_full(answers, first_bytes(most * 2, &mut chunk));
     counts_of(&chunk, &mut room[0..most]);
     &mut room[0..most]
 }
@@ -133,17 +154,17 @@ fn global_rows_of(chunk: &[u8], out: &mut [u32])
     }
 }
 
-pub(crate) fn global_rows<'a>(fd: i32, n: usize, room: &'a mut [u32]) -> &'a mut [u32] {
+pub(crate) fn global_rows<'a>(answers: &mut File, n: usize, room: &'a mut [u32]) -> &'a mut [u32] {
     let most = least(least(n, GLOBAL_ROWS), room.len());
     let mut chunk = chunk_of(LACKING);
-    io::read_full(fd, first_bytes(most * 4, &mut chunk));
+    read_full(answers, first_bytes(most * 4, &mut chunk));
     global_rows_of(&chunk, &mut room[0..most]);
     &mut room[0..most]
 }
 
-pub(crate) fn bytes<'a>(fd: i32, n: usize, room: &'a mut [u8]) -> &'a mut [u8] {
+pub(crate) fn bytes<'a>(answers: &mut File, n: usize, room: &'a mut [u8]) -> &'a mut [u8] {
     let list = first_bytes(n, room);
-    io::read_full(fd, list);
+    read_full(answers, list);
     list
 }
 
@@ -161,9 +182,9 @@ fn blank(left: Left) -> [u8; 4096]
 }
 
 // The first n bytes of such a chunk, if they are recorded.
-fn fill(fd: i32, left: Left, n: usize, want: &mut [u8]) {
+fn fill(answers: &mut File, left: Left, n: usize, want: &mut [u8]) {
     if let Left::Recorded = left {
-        io::read_full(fd, first_bytes(n, want));
+        read_full(answers, first_bytes(n, want));
     }
 }
 
@@ -194,47 +215,47 @@ pub(crate) fn same_bytes(want: &[u8], got: &[u8]) -> bool
     requires { length got.now ≤ length want.now }
 {
     let n = got.len();
-    check::same(&want[0..n], got)
+    &want[0..n] == got
 }
 
-fn some_numbers_left(fd: i32, left: Left, got: &[f64]) -> bool
+fn some_numbers_left(answers: &mut File, left: Left, got: &[f64]) -> bool
     requires { length got.now ≤ 512 }
 {
     let mut want = blank(left);
-    fill(fd, left, got.len() * 8, &mut want);
+    fill(answers, left, got.len() * 8, &mut want);
     same_numbers(&want, got)
 }
 
 // Whether the first n places of a room, or all that it has, hold what is to be left.
 
-pub(crate) fn numbers_left(fd: i32, left: Left, n: usize, room: &[f64]) -> bool {
+pub(crate) fn numbers_left(answers: &mut File, left: Left, n: usize, room: &[f64]) -> bool {
     let most = least(n, room.len());
     let mut same = true;
     let mut at = 0;
     while at < most {
         let end = at + least(most - at, NUMBERS);
-        same = some_numbers_left(fd, left, &room[at..end]) & same;
+        same = some_numbers_left(answers, left, &room[at..end]) & same;
         at = end;
     }
     same
 }
 
-pub(crate) fn counts_left(fd: i32, left: Left, n: usize, room: &[usize]) -> bool {
+pub(crate) fn counts_left(answers: &mut File, left: Left, n: usize, room: &[usize]) -> bool {
     let most = least(n, room.len());
     if most > COUNTS {
         return false;
     }
     let mut want = blank(left);
-    fill(fd, left, most * 2, &mut want);
+    fill(answers, left, most * 2, &mut want);
     same_counts(&want, &room[0..most])
 }
 
-pub(crate) fn bytes_left(fd: i32, left: Left, n: usize, room: &[u8]) -> bool {
+pub(crate) fn bytes_left(answers: &mut File, left: Left, n: usize, room: &[u8]) -> bool {
     let most = least(n, room.len());
     if most > BYTES {
         return false;
     }
     let mut want = blank(left);
-    fill(fd, left, most, &mut want);
+    fill(answers, left, most, &mut want);
     same_bytes(&want, &room[0..most])
 }

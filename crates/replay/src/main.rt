@@ -12,9 +12,10 @@ mod calls;
 mod file;
 mod sum;
 
-use libc::STDOUT_FILENO;
+use std::fs;
+use std::fs::File;
 
-#[derive(Drop)]
+#[derive(Clone, Copy)]
 enum Call {
     Factor,
     Inertia,
@@ -24,63 +25,63 @@ enum Call {
 }
 
 // Whether the next case, of this call, is answered as recorded.
-fn same(fd: i32, call: Call) -> bool {
+fn same(answers: &mut File, call: Call) -> bool {
     match call {
-        Call::Factor => calls::factor_case(fd),
-        Call::Inertia => calls::inertia_case(fd),
-        Call::Assembly => calls::assembly_case(fd),
-        Call::Update => calls::update_case(fd),
-        Call::Solve => calls::solve_case(fd),
+        Call::Factor => calls::factor_case(answers),
+        Call::Inertia => calls::inertia_case(answers),
+        Call::Assembly => calls::assembly_case(answers),
+        Call::Update => calls::update_case(answers),
+        Call::Solve => calls::solve_case(answers),
     }
 }
 
-fn say(name: &[u8], number: usize, what: &[u8]) {
-    io::write_all(STDOUT_FILENO, name);
-    io::write_all(STDOUT_FILENO, b" ");
-    io::print_decimal(STDOUT_FILENO, number as u64);
-    io::write_all(STDOUT_FILENO, what);
+fn say<P: Print>(out: &P, name: &[u8], number: usize, what: &[u8]) {
+    let _ = out.write_all(name);
+    let _ = out.write_all(b" ");
+    let _ = print!(out; "{number}");
+    let _ = out.write_all(what);
 }
 
 // So many cases of a call.
-fn replay(fd: i32, call: Call, name: &[u8], cases: usize) {
+fn replay<P: Print>(out: &P, answers: &mut File, call: Call, name: &[u8], cases: usize) {
     let mut differ: usize = 0;
     for i in 0..cases {
-        if !same(fd, call) {
-            say(name, i, b" differs\n");
+        if !same(answers, call) {
+            say(out, name, i, b" differs\n");
             differ += 1;
         }
     }
-    say(name, cases, b" replayed, ");
-    io::print_decimal(STDOUT_FILENO, differ as u64);
-    io::write_all(STDOUT_FILENO, b" differ\n");
+    say(out, name, cases, b" replayed, ");
+    let _ = println!(out; "{differ} differ");
 }
 
 // All cases of the file, from its head on.
-fn replay_all(fd: i32) {
+fn replay_all<P: Print>(out: &P, answers: &mut File) {
     let mut head = [0u8; 12];
-    file::bytes(fd, 12, &mut head);
-    let factors = file::count(fd);
-    let inertias = file::count(fd);
-    let assemblies = file::count(fd);
-    let updates = file::count(fd);
-    let solves = file::count(fd);
-    replay(fd, Call::Factor, b"factor", factors);
-    replay(fd, Call::Inertia, b"inertia", inertias);
-    replay(fd, Call::Assembly, b"assembly", assemblies);
-    replay(fd, Call::Update, b"update", updates);
-    replay(fd, Call::Solve, b"solve", solves);
+    file::bytes(answers, 12, &mut head);
+    let factors = file::count(answers);
+    let inertias = file::count(answers);
+    let assemblies = file::count(answers);
+    let updates = file::count(answers);
+    let solves = file::count(answers);
+    replay(out, answers, Call::Factor, b"factor", factors);
+    replay(out, answers, Call::Inertia, b"inertia", inertias);
+    replay(out, answers, Call::Assembly, b"assembly", assemblies);
+    replay(out, answers, Call::Update, b"update", updates);
+    replay(out, answers, Call::Solve, b"solve", solves);
 }
 
-fn main() {
-    let path = b"answers";
-    let fd = os::open_read(path);
-    if fd < 0 {
-        os::fail(path);
-        return;
+fn main(rt: HostRuntime) {
+    let path = "answers";
+    match fs::open(&rt, path) {
+        Ok(mut answers) => {
+            if !sum::intact(&rt, path) {
+                let _ = println!(rt; "the answers are damaged");
+            }
+            replay_all(&rt, &mut answers);
+        }
+        Err(error) => {
+            let _ = eprintln!(rt; "{path}: {error}");
+        }
     }
-    if !sum::intact(path) {
-        io::write_all(STDOUT_FILENO, b"the answers are damaged\n");
-    }
-    replay_all(fd);
-    libc::close(fd);
 }

@@ -2,18 +2,21 @@
 ghost use Rattle.std.specs.Prelude.{◌<◌};
 
 use crate::file;
+use std::fs;
+use std::fs::File;
+use std::rt::Files;
 
 const MODULUS: u64 = 65521;
 
 // The two running sums.
-#[derive(Drop)]
+#[derive(Clone, Copy)]
 struct Sums {
     a: u64,
     b: u64,
 }
 
 // The sums with what one read brought, and whether it brought anything.
-#[derive(Drop)]
+#[derive(Clone, Copy)]
 struct Some {
     sums: Sums,
     more: bool,
@@ -35,9 +38,9 @@ fn summed(sums: Sums, bytes: &[u8]) -> Sums {
     Sums { a, b }
 }
 
-fn sum_some(fd: i32, sums: Sums) -> Some {
-    let mut chunk = io::large_buffer();
-    let n = io::read_full(fd, &mut chunk);
+fn sum_some(answers: &mut File, sums: Sums) -> Some {
+    let mut chunk = [0u8; 65536];
+    let n = file::read_full(answers, &mut chunk);
     Some {
         sums: summed(sums, &chunk[..n]),
         more: n > 0,
@@ -45,11 +48,11 @@ fn sum_some(fd: i32, sums: Sums) -> Some {
 }
 
 // The sum of the rest of a file. Nothing says that a file ends, and a proved loop has to: its turns run out after 4 GB.
-fn sum_rest(fd: i32) -> u64 {
+fn sum_rest(answers: &mut File) -> u64 {
     let mut sums = Sums { a: 1, b: 0 };
     let mut turns: u64 = 65536;
     while turns > 0 {
-        let some = sum_some(fd, sums);
+        let some = sum_some(answers, sums);
         sums = some.sums;
         if !some.more {
             return sums.b % MODULUS * 65536 + sums.a % MODULUS;
@@ -59,11 +62,18 @@ fn sum_rest(fd: i32) -> u64 {
     0
 }
 
-pub(crate) fn intact(path: &[u8]) -> bool {
-    let fd = os::open_read(path);
+// Whether the file that was opened is so, from its first byte on.
+fn recorded(answers: &mut File) -> bool {
     let mut head = [0u8; 12];
-    file::bytes(fd, 12, &mut head);
-    let sum = sum_rest(fd);
-    libc::close(fd);
+    file::bytes(answers, 12, &mut head);
+    let sum = sum_rest(answers);
     file::same_bytes(&head, b"replay 1") & (little_endian::u32_at(&head, 8) == sum)
+}
+
+// Whether the file of that name is so; one that cannot be opened is not.
+pub(crate) fn intact<F: Files<File = File>>(files: &F, path: &str) -> bool {
+    match fs::open(files, path) {
+        Ok(mut answers) => recorded(&mut answers),
+        Err(_) => false,
+    }
 }
