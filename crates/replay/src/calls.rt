@@ -198,11 +198,10 @@ pub(crate) fn inertia_case(answers: &mut File) -> bool {
     )
 }
 
-// ---- assembly, update and solve
+// ---- assembly and update
 
-// Whether the call answers as recorded, and leaves the list that it writes so.
-fn list_same(answers: &mut File, recorded: Outcome, applied: Applied, list: &[f64]) -> bool {
-    let left = file::numbers_left(answers, Left::Recorded, list.len(), list);
+fn panel_same(answers: &mut File, recorded: Outcome, applied: Applied, panel: &[f64]) -> bool {
+    let left = file::numbers_left(answers, Left::Recorded, panel.len(), panel);
     same(outcome::of_panel(applied), recorded) & left
 }
 
@@ -240,7 +239,7 @@ pub(crate) fn assembly_case(answers: &mut File) -> bool {
     let numbers = file::numbers(answers, n.numbers, &mut of_numbers);
     let panel = file::numbers(answers, n.panel, &mut of_panel);
     let applied = assembly::assemble(n.ncol, n.nrow, rows, cols, numbers, panel);
-    list_same(answers, recorded, applied, panel)
+    panel_same(answers, recorded, applied, panel)
 }
 
 // The shapes of a target and a descendant, the row of the target's first column, and the lengths of their lists.
@@ -297,50 +296,5 @@ pub(crate) fn update_case(answers: &mut File) -> bool {
     let applied = update::update(
         n.ncol, n.nrow, n.first, rows, panel, n.nk, n.mk, kpanel, kd, ksub, kblocks, krows,
     );
-    list_same(answers, recorded, applied, panel)
-}
-
-// A root node's shape, and the lengths of the lists of its factor and of the vector.
-#[derive(Clone, Copy)]
-struct System {
-    ncol: usize,
-    nrow: usize,
-    panel: usize,
-    d: usize,
-    sub: usize,
-    blocks: usize,
-    order: usize,
-    vector: usize,
-}
-
-fn read_system(answers: &mut File) -> System {
-    System {
-        ncol: file::count(answers),
-        nrow: file::count(answers),
-        panel: file::count(answers),
-        d: file::count(answers),
-        sub: file::count(answers),
-        blocks: file::count(answers),
-        order: file::count(answers),
-        vector: file::count(answers),
-    }
-}
-
-pub(crate) fn solve_case(answers: &mut File) -> bool {
-    let recorded = read_answer(answers);
-    let n = read_system(answers);
-    let mut of_panel = room(0.0);
-    let mut of_d = [0.0; COLUMNS];
-    let mut of_sub = [0.0; COLUMNS];
-    let mut of_blocks = [0u8; COLUMNS];
-    let mut of_order = [0usize; COLUMNS];
-    let mut of_vector = [0.0; COLUMNS];
-    let panel = file::numbers(answers, n.panel, &mut of_panel);
-    let d = file::numbers(answers, n.d, &mut of_d);
-    let sub = file::numbers(answers, n.sub, &mut of_sub);
-    let blocks = file::bytes(answers, n.blocks, &mut of_blocks);
-    let order = file::counts(answers, n.order, &mut of_order);
-    let vector = file::numbers(answers, n.vector, &mut of_vector);
-    let applied = solve::solve(n.ncol, n.nrow, panel, d, sub, blocks, order, vector);
-    list_same(answers, recorded, applied, vector)
+    panel_same(answers, recorded, applied, panel)
 }

@@ -1,7 +1,6 @@
-// Replays recorded answers on the five calls and prints how many differ: those of the Rust, and for solve, which the
-// Rust has not, those of the oracle's restatement. A case differs if the answer's number, place, rounds or counts do,
-// or the bits of a buffer. data/answers has the cases; data/LEGEND says what made them, what they meet and how they are
-// written.
+// Replays recorded answers of the Rust on the four calls of the port and prints how many differ. A case differs if the
+// answer's number, place, rounds or counts do, or the bits of a buffer. data/answers has the cases; data/LEGEND says
+// what made them, what they meet and how they are written.
 // Proved is that the program is safe and ends. What stands in a file no contract can say: the run is the test.
 // Nothing of it is public: what one module has of another is the crate's own, pub(crate).
 // file.rt reads lists and holds buffers to them, calls.rt has one function a call, sum.rt the checksum by which a
@@ -21,7 +20,6 @@ enum Call {
     Inertia,
     Assembly,
     Update,
-    Solve,
 }
 
 // Whether the next case, of this call, is answered as recorded.
@@ -31,7 +29,6 @@ fn same(answers: &mut File, call: Call) -> bool {
         Call::Inertia => calls::inertia_case(answers),
         Call::Assembly => calls::assembly_case(answers),
         Call::Update => calls::update_case(answers),
-        Call::Solve => calls::solve_case(answers),
     }
 }
 
@@ -63,12 +60,10 @@ fn replay_all<P: Print>(out: &P, answers: &mut File) {
     let inertias = file::count(answers);
     let assemblies = file::count(answers);
     let updates = file::count(answers);
-    let solves = file::count(answers);
     replay(out, answers, Call::Factor, b"factor", factors);
     replay(out, answers, Call::Inertia, b"inertia", inertias);
     replay(out, answers, Call::Assembly, b"assembly", assemblies);
     replay(out, answers, Call::Update, b"update", updates);
-    replay(out, answers, Call::Solve, b"solve", solves);
 }
 
 fn main(rt: HostRuntime) {
