@@ -2,7 +2,6 @@
 use native.Mathlib.Omega.{arith}
 use Rattle.model.specs.Step.{pivots_of}
 use Rattle.model.specs.Factor.{pivoting_of}
-use Rattle.whole.specs.Whole.{whole_panels_of}
 use Rattle.panels.specs.Turn.{between}
 use Rattle.panels.proofs.Turns.{run-begin, run_more, run-stop, run-done, turn-pre, holds_same, noted_more}
 use Rattle.panels.proofs.Turns.{done-leaves, begun, further, inside}
