@@ -1,17 +1,15 @@
 -- Laws of the buffers of the stated lengths: parts of local arrays, at the program's sizes. Assumes nothing.
-use mathlib.Core.Path.{◌≡◌, refl, ◌∙◌}
+use mathlib.Core.Path.{◌≡◌, refl}
 use mathlib.Core.List.{List}
 use Prim.Native.Nat.{ℕ, zero, suc, ◌+◌, ◌-◌, ◌*◌, ◌≤◌}
 use native.Mathlib.Nat.{mul-le-mul}
 use native.Mathlib.Omega.{arith}
-use borrow.Rule.Slice.PartMut.{mid_of, mid_len}
-use lib.ListN.{length, take, replicate}
+use borrow.Rule.Slice.PartMut.{mid_of}
+use lib.ListN.{take, replicate}
 use lib.Ieee.{Float}
 use Rattle.model.specs.Scalar.{zero_f}
 use Rattle.model.specs.Factor.{work_length, factor_of}
 use Rattle.model.specs.declared.Settings.{Settings}
-use Rattle.buffers.specs.Buffers.{buffers_of}
-use Rattle.text.specs.Text.{Writes}
 use Rattle.answer.specs.Lines.{outcome_lines, cleared}
 
 -- ---- the program's sizes
@@ -30,24 +28,29 @@ square-few nb l = mul-le-mul l l
 
 -- ---- the first part of an array
 
-pub part_length : {A : Type 0} (n e : ℕ) (xs : List A) → e ≡ n → e ≤ length xs → length (mid_of 0 (e - 0) xs) ≡ n
-part_length n e xs q h = mid_len 0 e xs h ∙ omega arith
-
 take-replicate : {A : Type 0} (n m : ℕ) (v : A) → n ≤ m → take n (replicate m v) ≡ replicate n v
 take-replicate zero m v h = refl
 take-replicate (suc n) zero v h = absurd (omega arith)
 take-replicate (suc n) (suc m) v h = rw (take-replicate n m v (omega arith))
 
-pub part-clear : {A : Type 0} (n e m : ℕ) (v : A) → e ≡ n → e ≤ m → mid_of 0 (e - 0) (replicate m v) ≡ replicate n v
-part-clear n e m v q h =
-    let l : e - 0 ≡ n = omega arith in
-    rw l (take-replicate n m v (omega arith))
+pub part-clear : {A : Type 0} (n e m : ℕ) (v : A) → e ≡ n → e ≤ m → mid_of 0 e (replicate m v) ≡ replicate n v
+part-clear n e m v q h = rw q (take-replicate n m v (omega arith))
 
-pub cleared-is : {xs ys : List ℕ} {r : ℕ} (c : Settings) (input : List Float) {panel d sub amounts work : List Float} {blocks lifts order marks : List ℕ}
+pub cleared-is : {xs : List ℕ} (c : Settings) (input : List Float) {panel d sub amounts work : List Float} {blocks lifts order marks : List ℕ}
     → panel ≡ replicate (c.nrow * c.ncol) zero_f → d ≡ replicate c.ncol zero_f → sub ≡ replicate c.ncol zero_f → blocks ≡ replicate c.ncol 0
     → lifts ≡ replicate c.ncol 0 → amounts ≡ replicate c.ncol zero_f → order ≡ replicate c.nrow 0 → marks ≡ replicate (c.nrow - c.ncol) 0
     → work ≡ replicate (work_length c.nrow c.nb) zero_f
-    → Writes xs 0 (outcome_lines c (factor_of c input (buffers_of panel d sub blocks lifts amounts order marks work))) ys r
-    → Writes xs 0 (outcome_lines c (factor_of c input (cleared c))) ys r
+    → xs ≡ outcome_lines c (factor_of c input (record {
+      panel = panel;
+      d = d;
+      sub = sub;
+      blocks = blocks;
+      lifts = lifts;
+      amounts = amounts;
+      order = order;
+      marks = marks;
+      work = work;
+    }))
+    → xs ≡ outcome_lines c (factor_of c input (cleared c))
 unfolding cleared
 cleared-is c input ep ed es eb el ea eo em ew w = rw (ep, ed, es, eb, el, ea, eo, em, ew) at w

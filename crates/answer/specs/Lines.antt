@@ -1,12 +1,10 @@
 -- What the program prints for a stream of bytes. From docs/SCOPE.md, "The program node".
 -- The lines are those of crates/lines. Definitions only. Assumes nothing.
-use Rattle.std.specs.Prelude.{List, ℕ, ◌-◌, ◌*◌, replicate}
+use Rattle.std.specs.Prelude.{List, ℕ, ◌-◌, ◌*◌, replicate, Ok, Err}
 use Rattle.model.specs.Scalar.{zero_f}
 use Rattle.model.specs.Factor.{Buffers, Outcome, work_length, factor_of}
 use Rattle.model.specs.declared.Settings.{Settings}
-use Rattle.record.specs.Record.{asked_of, panel_of}
-use Rattle.record.specs.declared.Asked.{Asked}
-use Rattle.record.specs.declared.Asked.TheVariants.{Factor, Refused}
+use Rattle.record.specs.Record.{Asked, fault_number, asked_of, panel_of}
 use Rattle.lines.specs.Lines.{refused_line, said_lines}
 
 -- buffers of the stated lengths, with zeros in them
@@ -29,8 +27,8 @@ outcome_lines c o = said_lines o.answer c o.buffers
 
 -- a stream that asks for no factor is refused with no place named
 abbrev pub answered : Asked → List ℕ → List ℕ
-answered (Refused n) stream = refused_line n 0 0
-answered (Factor c) stream = outcome_lines c (factor_of c (panel_of stream c) (cleared c))
+answered (Err f) stream = refused_line (fault_number f) 0 0
+answered (Ok c) stream = outcome_lines c (factor_of c (panel_of stream c) (cleared c))
 
 -- all that is printed for a stream
 unfoldable pub printed : List ℕ → List ℕ

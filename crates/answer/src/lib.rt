@@ -1,21 +1,21 @@
 // What the program prints for a stream of bytes: a factor call's outcome, or the refusal of the stream or of the call.
-// A reader may rely on `respond` alone: what it writes is `printed` of specs/Lines.antt, whatever the bytes are. It
+// A reader may rely on `respond` alone: what it answers is `printed` of specs/Lines.antt, whatever the bytes are. It
 // asks nothing of its caller. The functions above it are a chain: run (the factor call, and crates/lines), with_buffers
 // (its buffers), read_and_factor (its input), factored.
 #![tactic(auto)]
 
-ghost use Rattle.std.specs.Prelude.{◌-◌, ◌*◌, ◌≤◌, ◌≡◌, length, take};
-ghost use Rattle.model.specs.Factor.{work_length, factor_of};
-ghost use Rattle.buffers.specs.Buffers.{buffers_of};
-ghost use Rattle.record.specs.Record.{panel_length, asked_of};
-ghost use Rattle.record.specs.declared.Asked.TheVariants.{Factor};
-ghost use Rattle.text.specs.Text.{Writes};
+ghost use Rattle.std.specs.Prelude.{◌*◌, ◌≤◌, ◌≡◌, length, Ok};
+ghost use Rattle.model.specs.Factor.{work_length, factor_of, lent_in};
+ghost use Rattle.record.specs.Record.{panel_length, fault_number, asked_of};
 ghost use Rattle.answer.specs.Lines.{outcome_lines, cleared, printed};
+ghost use Rattle.lines.specs.Lines.{refused_line};
 ghost use Rattle.lines.specs.Lengths.{LinesPre};
 ghost use Rattle.answer.specs.Lengths.{SizesPre};
 
-use model::Settings;
-use record::Asked;
+use lines::Left;
+use model::{LentBuffers, Settings};
+use record::Fault;
+use text::Text;
 
 // The program's sizes: its panel width is at most COLUMNS too.
 const COLUMNS: usize = 16;
@@ -26,37 +26,36 @@ const NUMBERS: usize = ROWS * COLUMNS;
 
 const WORK: usize = 3 * ROWS * (COLUMNS + 1) + COLUMNS * COLUMNS;
 
-// Room for every answer, of which the longest has fewer than 24,000 bytes (LinesPre of specs/Lengths.antt).
-pub const ROOM: usize = 32768;
-
 // The factor call, and what it says.
-fn run(
-    c: Settings,
-    input: &[f64],
-    panel: &mut [f64],
-    d: &mut [f64],
-    sub: &mut [f64],
-    blocks: &mut [u8],
-    lifts: &mut [u8],
-    amounts: &mut [f64],
-    order: &mut [usize],
-    marks: &mut [u8],
-    work: &mut [f64],
-    out: &mut [u8],
-) -> usize
-    requires { LinesPre c (length panel.old) (length d.old) (length sub.old) (length blocks.old)
-        (length lifts.old) (length amounts.old) (length order.old) (length marks.old) (length out.old) }
-    ensures { Writes out.old 0 (outcome_lines c (factor_of c input.now (buffers_of
-        panel.old d.old sub.old blocks.old lifts.old
-        amounts.old order.old marks.old work.old))) out.new
-        result }
+fn run(c: Settings, input: &[f64], b: &mut LentBuffers) -> Text
+    requires { LinesPre c (length b.old.panel.now) (length b.old.d.now) (length b.old.sub.now)
+        (length b.old.blocks.now) (length b.old.lifts.now) (length b.old.amounts.now)
+        (length b.old.order.now) (length b.old.marks.now) }
+    ensures { result ≡ outcome_lines c (factor_of c input.now (lent_in b.old)) }
 {
-    let answer = factor::factor(
-        c, input, panel, d, sub, blocks, lifts, amounts, order, marks, work,
-    );
-    lines::put_said(
-        c, answer, panel, d, sub, blocks, lifts, amounts, order, marks, out,
-    )
+    let answer = factor::factor(c, input, b);
+    let panel = &mut *b.panel;
+    let d = &mut *b.d;
+    let sub = &mut *b.sub;
+    let blocks = &mut *b.blocks;
+    let lifts = &mut *b.lifts;
+    let amounts = &mut *b.amounts;
+    let order = &mut *b.order;
+    let marks = &mut *b.marks;
+    let left = Left {
+        c,
+        panel,
+        d,
+        sub,
+        blocks,
+        lifts,
+        amounts,
+        order,
+        marks,
+    };
+    let mut out = Text::new();
+    lines::put_said(answer, left, &mut out);
+    out
 }
 
 // How many numbers the panel has.
@@ -67,16 +66,6 @@ fn panel_size(nrow: usize, ncol: usize) -> usize
     nrow * ncol
 }
 
-// How many rows are below the head.
-fn tail_size(nrow: usize, ncol: usize) -> usize
-    ensures { (result ≡ nrow - ncol) × (result ≤ nrow) }
-{
-    if nrow < ncol {
-        return 0;
-    }
-    nrow - ncol
-}
-
 // How many numbers the working buffer has.
 fn work_size(nrow: usize, nb: usize) -> usize
     requires { (nrow ≤ 64) × (nb ≤ 16) }
@@ -85,11 +74,11 @@ fn work_size(nrow: usize, nb: usize) -> usize
     3 * nrow * (nb + 1) + nb * nb
 }
 
-// The factor call with buffers of the stated lengths.
-fn with_buffers(c: Settings, input: &[f64], out: &mut [u8]) -> usize
-    requires { SizesPre c (length out.old) }
-    ensures { Writes out.old 0 (outcome_lines c (factor_of c input.now (cleared c)))
-        out.new result }
+// The factor call with buffers of the stated lengths, which are parts of arrays of the program's sizes: there is no
+// heap.
+fn with_buffers(c: Settings, input: &[f64]) -> Text
+    requires { SizesPre c }
+    ensures { result ≡ outcome_lines c (factor_of c input.now (cleared c)) }
 {
     let mut panel = [0.0; NUMBERS];
     let mut d = [0.0; COLUMNS];
@@ -103,56 +92,58 @@ fn with_buffers(c: Settings, input: &[f64], out: &mut [u8]) -> usize
     let ncol = c.ncol;
     let nrow = c.nrow;
     let numbers = panel_size(nrow, ncol);
-    let tail = tail_size(nrow, ncol);
+    let tail = nrow.saturating_sub(ncol);
     let size = work_size(nrow, c.nb);
-    run(
-        c,
-        input,
-        &mut panel[0..numbers],
-        &mut d[0..ncol],
-        &mut sub[0..ncol],
-        &mut blocks[0..ncol],
-        &mut lifts[0..ncol],
-        &mut amounts[0..ncol],
-        &mut order[0..nrow],
-        &mut marks[0..tail],
-        &mut work[0..size],
-        out,
-    )
+    let mut b = LentBuffers {
+        panel: &mut panel[..numbers],
+        d: &mut d[..ncol],
+        sub: &mut sub[..ncol],
+        blocks: &mut blocks[..ncol],
+        lifts: &mut lifts[..ncol],
+        amounts: &mut amounts[..ncol],
+        order: &mut order[..nrow],
+        marks: &mut marks[..tail],
+        work: &mut work[..size],
+    };
+    run(c, input, &mut b)
 }
 
 // The panel of a stream that asks for a factor, read into its place and factored.
-fn read_and_factor(c: Settings, stream: &[u8], input: &mut [f64], out: &mut [u8]) -> usize
-    requires stream_value { asked_of stream.now ≡ Factor c }
+fn read_and_factor(c: Settings, stream: &[u8], input: &mut [f64]) -> Text
+    requires stream_value { asked_of stream.now ≡ Ok c }
     requires input_len { length input.old ≡ panel_length c }
-    requires in_bounds { 32768 ≤ length out.old }
-    ensures { Writes out.old 0 (printed stream.now) out.new result }
+    ensures { result ≡ printed stream.now }
 {
     little_endian::numbers_at(stream, 30, input);
-    with_buffers(c, input, out)
+    with_buffers(c, input)
 }
 
 // A stream that asks for a factor.
-fn factored(c: Settings, stream: &[u8], out: &mut [u8]) -> usize
-    requires stream_value { asked_of stream.now ≡ Factor c }
-    requires in_bounds { 32768 ≤ length out.old }
-    ensures { Writes out.old 0 (printed stream.now) out.new result }
+fn factored(c: Settings, stream: &[u8]) -> Text
+    requires { asked_of stream.now ≡ Ok c }
+    ensures { result ≡ printed stream.now }
 {
     let mut input = [0.0; NUMBERS];
     let numbers = panel_size(c.nrow, c.ncol);
-    read_and_factor(c, stream, &mut input[0..numbers], out)
+    read_and_factor(c, stream, &mut input[..numbers])
 }
 
-// What is printed for a stream. The answer is how many bytes of out it takes.
-// in: stream, any bytes
-// out: out, any on entry
-pub fn respond(stream: &[u8], out: &mut [u8; ROOM]) -> usize
-    ensures out_after { take result out.new ≡ printed stream.now }
-    ensures upper_bound { result ≤ 32768 }
+// A stream that is turned away, with no place named.
+fn refused(fault: Fault) -> Text
+    ensures { result ≡ refused_line (fault_number fault) 0 0 }
 {
-    let asked = record::asked_by(stream);
-    match asked {
-        Asked::Factor(c) => factored(c, stream, out),
-        Asked::Refused(number) => lines::put_refused(number, 0, 0, out, 0),
+    let mut out = Text::new();
+    lines::put_refused(fault.number(), 0, 0, &mut out);
+    out
+}
+
+// What is printed for a stream.
+// in: stream, any bytes
+pub fn respond(stream: &[u8]) -> Text
+    ensures { result ≡ printed stream.now }
+{
+    match record::asked_by(stream) {
+        Ok(c) => factored(c, stream),
+        Err(fault) => refused(fault),
     }
 }

@@ -8,32 +8,31 @@ ghost use Rattle.model.specs.Matrix.{view, vec, naturals};
 ghost use Rattle.model.specs.Assembly.{entries_sound, first_not, place_sound, assembly_check};
 ghost use Rattle.model.specs.Assembly.{added_at, assembled_from, assembly_of};
 ghost use Rattle.grid.specs.Grid.{In};
-ghost use Rattle.model.specs.declared.Refusal.TheVariants.{AssemblyPlace, AssemblyNumber};
+ghost use Rattle.model.specs.declared.Refusal.TheVariants.{AssemblyPlace};
 ghost use Rattle.checks.specs.Answers.{leaves};
-ghost use Rattle.checks.specs.Finite.{finite_at};
-ghost use Rattle.assembly.specs.Call.{entries_of, AddPre};
+ghost use Rattle.assembly.specs.Call.{entries_in, AddPre};
 
-use model::{Applied, Check, Elim, LocalRow, Refusal};
+use model::{Elim, LocalRow, Refusal};
+
+// Entries as they are listed: their local rows, columns and numbers.
+#[derive(Clone, Copy)]
+pub struct Entries<'a> {
+    pub rows: &'a [usize],
+    pub columns: &'a [usize],
+    pub numbers: &'a [f64],
+}
 
 // ---- refusals
 
 // Refusal 10's test. The panel's length is worked out once the shape is sound, so that the product fits.
-fn entries_sound(
-    ncol: usize,
-    nrow: usize,
-    rows: &[usize],
-    cols: &[usize],
-    numbers: &[f64],
-    panel: &[f64],
-) -> bool
-    ensures { result ≡ entries_sound ncol nrow
-        (entries_of rows.now cols.now numbers.now) panel.now }
+fn entries_sound(ncol: usize, nrow: usize, es: Entries, panel: &[f64]) -> bool
+    ensures { result ≡ entries_sound ncol nrow (entries_in es.entry) panel.now }
 {
     if !checks::shape_sound(ncol, nrow) {
         return false;
     }
-    let n = rows.len();
-    (cols.len() == n) & ((numbers.len() == n) & (panel.len() == nrow * ncol))
+    let n = es.rows.len();
+    (es.columns.len() == n) & ((es.numbers.len() == n) & (panel.len() == nrow * ncol))
 }
 
 // Refusal 11's test: row and column are a place of the lower triangle or of the tail.
@@ -44,57 +43,37 @@ fn place_sound(ncol: usize, nrow: usize, row: LocalRow, column: Elim) -> bool
 }
 
 // Refusal 11: the first entry whose place is not in the panel's lower part.
-fn first_bad_place(ncol: usize, nrow: usize, rows: &[usize], cols: &[usize]) -> Check
-    requires { length cols.now ≡ length rows.now }
-    ensures { result
-        ≡ first_not (place_sound ncol nrow (naturals rows.now) (naturals cols.now)) AssemblyPlace
-        (length rows.now) 0 }
+fn first_bad_place(ncol: usize, nrow: usize, es: Entries) -> Result<(), Refusal>
+    requires { length es.columns.now ≡ length es.rows.now }
+    ensures { result ≡ first_not
+        (place_sound ncol nrow (naturals es.entry.rows.now) (naturals es.entry.columns.now)) AssemblyPlace
+        (length es.entry.rows.now) 0 }
 {
-    let mut k = 0;
-    while k < rows.len() {
-        if !place_sound(ncol, nrow, LocalRow(rows[k]), Elim(cols[k])) {
-            return Check::Refused(Refusal::AssemblyPlace(k));
-        }
-        k += 1;
+    let mut places = es.rows.iter().zip(es.columns);
+    let at = places.position(|(row, column)| !place_sound(
+        ncol,
+        nrow,
+        LocalRow(*row),
+        Elim(*column),
+    ));
+    match at {
+        Some(k) => Err(Refusal::AssemblyPlace(k)),
+        None => Ok(()),
     }
-    Check::Sound
-}
-
-// Refusal 12: the first entry that is not finite.
-fn first_bad_number(numbers: &[f64]) -> Check
-    ensures { result ≡ first_not (finite_at numbers.now) AssemblyNumber
-        (length numbers.now) 0 }
-{
-    let mut k = 0;
-    while k < numbers.len() {
-        if !scalar::is_finite(numbers[k]) {
-            return Check::Refused(Refusal::AssemblyNumber(k));
-        }
-        k += 1;
-    }
-    Check::Sound
 }
 
 // Refusals 10 to 12.
-fn assembly_check(
-    ncol: usize,
-    nrow: usize,
-    rows: &[usize],
-    cols: &[usize],
-    numbers: &[f64],
-    panel: &[f64],
-) -> Check
-    ensures { result ≡ assembly_check ncol nrow
-        (entries_of rows.now cols.now numbers.now) panel.now }
+fn assembly_check(ncol: usize, nrow: usize, es: Entries, panel: &[f64]) -> Result<(), Refusal>
+    ensures { result ≡ assembly_check ncol nrow (entries_in es.entry) panel.now }
 {
-    if !entries_sound(ncol, nrow, rows, cols, numbers, panel) {
-        return Check::Refused(Refusal::AssemblyLength);
+    if !entries_sound(ncol, nrow, es, panel) {
+        return Err(Refusal::AssemblyLength);
     }
-    let places = first_bad_place(ncol, nrow, rows, cols);
-    let Check::Sound = places else {
-        return places;
-    };
-    first_bad_number(numbers)
+    first_bad_place(ncol, nrow, es)?;
+    match checks::first_bad_number(es.numbers) {
+        Some(k) => Err(Refusal::AssemblyNumber(k)),
+        None => Ok(()),
+    }
 }
 
 // ---- the entries
@@ -111,38 +90,29 @@ fn add_at(panel: &mut [f64], nrow: usize, row: LocalRow, column: Elim, v: f64)
 
 // The entries are added as listed.
 // origin: src/numeric/ldlt/node.rs, fn ll_factor_node
-fn add_entries(nrow: usize, rows: &[usize], cols: &[usize], numbers: &[f64], panel: &mut [f64])
-    requires { AddPre nrow rows.now cols.now numbers.now (length panel.old) }
-    ensures { view nrow panel.new
-        ≡ assembled_from (naturals rows.now) (naturals cols.now) (vec numbers.now)
-        (length rows.now) 0 (view nrow panel.old) }
+fn add_entries(nrow: usize, es: Entries, panel: &mut [f64])
+    requires { AddPre nrow es.rows.now es.columns.now es.numbers.now (length panel.old) }
+    ensures { view nrow panel.new ≡ assembled_from (naturals es.entry.rows.now) (naturals es.entry.columns.now)
+        (vec es.entry.numbers.now) (length es.entry.rows.now) 0 (view nrow panel.old) }
 {
-    let mut k = 0;
-    while k < rows.len() {
-        add_at(panel, nrow, LocalRow(rows[k]), Elim(cols[k]), numbers[k]);
-        k += 1;
+    let Entries {
+        rows,
+        columns,
+        numbers,
+    } = es;
+    // by places, as three lists are read at each
+    for k in 0..rows.len() {
+        add_at(panel, nrow, LocalRow(rows[k]), Elim(columns[k]), numbers[k]);
     }
 }
 
-// in: ncol and nrow, the node's columns and rows; rows, cols, numbers: the entries' local rows, columns and numbers,
-// three lists of one length.
+// in: ncol and nrow, the node's columns and rows; es, the entries: three lists of one length.
 // in and out: panel, nrow·ncol numbers, column-major; any on entry.
 // Done, or refusal 10, 11 or 12.
-pub fn assemble(
-    ncol: usize,
-    nrow: usize,
-    rows: &[usize],
-    cols: &[usize],
-    numbers: &[f64],
-    panel: &mut [f64],
-) -> Applied
-    ensures { leaves result panel.new ≡ assembly_of ncol nrow
-        (entries_of rows.now cols.now numbers.now) panel.old }
+pub fn assemble(ncol: usize, nrow: usize, es: Entries, panel: &mut [f64]) -> Result<(), Refusal>
+    ensures { leaves result panel.new ≡ assembly_of ncol nrow (entries_in es.entry) panel.old }
 {
-    let checked = assembly_check(ncol, nrow, rows, cols, numbers, &panel[..]);
-    let Check::Sound = checked else {
-        return checks::answer(checked);
-    };
-    add_entries(nrow, rows, cols, numbers, panel);
-    Applied::Done
+    assembly_check(ncol, nrow, es, &panel[..])?;
+    add_entries(nrow, es, panel);
+    Ok(())
 }

@@ -27,18 +27,13 @@ row_in blocks n k hi lo i s len w e h g = omega (arith, w.rows, col-in n n k len
 pub row_fits : (blocks : List ℕ) (n k hi lo i s len : ℕ) → ColumnPre blocks n k hi len → s ≡ column_start n k → lo < i → i ≤ hi → len < 2 ^ 64 → Fits w64 (i - 1 + s)
 row_fits blocks n k hi lo i s len w e h g o = record { fits = omega (arith, row_in blocks n k hi lo i s len w e h g) }
 
--- four columns, which begin at a, b, c and d, are there
-pub four-there : (n k lo a b c d len : ℕ) → BelowPre n k lo len → (a ≡ 0 + column_start n k) × (b ≡ 0 + column_start n (k + 1))
-    → (c ≡ 0 + column_start n (k + 2)) × (d ≡ 0 + column_start n (k + 3)) → (a + n ≤ len) × (b + n ≤ len) × (c + n ≤ len) × (d + n ≤ len)
-four-there n k lo a b c d len w (ea, eb) (ec, ed) = (
-  omega (arith, there k (omega (arith, w.columns))),
-  omega (arith, there (k + 1) (omega (arith, w.columns))),
-  omega (arith, there (k + 2) (omega (arith, w.columns))),
-  omega (arith, there (k + 3) (omega (arith, w.columns))),
-)
+-- four columns, of which the u-th begins at `from u`, are there
+pub four-there : (n k lo len : ℕ) (from : ℕ → ℕ) → BelowPre n k lo len → ((u : ℕ) → u < 4 → from u ≡ 0 + column_start n (k + u))
+    → (from 0 + n ≤ len) × (from 1 + n ≤ len) × (from 2 + n ≤ len) × (from 3 + n ≤ len)
+four-there n k lo len from w e = (there 0 (omega arith), there 1 (omega arith), there 2 (omega arith), there 3 (omega arith))
   where
-    there : (j : ℕ) → j < n → n + j * n ≤ len
-    there j h = col-in n n j len w.area h
+    there : (u : ℕ) → u < 4 → from u + n ≤ len
+    there u h = omega (arith, e u h, col-in n n (k + u) len w.area (omega (arith, w.columns)))
 
 -- ---- any sum that goes down
 

@@ -13,7 +13,7 @@ use Rattle.model.specs.Step.{past_of}
 use Rattle.model.specs.Solve.{back_at, back_from}
 use Rattle.model.proofs.Past.{past_near}
 use Rattle.kernels.proofs.Laws.{vec-set}
-use Rattle.forward.specs.Forward.{ForwardPre, ColumnPre, BelowPre, TogetherPre}
+use Rattle.forward.specs.Forward.{ForwardPre, ColumnPre, TogetherPre}
 use Rattle.forward.proofs.Together.{column-pre, beside-pre, rest-pre}
 use Rattle.forward.proofs.Positions.{put_other}
 use Rattle.back.specs.Back.{fallen, fallen_whole, step_back, two_back, steps_back, TwoPre}
@@ -104,9 +104,6 @@ second-of-two blocks n k hi len w = w.second
 
 pub first-of-two : (blocks : List ℕ) (n m k hi len : ℕ) → TwoPre blocks n k hi len → m ≡ n → ColumnPre blocks m k hi len
 first-of-two blocks n m k hi len w e = rw e w.first
-
-pub down-pre : (blocks : List ℕ) (n k hi len : ℕ) → TogetherPre blocks n k len → hi ≡ min (k + 5) n → BelowPre n k hi len
-down-pre blocks n k hi len w h = record { columns = w.columns; rows = omega arith; area = w.whole.area }
 
 pub ones-pre : (blocks : List ℕ) (n m s k len : ℕ) → ForwardPre blocks n len → m ≡ n → s < k → k ≤ n → ColumnPre blocks m (k - 1) n len
 ones-pre blocks n m s k len w e h g = column-pre blocks n m 0 n n (k - 1) len (rest-pre blocks n n 0 len w refl (omega arith)) e (omega arith)

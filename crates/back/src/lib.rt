@@ -2,6 +2,8 @@
 // last one down. That is a sum down a column, which keeps its order; so that the machine need not wait for each term,
 // the sums of four columns go down together as far as none of the four is needed, and only the small triangle between
 // the four is left to one after another. A reader may rely on the contract of `back`.
+// (Panel, block bytes and vector are lent each by itself: a struct of two shared lists and a lent one would serve this
+// crate alone.)
 #![tactic(auto)]
 
 ghost use Rattle.std.specs.Prelude.{◌≡◌, ◌+◌, ◌-◌, ◌*◌, ◌≤◌, length};
@@ -13,10 +15,6 @@ ghost use Rattle.back.specs.Back.{fallen, fallen_whole, step_back, two_back, ste
 use grid::column_start;
 use model::Elim;
 
-// The sums of four columns.
-#[derive(Clone, Copy)]
-struct FourSums(f64, f64, f64, f64);
-
 // v less the entries of L in column k times x, from row hi - 1 down.
 fn less_down(panel: &[f64], blocks: &[u8], x: &[f64], k: usize, hi: usize, v: f64) -> f64
     requires { ColumnPre blocks.now (length x.now) k hi (length panel.now) }
@@ -26,46 +24,40 @@ fn less_down(panel: &[f64], blocks: &[u8], x: &[f64], k: usize, hi: usize, v: f6
     let start = column_start(x.len(), k);
     let past = diagonal::past(blocks, Elim(k));
     let mut s = v;
-    let mut i = hi;
-    while past < i {
-        i -= 1;
+    // by places, since the column of L and x are read in step, from the last row down
+    for i in (past..hi).rev() {
         s = s - panel[i + start] * x[i];
     }
     s
 }
 
 // x[k] to x[k + 3], each less the rows of its column from the last down to lo times x.
-fn four_down(panel: &[f64], x: &[f64], k: usize, lo: usize) -> FourSums
+fn four_down(panel: &[f64], x: &[f64], k: usize, lo: usize) -> [f64; 4]
     requires { BelowPre (length x.now) k lo (length panel.now) }
-    ensures result_value { (result.0 ≡ fallen_whole (view (length x.now) panel.now) (vec x.now)
+    ensures result_value { (vec result 0 ≡ fallen_whole (view (length x.now) panel.now) (vec x.now)
         k (length x.now - lo) lo)
-        × (result.1 ≡ fallen_whole (view (length x.now) panel.now) (vec x.now)
+        × (vec result 1 ≡ fallen_whole (view (length x.now) panel.now) (vec x.now)
         (k + 1) (length x.now - lo) lo) }
-    ensures result_value_2 { (result.2 ≡ fallen_whole (view (length x.now) panel.now) (vec x.now)
+    ensures result_value_2 { (vec result 2 ≡ fallen_whole (view (length x.now) panel.now) (vec x.now)
         (k + 2) (length x.now - lo) lo)
-        × (result.3 ≡ fallen_whole (view (length x.now) panel.now) (vec x.now)
+        × (vec result 3 ≡ fallen_whole (view (length x.now) panel.now) (vec x.now)
         (k + 3) (length x.now - lo) lo) }
 {
     let n = x.len();
-    let at = grid::four_places(n, k, 0);
-    let a = at.0;
-    let b = at.1;
-    let c = at.2;
-    let d = at.3;
+    let [a, b, c, d] = grid::places::<4>(n, k, 0);
+    // a variable for each sum, and no array: what the machine keeps in registers
     let mut s0 = x[k];
     let mut s1 = x[k + 1];
     let mut s2 = x[k + 2];
     let mut s3 = x[k + 3];
-    let mut i = n;
-    while lo < i {
-        i -= 1;
+    for i in (lo..n).rev() {
         let v = x[i];
         s0 = s0 - panel[a + i] * v;
         s1 = s1 - panel[b + i] * v;
         s2 = s2 - panel[c + i] * v;
         s3 = s3 - panel[d + i] * v;
     }
-    FourSums(s0, s1, s2, s3)
+    [s0, s1, s2, s3]
 }
 
 // Position k, whose sum stands at v from row hi on.
@@ -94,9 +86,9 @@ fn back_together(panel: &[f64], blocks: &[u8], x: &mut [f64], k: usize)
         (view (length x.old) panel.now) (length x.old) 4 k (vec x.old) }
 {
     let hi = diagonal::past_four(k, x.len());
-    let s = four_down(panel, &x[..], k, hi);
-    two_back(panel, blocks, x, k + 2, hi, s.2, s.3);
-    two_back(panel, blocks, x, k, hi, s.0, s.1);
+    let [s0, s1, s2, s3] = four_down(panel, &x[..], k, hi);
+    two_back(panel, blocks, x, k + 2, hi, s2, s3);
+    two_back(panel, blocks, x, k, hi, s0, s1);
 }
 
 // The last positions down to s, one by one.
@@ -108,9 +100,7 @@ fn back_by_ones(panel: &[f64], blocks: &[u8], x: &mut [f64], s: usize)
         (vec x.old) }
 {
     let n = x.len();
-    let mut k = n;
-    while s < k {
-        k -= 1;
+    for k in (s..n).rev() {
         let v = x[k];
         step_back(panel, blocks, x, k, n, v);
     }
@@ -124,9 +114,7 @@ fn back_by_fours(panel: &[f64], blocks: &[u8], x: &mut [f64], q: usize)
         (view (length x.old) panel.now) (length x.old) (4 * q) 0
         (vec x.old) }
 {
-    let mut f = q;
-    while 0 < f {
-        f -= 1;
+    for f in (0..q).rev() {
         back_together(panel, blocks, x, 4 * f);
     }
 }

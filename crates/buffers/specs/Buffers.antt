@@ -1,6 +1,6 @@
 -- The buffers of a factor call before its first panel and after a refusal. From docs/SCOPE.md, "The factor call" and "Refusals".
 -- Definitions only. Assumes nothing.
-use Rattle.std.specs.Prelude.{◌≡◌, List, ℕ, ◌-◌, ◌≤◌, length, replicate, Float}
+use Rattle.std.specs.Prelude.{List, ℕ, length, replicate, Float}
 use Rattle.model.specs.Scalar.{zero_f}
 use Rattle.model.specs.Matrix.{tabulate}
 use Rattle.model.specs.Factor.{Buffers}
@@ -23,19 +23,16 @@ buffers_of panel d sub blocks lifts amounts order marks work = record {
 unfoldable pub in_order : ℕ → List ℕ
 in_order n = tabulate n (λ i. i)
 
--- before the first panel: the panel is the input, nothing is eliminated or lifted, every row is in its place
-pub record Begun (given panels ds subs : List Float) (bs ls : List ℕ) (lifted : List Float) (os : List ℕ) : Type 0 where
-  pub panel : panels ≡ given
-  pub d : ds ≡ replicate (length ds) zero_f
-  pub sub : subs ≡ replicate (length subs) zero_f
-  pub blocks : bs ≡ replicate (length bs) 0
-  pub lifts : ls ≡ replicate (length ls) 0
-  pub amounts : lifted ≡ replicate (length lifted) zero_f
-  pub order : os ≡ in_order (length os)
-
--- numbers a up to e of two lists, no more than a part
-pub record PartPre (a e xlen slen : ℕ) : Type 0 where
-  pub up : a ≤ e
-  pub out : e ≤ xlen
-  pub source : e ≤ slen
-  pub few : e - a ≤ 256
+-- before the first panel: the panel is the input, nothing is eliminated or lifted, every row is in its place; the marks and the working buffer stay
+abbrev pub begun_of : List Float → Buffers → Buffers
+begun_of given b = record {
+  panel = given;
+  d = replicate (length b.d) zero_f;
+  sub = replicate (length b.sub) zero_f;
+  blocks = replicate (length b.blocks) 0;
+  lifts = replicate (length b.lifts) 0;
+  amounts = replicate (length b.amounts) zero_f;
+  order = in_order (length b.order);
+  marks = b.marks;
+  work = b.work;
+}

@@ -1,2 +1,2 @@
--- The buffers before the first panel and after a refusal, and what the functions ask of their callers.
+-- The buffers before the first panel and after a refusal.
 pub mod Buffers

@@ -6,14 +6,11 @@ use mathlib.Core.Bool.{Bool}
 use native.Mathlib.Omega.{arith}
 use borrow.Author.Tests.{lt-ltb, le-ltb}
 use lib.Dec.{ltb}
-use mir.Syntax.{w64}
-use mir.Val.{Fits}
 use Rattle.model.specs.Sizes.{most_columns, most_rounds}
 use Rattle.model.specs.Matrix.{Mat}
-use Rattle.model.specs.Step.{Pivots, is_block}
+use Rattle.model.specs.Step.{Pivots, SameRecord, is_block}
 use Rattle.model.specs.Head.{State, Tried, refused_by, took, try_of, last_of, noted, Progress, going, after, panel_of}
 use Rattle.model.specs.Kept.{Starts, Recorded}
-use Rattle.model.specs.declared.Frame.{Frame}
 use Rattle.model.specs.declared.Pivoting.{Pivoting}
 use Rattle.model.specs.declared.Pivot.{Pivot}
 use Rattle.model.specs.declared.Refusal.{Refusal}
@@ -21,15 +18,13 @@ use Rattle.model.proofs.Bounds.{GoodPivot}
 use Rattle.model.proofs.Recorded.{last-from as last-ge, Reached, panel-reached, noted-recorded, noted-starts, end-starts}
 use Rattle.model.proofs.Cases.{test}
 use Rattle.whole.proofs.Steps.{Went, PivotsInside, panel-inside}
-use Rattle.step.specs.Answers.{tried}
-use Rattle.step.specs.Terms.{PivotIn, TakenIn, PanelPre, StepPre}
-use Rattle.step.specs.declared.Taken.{Taken}
-use Rattle.step.specs.declared.Taken.TheVariants.{Refused, Took}
-use Rattle.bunch_kaufman.specs.Answers.{progress, ended_by}
-use Rattle.bunch_kaufman.specs.Terms.{NotedTo, PanelNoted, RanTo, NotesPre}
+use Rattle.step.specs.Answers.{Taken, tried}
+use Rattle.step.specs.Terms.{PivotIn, TakenIn}
+use Rattle.bunch_kaufman.specs.Answers.{progress}
+use Rattle.bunch_kaufman.specs.Terms.{NotedTo, PanelNoted, NotesPre}
 use Rattle.notes.specs.Notes.{NotePre}
-use Rattle.bunch_kaufman.specs.declared.Ran.{Ran}
-use Rattle.bunch_kaufman.specs.declared.Ran.TheVariants.{Done}
+use Rattle.model.specs.declared.PivotRecord.{PivotRecord}
+use Rattle.std.specs.Prelude.{Ok, Err}
 
 -- ---- steps in turn
 
@@ -61,7 +56,7 @@ module _ (ke : ℕ) (how : Pivoting) where
 
   -- a pivot is taken: T answers for the step, e is the pivot's last column, P its notes
   pub panel-step : (s : State) (k e : ℕ) (R : Progress) (T : Taken) (v : Pivot) (a m : Mat) (P : Pivots)
-      → panel_of ke how (ke - k) k s ≡ R → k < ke → tried T a m ≡ try_of ke s.a s.mult how k → T ≡ Took v → e ≡ last_of k (is_block v.diagonal)
+      → panel_of ke how (ke - k) k s ≡ R → k < ke → tried T a m ≡ try_of ke s.a s.mult how k → T ≡ Ok v → e ≡ last_of k (is_block v.diagonal)
       → P ≡ noted s.pivots k e v
       → panel_of ke how (ke - (e + 1)) (e + 1) (record { a = a; mult = m; pivots = P; rounds = s.rounds + v.rounds }) ≡ R
   unfolding tried
@@ -72,17 +67,15 @@ module _ (ke : ℕ) (how : Pivoting) where
       ∙ sym (panel-open k s h) ∙ r)
 
   -- the step refuses, and its refusal is the panel's
-  pub panel-stop : (s : State) (k : ℕ) (R : Progress) (T : Taken) (r : Refusal) (a m : Mat) (A : Ran) (f : ℕ → State)
-      → panel_of ke how (ke - k) k s ≡ R → k < ke → tried T a m ≡ try_of ke s.a s.mult how k → T ≡ Refused r → A ≡ ended_by T
-      → progress A ke f ≡ R
+  pub panel-stop : (s : State) (k : ℕ) (R : Progress) (T : Taken) (r : Refusal) (a m : Mat) (f : ℕ → State)
+      → panel_of ke how (ke - k) k s ≡ R → k < ke → tried T a m ≡ try_of ke s.a s.mult how k → T ≡ Err r → progress (Err r) ke f ≡ R
   unfolding tried progress
-  panel-stop s k R T r a m A f e h t z w =
-      ap (λ (x : Ran). progress x ke f) (w ∙ ap ended_by z)
-      ∙ sym (ap (λ (o : Tried). after o s k (panel_of ke how (ke - (k + 1)))) (sym t ∙ ap (λ (u : Taken). tried u a m) z))
+  panel-stop s k R T r a m f e h t z =
+      sym (ap (λ (o : Tried). after o s k (panel_of ke how (ke - (k + 1)))) (sym t ∙ ap (λ (u : Taken). tried u a m) z))
       ∙ sym (panel-open k s h) ∙ e
 
   -- the columns are done
-  pub panel-end : (f : ℕ → State) (k n : ℕ) (R : Progress) → panel_of ke how (ke - k) k (f n) ≡ R → ke ≤ k → k ≤ ke → progress (Done n) ke f ≡ R
+  pub panel-end : (f : ℕ → State) (k n : ℕ) (R : Progress) → panel_of ke how (ke - k) k (f n) ≡ R → ke ≤ k → k ≤ ke → progress (Ok n) ke f ≡ R
   unfolding panel_of progress
   panel-end f k n R r h l =
       let q : ke - k ≡ 0 = omega arith in
@@ -91,53 +84,44 @@ module _ (ke : ℕ) (how : Pivoting) where
 
 -- ---- what a turn of the loop asks and keeps
 
-pub step-pre : (at : Frame) (k len₀ len_m₀ len len_m : ℕ) → PanelPre at len₀ len_m₀ → len ≡ len₀ → len_m ≡ len_m₀ → at.kb ≤ k → k < at.ke
-    → StepPre at k k len len_m
-step-pre at k len₀ len_m₀ len len_m h p q l m = record { sizes = rw (p, q) h; from = l; last = m }
-
-took_in : (ke k : ℕ) (T : Taken) (v : Pivot) → TakenIn ke k T → T ≡ Took v → PivotIn ke k v
+took_in : (ke k : ℕ) (T : Taken) (v : Pivot) → TakenIn ke k T → T ≡ Ok v → PivotIn ke k v
 took_in ke k T v g e = subst (λ (u : Taken). TakenIn ke k u) e g
 
-pub note-pre : {ke k e ld ls lb lp ll la lo ld₀ ls₀ lb₀ lp₀ ll₀ la₀ lo₀ : ℕ} {T : Taken} {v : Pivot}
-    → TakenIn ke k T → T ≡ Took v → e ≡ last_of k (is_block v.diagonal) → ke ≤ most_columns → NotesPre ke ld₀ ls₀ lb₀ lp₀ ll₀ la₀ lo₀
-    → ld ≡ ld₀ → ls ≡ ls₀ → lb ≡ lb₀ → lp ≡ lp₀ → ll ≡ ll₀ → la ≡ la₀ → lo ≡ lo₀
-    → NotePre k e v.p.0 v.kp.0 ld ls lb lp ll la lo
-note-pre {ke} {k} {T = T} {v = v} g z l few h e1 e2 e3 e4 e5 e6 e7 =
+pub note-pre : (ke k e : ℕ) (T : Taken) (v : Pivot) (x y : PivotRecord)
+    → TakenIn ke k T → T ≡ Ok v → e ≡ last_of k (is_block v.diagonal) → ke ≤ most_columns → NotesPre ke x → SameRecord x y
+    → NotePre k e v.p.0 v.kp.0 y
+note-pre ke k e T v x y g z l few h s =
     let w = took_in ke k T v g z in
     let m = last-ge k (is_block v.diagonal) in
     let a = w.last in
     let b = w.row in
+    let f = w.first in
+    let order = s.order.count in
     record {
       from = omega arith;
-      d = omega (arith, h.d);
-      sub = omega (arith, h.sub);
-      blocks = omega (arith, h.blocks);
-      partners = omega (arith, h.partners);
-      lifts = omega (arith, h.lifts);
-      amounts = omega (arith, h.amounts);
+      d = omega (arith, h.d, s.d.count);
+      sub = omega (arith, h.sub, s.sub.count);
+      blocks = omega (arith, h.blocks, s.blocks.count);
+      partners = omega (arith, h.partners, s.partners.count);
+      lifts = omega (arith, h.lifts, s.lifts.count);
+      amounts = omega (arith, h.amounts, s.amounts.count);
       order = omega (arith, h.order);
       row = omega (arith, h.order);
-      first = omega (arith, h.order, w.first);
-      first_head = omega (arith, w.first);
+      first = omega (arith, h.order);
+      first_head = omega arith;
       row_head = omega arith;
     }
-
-pub rounds-fit : (ke k r : ℕ) (T : Taken) (v : Pivot) → TakenIn ke k T → T ≡ Took v → r ≤ most_rounds * k → k < ke → ke ≤ most_columns → Fits w64 (r + v.rounds)
-rounds-fit ke k r T v g z h l m = record { fits = omega (arith, (took_in ke k T v g z).few) }
-
-pub next_fits : (ke k e : ℕ) (T : Taken) (v : Pivot) → TakenIn ke k T → T ≡ Took v → e ≡ last_of k (is_block v.diagonal) → ke ≤ most_columns → Fits w64 (e + 1)
-next_fits ke k e T v g z l m = record { fits = omega (arith, (took_in ke k T v g z).last) }
 
 pub next-from : (kb k e : ℕ) (b : Bool) → e ≡ last_of k b → kb ≤ k → kb ≤ e + 1
 next-from kb k e b l h = omega (arith, last-ge k b)
 
-pub next-in : (ke k e : ℕ) (T : Taken) (v : Pivot) → TakenIn ke k T → T ≡ Took v → e ≡ last_of k (is_block v.diagonal) → e + 1 ≤ ke
+pub next-in : (ke k e : ℕ) (T : Taken) (v : Pivot) → TakenIn ke k T → T ≡ Ok v → e ≡ last_of k (is_block v.diagonal) → e + 1 ≤ ke
 next-in ke k e T v g z l = omega (arith, (took_in ke k T v g z).last)
 
 pub next-less : (ke k e : ℕ) (b : Bool) → e ≡ last_of k b → k < ke → ke - (e + 1) < ke - k
 next-less ke k e b l h = omega (arith, last-ge k b)
 
-pub next-few : (ke k e r : ℕ) (T : Taken) (v : Pivot) → TakenIn ke k T → T ≡ Took v → e ≡ last_of k (is_block v.diagonal) → r ≤ most_rounds * k
+pub next-few : (ke k e r : ℕ) (T : Taken) (v : Pivot) → TakenIn ke k T → T ≡ Ok v → e ≡ last_of k (is_block v.diagonal) → r ≤ most_rounds * k
     → r + v.rounds ≤ most_rounds * (e + 1)
 next-few ke k e r T v g z l h = omega (arith, (took_in ke k T v g z).few, last-ge k (is_block v.diagonal))
 
@@ -157,14 +141,10 @@ from_step kb ke limit k p v g w = record {
   start = noted-starts kb k (last_of k (is_block v.diagonal)) p v w.at (last-ge k (is_block v.diagonal)) w.start;
 }
 
--- a refusal leaves nothing to say of the notes
-pub notes-stop : (kb ke : ℕ) (T : Taken) (r : Refusal) (A : Ran) (f g : ℕ → ℕ) → T ≡ Refused r → A ≡ ended_by T → RanTo kb ke A f g
-notes-stop kb ke T r A f g z w = rw (w, z) tt
-
 -- the notes of the state u after a panel's steps from s
-pub notes-end : (ke : ℕ) (how : Pivoting) (kb k before : ℕ) (s u : State) → NotedTo kb ke before s.pivots.diagonals.blocks s.pivots.partners → kb ≤ ke
+pub notes-end : (ke : ℕ) (how : Pivoting) (kb k before : ℕ) (s u : State) → NotedTo kb ke before s.pivots → kb ≤ ke
     → panel_of ke how (ke - k) k u ≡ panel_of ke how (ke - kb) kb s → ke ≤ k → k ≤ ke → u.rounds ≤ most_rounds * k
-    → PanelNoted kb ke u.rounds u.pivots.diagonals.blocks u.pivots.partners
+    → PanelNoted kb ke u.rounds u.pivots
 unfolding panel_of
 notes-end ke how kb k before s u h a e l m r =
     let q : ke - k ≡ 0 = omega arith in

@@ -1,17 +1,13 @@
--- The declared answer of a panel's steps in the model's words. Definitions only. Assumes nothing.
-use Rattle.std.specs.Prelude.{ℕ}
+-- The answer of a panel's steps in the model's words. Definitions only. Assumes nothing.
+use Rattle.std.specs.Prelude.{ℕ, Result, Ok, Err}
 use Rattle.model.specs.Head.{State, Progress, stopped, going}
-use Rattle.step.specs.declared.Taken.{Taken}
-use Rattle.step.specs.declared.Taken.TheVariants.{Refused, Took}
-use Rattle.bunch_kaufman.specs.declared.Ran.{Ran}
-use Rattle.bunch_kaufman.specs.declared.Ran.TheVariants.{Stopped, Done}
+use Rattle.model.specs.declared.Refusal.{Refusal}
+
+-- a refusal of the run, or the rounds of all block lifts so far
+abbrev pub Ran : Type 0
+Ran = Result ℕ Refusal
 
 -- at column k, with the state that the steps leave, by its rounds
 unfoldable pub progress : Ran → ℕ → (ℕ → State) → Progress
-progress (Stopped r) k s = stopped r
-progress (Done rounds) k s = going k (s rounds)
-
--- a panel that ends with this step
-abbrev pub ended_by : Taken → Ran
-ended_by (Refused r) = Stopped r
-ended_by (Took v) = Done v.rounds
+progress (Err r) k s = stopped r
+progress (Ok rounds) k s = going k (s rounds)

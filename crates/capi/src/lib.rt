@@ -1,8 +1,8 @@
 // The C interface, as include/misuktaan.h declares it. Every function is exported under its own name, which begins
 // `misuktaan_`, and asks nothing of its caller. A slice is a pointer and a length.
-// The leaves are those of crate scalar, each equal to its definition in model's specs at every number. The five calls
-// answer by numbers what model's `factor_of`, `inertia_of`, `assembly_of`, `update_of` and `solve_of` say, and leave the
-// buffers so.
+// The leaves are those of crates scalar and square_root, each equal to its definition in model's specs at every number.
+// The five calls answer by numbers what model's `factor_of`, `inertia_of`, `assembly_of`, `update_of` and `solve_of`
+// say, and leave the buffers so.
 #![tactic(auto)]
 
 ghost use Rattle.std.specs.Prelude.{◌≡◌};
@@ -20,8 +20,11 @@ ghost use Rattle.outcome.specs.Numbers.{inertia_numbers};
 ghost use Rattle.capi.specs.Left.{settings_of, FactorLeft, factor_left, PanelLeft, panel_left};
 ghost use Rattle.capi.specs.Left.{VectorLeft, vector_left};
 
-use model::Settings;
+use assembly::Entries;
+use landing::{Descendant, Target};
+use model::{DiagonalLists, GlobalRow, LentBuffers, Settings};
 use outcome::Outcome;
+use solve::Factor;
 
 // ---- leaves
 
@@ -87,6 +90,7 @@ pub extern "C" fn misuktaan_sqrt(x: f64) -> f64
 // what each of the nine buffers holds afterwards.
 // in: settings; input, nrow * ncol. out: panel, nrow * ncol; d, sub, blocks, lifted, amounts, ncol each; order, nrow;
 // marks, nrow - ncol. work: 3 * nrow * (nb + 1) + nb * nb, any on entry, +0.0 after acceptance.
+// (Lists as parameters of their own, in this call and the ones after it: the C interface fixes them.)
 #[unsafe(no_mangle)]
 pub extern "C" fn misuktaan_factor(
     ncol: usize,
@@ -140,9 +144,18 @@ pub extern "C" fn misuktaan_factor(
         mode,
         limit,
     };
-    outcome::of_factor(factor::factor(
-        c, input, panel, d, sub, blocks, lifted, amounts, order, marks, work,
-    ))
+    let mut lent = LentBuffers {
+        panel,
+        d,
+        sub,
+        blocks,
+        lifts: lifted,
+        amounts,
+        order,
+        marks,
+        work,
+    };
+    factor::factor(c, input, &mut lent).into()
 }
 
 // The inertia of D as a factor call emits it, or refusal 19 or 16.
@@ -151,7 +164,7 @@ pub extern "C" fn misuktaan_factor(
 pub extern "C" fn misuktaan_inertia(d: &[f64], sub: &[f64], blocks: &[u8]) -> Outcome
     ensures { result ≡ inertia_numbers (inertia_of d.now sub.now blocks.now) }
 {
-    outcome::of_inertia(inertia::inertia(d, sub, blocks))
+    inertia::inertia(d, sub, blocks).into()
 }
 
 // Entries added to a node's panel as they are listed, or refusal 10, 11 or 12 and nothing written.
@@ -169,7 +182,12 @@ pub extern "C" fn misuktaan_assemble(
         (panel_left (assembly_of ncol nrow
         (entries_of rows.now cols.now numbers.now) panel.old)) }
 {
-    outcome::of_panel(assembly::assemble(ncol, nrow, rows, cols, numbers, panel))
+    let entries = Entries {
+        rows,
+        columns: cols,
+        numbers,
+    };
+    assembly::assemble(ncol, nrow, entries, panel).into()
 }
 
 // A factored descendant's update of a target node, or a refusal of 13 to 18 and nothing written.
@@ -195,9 +213,22 @@ pub extern "C" fn misuktaan_update(
         (descendant_of nk mk kpanel.now kd.now ksub.now kblocks.now
         krows.now) panel.old)) }
 {
-    outcome::of_panel(update::update(
-        ncol, nrow, first, rows, panel, nk, mk, kpanel, kd, ksub, kblocks, krows,
-    ))
+    let target = Target {
+        ncol,
+        nrow,
+        first: GlobalRow(first),
+        rows,
+    };
+    let descendant = Descendant {
+        nk,
+        mk,
+        panel: kpanel,
+        d: kd,
+        sub: ksub,
+        blocks: kblocks,
+        rows: krows,
+    };
+    update::update(target, panel, descendant).into()
 }
 
 // A right side solved by a root node's factor, or refusal 1, 25, 26, 16 or 27 and nothing written.
@@ -218,5 +249,11 @@ pub extern "C" fn misuktaan_solve(
         (vector_left (solve_of ncol nrow (factors_of panel.now d.now sub.now
         blocks.now order.now) vector.old)) }
 {
-    outcome::of_panel(solve::solve(ncol, nrow, panel, d, sub, blocks, order, vector))
+    let diagonals = DiagonalLists { d, sub, blocks };
+    let factor = Factor {
+        panel,
+        diagonals,
+        order,
+    };
+    solve::solve(ncol, nrow, factor, vector).into()
 }

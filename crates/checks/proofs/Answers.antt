@@ -2,26 +2,23 @@
 use mathlib.Core.Path.{◌≡◌}
 use mathlib.Core.List.{List}
 use lib.Ieee.{Float}
+use Rattle.std.specs.Prelude.{Ok, Err}
 use Rattle.model.specs.Assembly.{panel_after}
-use Rattle.model.specs.Answer.{or_else}
+use Rattle.model.specs.Answer.{Check, Applied, or_else}
 use Rattle.model.specs.declared.Refusal.{Refusal}
-use Rattle.model.specs.declared.Check.{Check}
-use Rattle.model.specs.declared.Check.TheVariants.{Sound, Refused}
-use Rattle.model.specs.declared.Applied.{Applied}
-use Rattle.model.specs.declared.Applied.TheVariants.{Done}
-use Rattle.checks.specs.Answers.{answer_of, leaves}
+use Rattle.checks.specs.Answers.{leaves}
 
 -- where two checks follow each other: the first refuses, or it passes and the second decides
-pub first-refuses : (k : Check) (r : Refusal) (c rest : Check) → k ≡ Refused r → k ≡ c → k ≡ or_else c rest
+pub first-refuses : (k : Check) (r : Refusal) (c rest : Check) → k ≡ Err r → k ≡ c → k ≡ or_else c rest
 first-refuses k r c rest h e = rw (← e, h)
 
-pub second-decides : (k l c rest : Check) → k ≡ Sound → k ≡ c → l ≡ rest → l ≡ or_else c rest
+pub second-decides : (k l c rest : Check) → k ≡ Ok tt → k ≡ c → l ≡ rest → l ≡ or_else c rest
 second-decides k l c rest h e f = rw (← e, h) f
 
 -- what a call leaves: c is its check, new the panel where it passes
-pub leaves-done : (k c : Check) (new panel : List Float) → k ≡ Sound → k ≡ c → leaves Done new ≡ panel_after c new panel
+pub leaves-done : (k c : Check) (new panel : List Float) → k ≡ Ok tt → k ≡ c → leaves (Ok tt) new ≡ panel_after c new panel
 leaves-done k c new panel h e = rw (← e, h)
 
-pub leaves-refused : (k : Check) (r : Refusal) (c : Check) (a : Applied) (new panel : List Float) → k ≡ Refused r → k ≡ c → a ≡ answer_of k
+pub leaves-refused : (k : Check) (r : Refusal) (c : Check) (a : Applied) (new panel : List Float) → k ≡ Err r → k ≡ c → a ≡ k
     → leaves a panel ≡ panel_after c new panel
 leaves-refused k r c a new panel h e f = rw (f, ← e, h)

@@ -1,4 +1,5 @@
 -- Laws of the block bytes: the scan for the first that is not sound, and what sound bytes may be relied on for. Assumes nothing.
+use Rattle.std.specs.Prelude.{Ok}
 use mathlib.Core.Path.{◌≡◌, refl, sym, ◌∙◌}
 use mathlib.Core.Bool.{Bool, true, false, not, ◌&&◌, ◌||◌}
 use mathlib.Core.List.{List}
@@ -13,7 +14,6 @@ use Rattle.model.specs.Inertia.{byte_sound, bytes_from, check_bytes}
 use Rattle.model.specs.Assembly.{first_not}
 use Rattle.model.specs.declared.Refusal.{Refusal}
 use Rattle.model.specs.declared.Refusal.TheVariants.{BlockByte}
-use Rattle.model.specs.declared.Check.TheVariants.{Sound}
 use Rattle.model.proofs.Cases.{and_left, and_right}
 use Rattle.model.specs.Kept.{Paired}
 use Rattle.checks.proofs.First.{first-none, first-all}
@@ -51,7 +51,7 @@ sound-next f n k s e =
     neither false true h = absurd (let w : ◌≡◌ {A = ℕ} 0 1 = cc in omega arith)
     neither true b h = absurd (let w : ◌≡◌ {A = ℕ} 0 1 = cc in omega arith)
 
-all-paired : (f : ℕ → ℕ) (n : ℕ) → bytes_from f n n 0 ≡ Sound → Paired n f
+all-paired : (f : ℕ → ℕ) (n : ℕ) → bytes_from f n n 0 ≡ Ok tt → Paired n f
 all-paired f n e = record {
   byte = λ c h. sound-byte f n c (at c h);
   room = next;
@@ -65,5 +65,5 @@ all-paired f n e = record {
     next c h o = omega (arith, eqb-false (c + 1) n (sound-next f n c (at c h) o).0)
 
 -- each is 0 or 1, and a 1 has a 0 after it
-pub bytes-paired : (xs : List ℕ) → check_bytes xs ≡ Sound → Paired (length xs) (naturals xs)
+pub bytes-paired : (xs : List ℕ) → check_bytes xs ≡ Ok tt → Paired (length xs) (naturals xs)
 bytes-paired xs e = all-paired (naturals xs) (length xs) e

@@ -1,3 +1,3 @@
--- What a call answers to its checks, and what a scan of numbers tests.
+-- What a call leaves by its answer, and what a scan of numbers tests and finds.
 pub mod Answers
 pub mod Finite

@@ -1,15 +1,18 @@
-// The checks that several calls share: the shape of a node (factor, assembly, update) and the block bytes (inertia,
-// update); and the answer of a call that accepts with nothing but its panel (assembly, update).
-// A reader may rely on each being the definition's (model, specs/Factor.antt, specs/Inertia.antt), whatever is asked.
+// The checks that several calls share: the shape of a node (factor, assembly, update, solve), the block bytes (inertia,
+// update, solve), and numbers that have to be finite (assembly, solve).
+// A reader may rely on each being the definition's (model, specs/Factor.antt, specs/Inertia.antt, specs/Assembly.antt),
+// whatever is asked.
 #![tactic(auto)]
 
-ghost use Rattle.std.specs.Prelude.{◌≡◌, ◌<◌, length};
+ghost use Rattle.std.specs.Prelude.{◌≡◌, ◌<◌, ℕ, length};
 ghost use Rattle.model.specs.Matrix.{naturals};
 ghost use Rattle.model.specs.Factor.{shape_sound};
 ghost use Rattle.model.specs.Inertia.{byte_sound, check_bytes};
-ghost use Rattle.checks.specs.Answers.{answer_of};
+ghost use Rattle.model.specs.Assembly.{first_not};
+ghost use Rattle.model.specs.declared.Refusal.{Refusal};
+ghost use Rattle.checks.specs.Finite.{finite_at, refused_at};
 
-use model::{Applied, COLUMNS_MAX, Check, Elim, ROWS_MAX, Refusal};
+use model::{COLUMNS_MAX, Elim, ROWS_MAX, Refusal};
 
 // Whether a node may have so many columns and rows.
 pub fn shape_sound(ncol: usize, nrow: usize) -> bool
@@ -19,6 +22,7 @@ pub fn shape_sound(ncol: usize, nrow: usize) -> bool
 }
 
 // The byte at k is 0 or 1, and a 1 stands neither last nor right before another 1.
+#[tactic(auto, unfolding(model::specs::Inertia::byte_sound, model::specs::Matrix::naturals))]
 fn byte_sound(blocks: &[u8], k: usize) -> bool
     requires { k < length blocks.now }
     ensures { result ≡ byte_sound (naturals blocks.now) (length blocks.now) k }
@@ -36,25 +40,21 @@ fn byte_sound(blocks: &[u8], k: usize) -> bool
 }
 
 // Refusal 16: the first block byte that is not sound.
-pub fn first_bad_byte(blocks: &[u8]) -> Check
+pub fn first_bad_byte(blocks: &[u8]) -> Result<(), Refusal>
     ensures { result ≡ check_bytes blocks.now }
 {
-    let mut k = 0;
-    while k < blocks.len() {
+    // by places, as a byte is looked at with the one after it
+    for k in 0..blocks.len() {
         if !byte_sound(blocks, k) {
-            return Check::Refused(Refusal::BlockByte(Elim(k)));
+            return Err(Refusal::BlockByte(Elim(k)));
         }
-        k += 1;
     }
-    Check::Sound
+    Ok(())
 }
 
-// What a call answers to its checks: the refusal that they found, or that all is done.
-pub fn answer(checked: Check) -> Applied
-    ensures { result ≡ answer_of checked }
+// Where the first number stands that is not finite. The call says which refusal that is.
+pub fn first_bad_number(numbers: &[f64]) -> Option<usize>
+    ensures { (at : ℕ → Refusal) → refused_at at result ≡ first_not (finite_at numbers.now) at (length numbers.now) 0 }
 {
-    match checked {
-        Check::Sound => Applied::Done,
-        Check::Refused(refusal) => Applied::Refused(refusal),
-    }
+    numbers.iter().position(|x| !scalar::is_finite(*x))
 }

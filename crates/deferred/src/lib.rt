@@ -5,7 +5,7 @@
 
 ghost use Rattle.std.specs.Prelude.{◌≡◌, ◌+◌, ◌-◌, ◌<◌, ◌≤◌, min, max, length};
 ghost use Rattle.model.specs.Matrix.{view, vec, with_column};
-ghost use Rattle.model.specs.Step.{diagonals_of};
+ghost use Rattle.model.specs.Step.{diagonals_in};
 ghost use Rattle.kernels.specs.Rules.{behind, less_each};
 ghost use Rattle.grid.specs.Rules.{column_of};
 ghost use Rattle.whole.specs.Whole.{deferred_rows};
@@ -13,30 +13,12 @@ ghost use Rattle.products.specs.Products.{with_products};
 ghost use Rattle.deferred.specs.Deferred.{DeferredPre};
 ghost use Rattle.deferred.specs.Columns.{part_deferred, LosePre, PairPre, ColumnsPre, RowsPre};
 
-use model::Frame;
+use model::{DiagonalLists, Frame};
 use sums::Terms;
 
 // How many rows are worked at a time: their sums are local arrays, and their part of L.D stays in the cache for all
 // later columns.
 const PART: usize = 256;
-
-fn smaller(a: usize, b: usize) -> usize
-    ensures { result ≡ min a b }
-{
-    if a < b {
-        return a;
-    }
-    b
-}
-
-fn larger(a: usize, b: usize) -> usize
-    ensures { result ≡ max a b }
-{
-    if a < b {
-        return b;
-    }
-    a
-}
 
 // Of column j the rows lo up to hi that stand on its diagonal or below lose s, whose first number is row lo's.
 fn lose(panel: &mut [f64], nrow: usize, j: usize, lo: usize, hi: usize, s: &[f64])
@@ -45,7 +27,7 @@ fn lose(panel: &mut [f64], nrow: usize, j: usize, lo: usize, hi: usize, s: &[f64
         ≡ with_column (view nrow panel.old) j (max lo j) hi
         (less_each (column_of (view nrow panel.old) j) (behind lo (vec s.now))) }
 {
-    let from = larger(lo, j);
+    let from = lo.max(j);
     let start = grid::column_start(nrow, j);
     let a = from + start;
     let b = hi + start;
@@ -72,8 +54,7 @@ fn defer_two(panel: &mut [f64], g: &[f64], x: &mut [f64], y: &mut [f64], at: Ter
     lose(panel, at.nrow, at.e, at.lo, hi, y);
 }
 
-// Column c and, if it stands before end, the next lose their sums in rows lo up to hi. The answer is the first column
-// left.
+// Column c and, if it stands before end, the next lose their sums in rows lo up to hi.
 // work: x and y, as above.
 fn defer_next(
     panel: &mut [f64],
@@ -85,21 +66,20 @@ fn defer_next(
     end: usize,
     lo: usize,
     hi: usize,
-) -> usize
+)
     requires columns_pre { ColumnsPre at.nrow at.ncol at.kb at.ke (length g.now) (length panel.old) }
     requires rows_pre { RowsPre at.nrow lo hi (length x.old) }
     requires rows_pre_2 { RowsPre at.nrow lo hi (length y.old) }
     requires ke_le_c { (at.ke ≤ c) × (c < end) × (end ≡ min at.ncol hi) }
-    ensures panel_after { view at.nrow panel.new
+    ensures { view at.nrow panel.new
         ≡ part_deferred (view at.nrow panel.old) (view at.nrow g.now) at.kb
-        (at.ke - at.kb) c result lo hi }
-    ensures value { result ≡ min (c + 2) end }
+        (at.ke - at.kb) c (min (c + 2) end) lo hi }
 {
     let nrow = at.nrow;
     let kb = at.kb;
     let w = at.ke - kb;
-    let from = larger(lo, c);
-    let e = smaller(c + 1, end - 1);
+    let from = lo.max(c);
+    let e = (c + 1).min(end - 1);
     let n = hi - from;
     let terms = Terms {
         nrow,
@@ -111,7 +91,6 @@ fn defer_next(
         n,
     };
     defer_two(panel, g, x, y, terms);
-    e + 1
 }
 
 // Rows lo up to hi of the columns from ke on, each from its diagonal down, lose their sums.
@@ -124,10 +103,9 @@ fn defer_rows(panel: &mut [f64], g: &[f64], at: Frame, lo: usize, hi: usize)
 {
     let mut x = [0.0; PART];
     let mut y = [0.0; PART];
-    let end = smaller(at.ncol, hi);
-    let mut c = at.ke;
-    while c < end {
-        c = defer_next(panel, g, &mut x, &mut y, at, c, end, lo, hi);
+    let end = at.ncol.min(hi);
+    for c in (at.ke..end).step_by(2) {
+        defer_next(panel, g, &mut x, &mut y, at, c, end, lo, hi);
     }
 }
 
@@ -138,12 +116,9 @@ fn defer_columns(panel: &mut [f64], g: &[f64], at: Frame)
         ≡ part_deferred (view at.nrow panel.old) (view at.nrow g.now) at.kb
         (at.ke - at.kb) at.ke at.ncol at.ke at.nrow }
 {
-    let nrow = at.nrow;
-    let mut lo = at.ke;
-    while lo < nrow {
-        let hi = lo + smaller(PART, nrow - lo);
+    for lo in (at.ke..at.nrow).step_by(PART) {
+        let hi = lo + PART.min(at.nrow - lo);
         defer_rows(panel, g, at, lo, hi);
-        lo = hi;
     }
 }
 
@@ -151,25 +126,15 @@ fn defer_columns(panel: &mut [f64], g: &[f64], at: Frame)
 // each term L.D of x's row times L of x's column's row.
 // work: g (ke − kb)·nrow numbers, any on entry; L.D of the rows from ke on afterwards.
 // origin: src/numeric/ldlt/bunch_kaufman.rs, fn ll_cdiv_emit
-pub fn deferred_update(
-    panel: &mut [f64],
-    d: &[f64],
-    sub: &[f64],
-    blocks: &[u8],
-    g: &mut [f64],
-    at: Frame,
-)
+pub fn deferred_update(panel: &mut [f64], x: DiagonalLists, g: &mut [f64], at: Frame)
     requires { DeferredPre at.nrow at.ncol at.kb at.ke (length g.old) (length panel.old)
-        (length d.now) (length sub.now) blocks.now }
+        (length x.d.now) (length x.sub.now) x.blocks.now }
     ensures panel_after { view at.nrow panel.new
-        ≡ deferred_rows at.nrow at.ncol
-        (diagonals_of d.now sub.now blocks.now) at.kb at.ke
-        (view at.nrow panel.old) }
+        ≡ deferred_rows at.nrow at.ncol (diagonals_in x.entry) at.kb at.ke (view at.nrow panel.old) }
     ensures g_after { view at.nrow g.new
-        ≡ with_products (view at.nrow g.old)
-        (diagonals_of d.now sub.now blocks.now)
+        ≡ with_products (view at.nrow g.old) (diagonals_in x.entry)
         (view at.nrow panel.old) at.kb at.ke at.nrow (at.ke - at.kb) }
 {
-    products::products(g, panel, d, sub, blocks, at.nrow, at.kb, at.ke);
+    products::products(g, panel, x, at.nrow, at.kb, at.ke);
     defer_columns(panel, g, at);
 }

@@ -1,7 +1,6 @@
 // D, a pivot at a time: a 1x1's number or a block, and how d, subdiagonal and block bytes hold it. Every block is made
 // by `block_of`, whether its numbers come from the panel, from a lift or from the lists, so that its determinant is
-// worked
-// out in one place and travels with it.
+// worked out in one place and travels with it.
 #![tactic(auto)]
 
 ghost use Rattle.std.specs.Prelude.{◌≡◌, ◌+◌, ◌<◌, ◌≤◌, min, length};
@@ -10,7 +9,7 @@ ghost use Rattle.model.specs.Step.{block_of, block_at, diagonal_at, begins, ends
 ghost use Rattle.model.specs.Step.{is_block, first_number, last_number, under_number};
 ghost use Rattle.diagonal.specs.Diagonal.{BlockPre, PivotPre};
 
-use model::{Block, Diagonal, Elim};
+use model::{Block, Diagonal, DiagonalLists, Elim};
 
 // ---- a pivot's numbers
 
@@ -69,8 +68,7 @@ pub fn block_begins(blocks: &[u8], k: Elim) -> bool
     requires { k.0 < length blocks.now }
     ensures { result ≡ begins (naturals blocks.now) k.0 }
 {
-    let at = k.0;
-    blocks[at] == 1
+    blocks[k.0] == 1
 }
 
 // Whether k is a block's second column.
@@ -101,33 +99,28 @@ pub fn past_four(k: usize, n: usize) -> usize
     requires { k + 4 ≤ n }
     ensures { result ≡ min (k + 5) n }
 {
-    if n - k < 5 {
-        return n;
-    }
-    k + 5
+    k + (n - k).min(5)
 }
 
 // The block that begins at k.
-pub fn block_at(d: &[f64], sub: &[f64], k: Elim) -> Block
-    requires { BlockPre k.0 (length d.now) (length sub.now) }
-    ensures { result ≡ block_at (vec d.now) (vec sub.now) k.0 }
+pub fn block_at(x: DiagonalLists, k: Elim) -> Block
+    requires { BlockPre k.0 (length x.d.now) (length x.sub.now) }
+    ensures { result ≡ block_at (vec x.entry.d.now) (vec x.entry.sub.now) k.0 }
 {
-    let at = k.0;
-    let d11 = d[at];
-    let d21 = sub[at];
-    let d22 = d[at + 1];
+    let d11 = x.d[k.0];
+    let d21 = x.sub[k.0];
+    let d22 = x.d[k.0 + 1];
     block_of(d11, d21, d22)
 }
 
 // The pivot that begins at k.
-pub fn diagonal_at(d: &[f64], sub: &[f64], blocks: &[u8], k: Elim) -> Diagonal
-    requires { PivotPre k.0 (length d.now) (length sub.now) blocks.now }
+pub fn diagonal_at(x: DiagonalLists, k: Elim) -> Diagonal
+    requires { PivotPre k.0 (length x.d.now) (length x.sub.now) x.blocks.now }
     ensures { result
-        ≡ diagonal_at (vec d.now) (vec sub.now) (naturals blocks.now) k.0 }
+        ≡ diagonal_at (vec x.entry.d.now) (vec x.entry.sub.now) (naturals x.entry.blocks.now) k.0 }
 {
-    if block_begins(blocks, k) {
-        return Diagonal::Two(block_at(d, sub, k));
+    if block_begins(x.blocks, k) {
+        return Diagonal::Two(block_at(x, k));
     }
-    let at = k.0;
-    Diagonal::One(d[at])
+    Diagonal::One(x.d[k.0])
 }

@@ -16,7 +16,6 @@ use Rattle.model.specs.Solve.{divided}
 use Rattle.model.specs.declared.Block.{Block}
 use Rattle.model.proofs.Cases.{test}
 use Rattle.model.proofs.Past.{past-above, past-within, starts-past}
-use Rattle.diagonal.specs.Diagonal.{PivotPre}
 use Rattle.kernels.proofs.Laws.{vec-set, with_part-more, with_part-past}
 use Rattle.divide.specs.Divide.{pivot_divided, DividePre}
 
@@ -33,9 +32,6 @@ pub one-divided : (ds subs ys zs : List Float) (bs : List ℕ) (k : ℕ) (t : Bo
     → vec zs ≡ put (vec ys) k (vec ys k ⊗ reciprocal_of (vec ds k)) → vec zs ≡ pivot_divided (diagonals_of ds subs bs) k (vec ys)
 unfolding pivot_divided
 one-divided ds subs ys zs bs k t e h g = g ∙ rw (sym e ∙ h)
-
-pub two_in : (k ld ls n : ℕ) (bs : List ℕ) (t : Bool) → PivotPre k ld ls bs → ld ≡ n → t ≡ begins (naturals bs) k → t ≡ true → k + 1 < n
-two_in k ld ls n bs t w l e h = omega (arith, w.next (eqb-true (naturals bs k) 1 (sym e ∙ h)))
 
 pub one-put : (ys : List Float) (k : ℕ) (d r : Float) → k < length ys → r ≡ reciprocal_of d
     → vec (set ys k (get_or ys k nan ⊗ r)) ≡ put (vec ys) k (vec ys k ⊗ reciprocal_of d)
@@ -92,14 +88,6 @@ divided-pivot D n k f y w h s e =
     ∙ rw (← divided-single D f k s t) (with_part-more f 0 k (divided D f) (omega arith))))
 
 -- ---- the loop
-
-pub pivot-pre : (bs : List ℕ) (k ld ls n : ℕ) → DividePre bs ld ls n → k < n → PivotPre k ld ls bs
-pivot-pre bs k ld ls n w h = record {
-  d = omega (arith, w.d);
-  sub = omega (arith, w.sub);
-  byte = omega (arith, w.bytes);
-  next = λ o. omega (arith, w.d, w.paired.room k h o);
-}
 
 pub turn_step : (ds subs : List Float) (bs : List ℕ) (k l ld ls n : ℕ) (f y z : Row) → DividePre bs ld ls n → k < n → Starts (naturals bs) k
     → l ≡ past_of (naturals bs) k → y ≡ with_part f 0 k (divided (diagonals_of ds subs bs) f) → z ≡ pivot_divided (diagonals_of ds subs bs) k y

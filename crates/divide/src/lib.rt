@@ -5,12 +5,12 @@
 ghost use Rattle.std.specs.Prelude.{◌≡◌, ◌+◌, ◌<◌, length};
 ghost use Rattle.model.specs.Scalar.{◌⊗◌, reciprocal_of};
 ghost use Rattle.model.specs.Matrix.{vec, put, with_part};
-ghost use Rattle.model.specs.Step.{diagonals_of, first_multiplier, second_multiplier};
+ghost use Rattle.model.specs.Step.{diagonals_in, first_multiplier, second_multiplier};
 ghost use Rattle.model.specs.Solve.{divided};
 ghost use Rattle.divide.specs.Divide.{pivot_divided, DividePre};
 ghost use Rattle.diagonal.specs.Diagonal.{PivotPre};
 
-use model::{Block, Elim};
+use model::{Block, DiagonalLists, Elim};
 
 // A 1x1 at k: y·(1/d).
 fn divide_one(y: &mut [f64], k: usize, d: f64)
@@ -35,31 +35,29 @@ fn divide_two(y: &mut [f64], k: usize, b: Block)
 }
 
 // The pivot that begins at k.
-fn divide_pivot(d: &[f64], sub: &[f64], blocks: &[u8], y: &mut [f64], k: Elim)
-    requires pivot_pre { PivotPre k.0 (length d.now) (length sub.now) blocks.now }
-    requires d_len { length d.now ≡ length y.old }
-    ensures { vec y.new ≡ pivot_divided
-        (diagonals_of d.now sub.now blocks.now) k.0 (vec y.old) }
+fn divide_pivot(x: DiagonalLists, y: &mut [f64], k: Elim)
+    requires pivot_pre { PivotPre k.0 (length x.d.now) (length x.sub.now) x.blocks.now }
+    requires d_len { length x.d.now ≡ length y.old }
+    ensures { vec y.new ≡ pivot_divided (diagonals_in x.entry) k.0 (vec y.old) }
 {
-    let at = k.0;
-    if diagonal::block_begins(blocks, k) {
-        divide_two(y, at, diagonal::block_at(d, sub, k));
+    if diagonal::block_begins(x.blocks, k) {
+        divide_two(y, k.0, diagonal::block_at(x, k));
         return;
     }
-    divide_one(y, at, d[at]);
+    divide_one(y, k.0, x.d[k.0]);
 }
 
-// in: d, sub, blocks, n each, D with sound block bytes. in and out: y, n numbers.
-pub fn divide(d: &[f64], sub: &[f64], blocks: &[u8], y: &mut [f64])
-    requires { DividePre blocks.now (length d.now) (length sub.now) (length y.old) }
-    ensures { vec y.new ≡ with_part (vec y.old) 0 (length y.old)
-        (divided (diagonals_of d.now sub.now blocks.now) (vec y.old)) }
+// in: x, lists of n places, D with sound block bytes. in and out: y, n numbers.
+pub fn divide(x: DiagonalLists, y: &mut [f64])
+    requires { DividePre x.blocks.now (length x.d.now) (length x.sub.now) (length y.old) }
+    ensures { vec y.new ≡ with_part (vec y.old) 0 (length y.old) (divided (diagonals_in x.entry) (vec y.old)) }
 {
     let n = y.len();
     let mut k = 0;
+    // the next pivot's column is one or two further on, as the lists say: no iterator says it more plainly
     while k < n {
         let at = Elim(k);
-        divide_pivot(d, sub, blocks, y, at);
-        k = diagonal::past(blocks, at);
+        divide_pivot(x, y, at);
+        k = diagonal::past(x.blocks, at);
     }
 }

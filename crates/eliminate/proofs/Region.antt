@@ -2,16 +2,18 @@
 use Prim.Native.Nat.{ℕ, ◌+◌, ◌-◌, ◌*◌, ◌<◌, ◌≤◌, max}
 use mathlib.Core.Path.{◌≡◌, refl, ◌∙◌, ap, fun_ext}
 use mathlib.Core.Bool.{◌&&◌, cond}
+use mathlib.Core.List.{[], ◌∷◌}
 use native.Mathlib.Omega.{arith}
 use native.Mathlib.Nat.{le_antisymm}
 use borrow.Author.Tests.{lt-ltb, le-ltb, le-leb, lt-leb, eq-eqb, ne_eqb, leb-true, leb-false}
 use lib.Dec.{leb}
 use lib.Ieee.{Float}
-use Rattle.model.specs.Matrix.{Row, Mat, within, with_column}
+use Rattle.model.specs.Matrix.{Row, Mat, vec, within, with_column}
 use Rattle.model.proofs.Cases.{test, cmp}
 use Rattle.grid.specs.Grid.{In}
-use Rattle.grid.specs.Rules.{column_of, less_times_if, less_two, LaterPre}
+use Rattle.grid.specs.Rules.{column_of, less_columns, less_times_if, less_two, LaterPre}
 use Rattle.grid.proofs.Laws.{in-panel, col-in}
+use Rattle.grid.proofs.Together.{columns-two}
 use Rattle.eliminate.specs.Eliminate.{in_panel, region, swept_one, swept_two}
 use Rattle.eliminate.proofs.Buffer.{kept_at}
 
@@ -98,11 +100,13 @@ two-turn M P Q B kb ke k j lo hi top m1 m2 h g f p o e1 e2 q =
 pub sweep-two-step : (M P Q B : Mat) (kb ke k j lo hi top : ℕ) (m1 m2 : Float) → k + 2 ≤ j → j < ke → kb ≤ k
     → P ≡ swept_two M (column_of (in_panel kb ke B) k) (column_of (in_panel kb ke B) (k + 1)) k j lo hi → top ≡ max j lo
     → m1 ≡ B (j - kb) (k - kb) → m2 ≡ B (j - kb) (k + 1 - kb)
-    → Q ≡ with_column P j top hi (less_two (column_of P j) (column_of P k) (column_of P (k + 1)) m1 m2)
+    → Q ≡ with_column P j top hi (less_columns 2 P k j (vec (m1 ∷ m2 ∷ [])))
     → Q ≡ swept_two M (column_of (in_panel kb ke B) k) (column_of (in_panel kb ke B) (k + 1)) k (j + 1) lo hi
+unfolding vec
 sweep-two-step M P Q B kb ke k j lo hi top m1 m2 h g f p o e1 e2 q =
     two-turn M P Q B kb ke k j lo hi top m1 m2 h g f p o e1 e2
-    (q ∙ ap (λ (s : Row). with_column P j top hi (less_two (column_of P j) s (column_of P (k + 1)) m1 m2)) (sweep-two-source M P _ _ k j lo hi k (omega arith) p)
+    (q ∙ ap (λ (N : Row). with_column P j top hi N) (columns-two P k j (vec (m1 ∷ m2 ∷ [])))
+    ∙ ap (λ (s : Row). with_column P j top hi (less_two (column_of P j) s (column_of P (k + 1)) m1 m2)) (sweep-two-source M P _ _ k j lo hi k (omega arith) p)
     ∙ ap (λ (t : Row). with_column P j top hi (less_two (column_of P j) (column_of M k) t m1 m2)) (sweep-two-source M P _ _ k j lo hi (k + 1) (omega arith) p))
 
 pub sweep-two-end : (M P : Mat) (m1 m2 : Row) (k j ke lo hi : ℕ) → j ≤ ke → ke ≤ j → P ≡ swept_two M m1 m2 k j lo hi → P ≡ swept_two M m1 m2 k ke lo hi

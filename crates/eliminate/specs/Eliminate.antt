@@ -8,6 +8,7 @@ use Rattle.model.specs.Step.{less_multiple}
 use Rattle.model.specs.declared.Block.{Block}
 use Rattle.kernels.specs.Rules.{times, combined}
 use Rattle.grid.specs.Rules.{column_of}
+use Rattle.eliminate.specs.declared.Sweep.{Sweep}
 
 -- the multipliers' buffer by the panel's rows and columns: row j and column c stand at j - kb and c - kb; +0.0 outside the panel
 unfoldable pub in_panel : ℕ → ℕ → Mat → Mat
@@ -38,16 +39,16 @@ applied_two M m1 m2 k ke lo hi b =
 -- ---- what the functions ask
 
 -- a sweep of rows lo up to hi for a pivot in columns k to e
-pub record SweepPre (nrow ncol nb kb ke k e lo hi len len_m : ℕ) : Type 0 where
-  pub size : len ≡ nrow * ncol
-  pub square : len_m ≡ nb * nb
-  pub cols : ke ≤ ncol
-  pub width : ke ≤ kb + nb
-  pub from : kb ≤ k
-  pub here : e < ke
-  pub up : lo ≤ hi
-  pub last : ke ≤ hi
-  pub rows : hi ≤ nrow
+pub record SweepPre (s : Sweep) (e len len_m : ℕ) : Type 0 where
+  pub size : len ≡ s.at.nrow * s.at.ncol
+  pub square : len_m ≡ s.at.nb * s.at.nb
+  pub cols : s.at.ke ≤ s.at.ncol
+  pub width : s.at.ke ≤ s.at.kb + s.at.nb
+  pub from : s.at.kb ≤ s.k
+  pub here : e < s.at.ke
+  pub up : s.lo ≤ s.hi
+  pub last : s.at.ke ≤ s.hi
+  pub rows : s.hi ≤ s.at.nrow
 
 -- a 1x1 at k
 pub record OnePre (nrow ncol nb kb ke k len len_m : ℕ) : Type 0 where

@@ -18,19 +18,16 @@ pub fn keep_one(mult: &mut [f64], panel: &[f64], at: Frame, c: usize, lo: usize,
         ≡ with_column (in_panel at.kb at.ke (view at.nb mult.old)) c lo at.ke
         (times (column_of (view at.nrow panel.now) c) r) }
 {
-    let nrow = at.nrow;
-    let nb = at.nb;
-    let kb = at.kb;
-    let ke = at.ke;
-    let top = lo - kb;
-    let end = ke - kb;
-    let kept = column_start(nb, c - kb);
-    let source = column_start(nrow, c);
-    let a = top + kept;
-    let b = end + kept;
-    let x = lo + source;
-    let y = ke + source;
-    kernels::scale(&mut mult[a..b], &panel[x..y], end - top, r);
+    let top = lo - at.kb;
+    let end = at.ke - at.kb;
+    let kept = column_start(at.nb, c - at.kb);
+    let source = column_start(at.nrow, c);
+    kernels::scale(
+        &mut mult[top + kept..end + kept],
+        &panel[lo + source..at.ke + source],
+        end - top,
+        r,
+    );
 }
 
 // Rows lo up to ke of column c become (p·s − q·t)·r, where s and t are those of the panel's columns c and t.
@@ -53,25 +50,15 @@ pub fn keep_two(
         (combined (column_of (view at.nrow panel.now) c)
         (column_of (view at.nrow panel.now) t) p q r) }
 {
-    let nrow = at.nrow;
-    let nb = at.nb;
-    let kb = at.kb;
-    let ke = at.ke;
-    let top = lo - kb;
-    let end = ke - kb;
-    let kept = column_start(nb, c - kb);
-    let source = column_start(nrow, c);
-    let second = column_start(nrow, t);
-    let a = top + kept;
-    let b = end + kept;
-    let x = lo + source;
-    let y = ke + source;
-    let u = lo + second;
-    let v = ke + second;
+    let top = lo - at.kb;
+    let end = at.ke - at.kb;
+    let kept = column_start(at.nb, c - at.kb);
+    let source = column_start(at.nrow, c);
+    let second = column_start(at.nrow, t);
     kernels::combine(
-        &mut mult[a..b],
-        &panel[x..y],
-        &panel[u..v],
+        &mut mult[top + kept..end + kept],
+        &panel[lo + source..at.ke + source],
+        &panel[lo + second..at.ke + second],
         end - top,
         p,
         q,

@@ -1,7 +1,8 @@
 // A pivot's elimination by columns in the panel's own rows; the multipliers are kept for the rows below. It works in
 // place: the later columns lose the pivot's part before its own columns become multipliers, so that no copy of them is
 // needed. The contracts cite the model's row by row definitions, over all rows and columns of the panel: a reader may
-// rely on every number that they do not change being left alone.
+// rely on every number that they do not change being left alone. (A 1x1 and a block have functions of their own: a 1x1
+// skips a zero multiplier and a block never does, and their formulas are two in the definitions.)
 #![tactic(auto)]
 
 ghost use Rattle.std.specs.Prelude.{◌≡◌, ◌+◌, length};
@@ -17,30 +18,39 @@ use scalar::reciprocal;
 mod kept;
 mod sweeps;
 
-// The sweep after a 1x1 at k, then column k itself, in rows lo up to hi.
-fn apply_one(panel: &mut [f64], mult: &[f64], at: Frame, k: usize, lo: usize, hi: usize, d: f64)
-    requires { SweepPre at.nrow at.ncol at.nb at.kb at.ke k k lo hi (length panel.old)
-        (length mult.now) }
-    ensures { view at.nrow panel.new
-        ≡ applied_one (view at.nrow panel.old)
-        (column_of (in_panel at.kb at.ke (view at.nb mult.now)) k) k at.ke lo hi d }
-{
-    sweeps::sweep_one(panel, mult, at, k, lo, hi);
-    columns::scale(panel, at.nrow, k, lo, hi, reciprocal(d));
+// A pivot whose first column is k, and the rows that lose its part: rows lo up to hi of the panel.
+#[derive(Clone, Copy)]
+struct Sweep {
+    at: Frame,
+    k: usize,
+    lo: usize,
+    hi: usize,
 }
 
-// The sweep after a block at k and k + 1, then its two columns, in rows lo up to hi.
-fn apply_two(panel: &mut [f64], mult: &[f64], at: Frame, k: usize, lo: usize, hi: usize, b: Block)
-    requires { SweepPre at.nrow at.ncol at.nb at.kb at.ke k (k + 1) lo hi (length panel.old)
-        (length mult.now) }
-    ensures { view at.nrow panel.new
-        ≡ applied_two (view at.nrow panel.old)
-        (column_of (in_panel at.kb at.ke (view at.nb mult.now)) k)
-        (column_of (in_panel at.kb at.ke (view at.nb mult.now)) (k + 1)) k at.ke lo hi b }
+// The sweep after a 1x1 at k, then column k itself.
+fn apply_one(panel: &mut [f64], mult: &[f64], s: Sweep, d: f64)
+    requires { SweepPre s s.k (length panel.old) (length mult.now) }
+    ensures { view s.at.nrow panel.new
+        ≡ applied_one (view s.at.nrow panel.old)
+        (column_of (in_panel s.at.kb s.at.ke (view s.at.nb mult.now)) s.k) s.k s.at.ke s.lo s.hi
+        d }
 {
-    sweeps::sweep_two(panel, mult, at, k, lo, hi);
+    sweeps::sweep_one(panel, mult, s);
+    columns::scale(panel, s.at.nrow, s.k, s.lo, s.hi, reciprocal(d));
+}
+
+// The sweep after a block at k and k + 1, then its two columns.
+fn apply_two(panel: &mut [f64], mult: &[f64], s: Sweep, b: Block)
+    requires { SweepPre s (s.k + 1) (length panel.old) (length mult.now) }
+    ensures { view s.at.nrow panel.new
+        ≡ applied_two (view s.at.nrow panel.old)
+        (column_of (in_panel s.at.kb s.at.ke (view s.at.nb mult.now)) s.k)
+        (column_of (in_panel s.at.kb s.at.ke (view s.at.nb mult.now)) (s.k + 1)) s.k s.at.ke s.lo
+        s.hi b }
+{
+    sweeps::sweep_two(panel, mult, s);
     let r = reciprocal(b.det);
-    columns::combine(panel, at.nrow, k, lo, hi, b.d11, b.d21, b.d22, r);
+    columns::combine(panel, s.at.nrow, s.k, s.lo, s.hi, b.d11, b.d21, b.d22, r);
 }
 
 // Rows k + 1 up to ke after a 1x1 pivot d at k, each up to its own column, and d on the diagonal; their multipliers are
@@ -58,7 +68,13 @@ pub fn head_one(panel: &mut [f64], mult: &mut [f64], at: Frame, k: Elim, d: f64)
 {
     let here = k.0;
     kept::keep_one(mult, panel, at, here, here + 1, reciprocal(d));
-    apply_one(panel, mult, at, here, here + 1, at.ke, d);
+    let rows = Sweep {
+        at,
+        k: here,
+        lo: here + 1,
+        hi: at.ke,
+    };
+    apply_one(panel, mult, rows, d);
     grid::put(panel, at.nrow, here, here, d);
 }
 
@@ -90,5 +106,11 @@ pub fn head_two(panel: &mut [f64], mult: &mut [f64], at: Frame, k: Elim, b: Bloc
 {
     let here = k.0;
     keep_block(mult, panel, at, here, b);
-    apply_two(panel, mult, at, here, here + 2, at.ke, b);
+    let rows = Sweep {
+        at,
+        k: here,
+        lo: here + 2,
+        hi: at.ke,
+    };
+    apply_two(panel, mult, rows, b);
 }

@@ -12,7 +12,8 @@ use mir.Val.{Fits}
 use Rattle.model.specs.Sizes.{most_rows, widest_panel, most_rounds}
 use Rattle.model.specs.Scalar.{zero_f, is_finite}
 use Rattle.model.specs.Matrix.{view}
-use Rattle.model.specs.Answer.{or_else, turned_away}
+use Rattle.std.specs.Prelude.{Ok, Err}
+use Rattle.model.specs.Answer.{Check, or_else, turned_away}
 use Rattle.model.specs.Factor.{Buffers, shape_sound, lengths_of, lengths_sound, mode_check, columns_check, settings_check, entry_check, factor_of}
 use Rattle.model.specs.declared.Mode.{Mode}
 use Rattle.model.specs.declared.Mode.TheVariants.{Fail, Lift}
@@ -20,8 +21,6 @@ use Rattle.model.specs.declared.Settings.{Settings}
 use Rattle.model.specs.declared.Lengths.{Lengths}
 use Rattle.model.specs.declared.Refusal.{Refusal}
 use Rattle.model.specs.declared.Refusal.TheVariants.{Shape, Width, Length, Floor, Limit}
-use Rattle.model.specs.declared.Check.{Check}
-use Rattle.model.specs.declared.Check.TheVariants.{Sound, Refused}
 use Rattle.model.proofs.Cases.{and_left, and_right}
 use Rattle.model.proofs.Entry.{first-sound, second-sound, not-refused}
 use Rattle.total.specs.Finite.{PanelPre}
@@ -55,36 +54,36 @@ pub ruleset lengths-fit = (area-fits, wide_fits, square-fits, work-fits)
 -- ---- the mode: t is the finiteness test's answer
 
 module _ (m : Mode) (limit : ℕ) where
-  pub mode-fail : m ≡ Fail → Sound ≡ mode_check m limit
+  pub mode-fail : m ≡ Fail → Ok tt ≡ mode_check m limit
   unfolding mode_check
   mode-fail e = rw e
 
   module _ (f : Float) (t : Bool) (e : m ≡ Lift f) (h : t ≡ is_finite f) where
-    pub mode-floor : not (t && lt zero_f f) ≡ true → Refused Floor ≡ mode_check m limit
+    pub mode-floor : not (t && lt zero_f f) ≡ true → Err Floor ≡ mode_check m limit
     unfolding mode_check
     mode-floor l = rw (e, ← h, l)
 
-    pub mode-limit : not (t && lt zero_f f) ≡ false → not (leb 1 limit && leb limit most_rounds) ≡ true → Refused Limit ≡ mode_check m limit
+    pub mode-limit : not (t && lt zero_f f) ≡ false → not (leb 1 limit && leb limit most_rounds) ≡ true → Err Limit ≡ mode_check m limit
     unfolding mode_check
     mode-limit l k = rw (e, ← h, l, k)
 
-    pub mode-sound : not (t && lt zero_f f) ≡ false → not (leb 1 limit && leb limit most_rounds) ≡ false → Sound ≡ mode_check m limit
+    pub mode-sound : not (t && lt zero_f f) ≡ false → not (leb 1 limit && leb limit most_rounds) ≡ false → Ok tt ≡ mode_check m limit
     unfolding mode_check
     mode-sound l k = rw (e, ← h, l, k)
 
 -- ---- the settings: s and l are the answers of the shape's test and of the lengths'
 
 module _ (c : Settings) (n : Lengths) (s : Bool) (h : s ≡ shape_sound c.ncol c.nrow) where
-  pub settings-shape : not s ≡ true → Refused Shape ≡ settings_check c n
+  pub settings-shape : not s ≡ true → Err Shape ≡ settings_check c n
   unfolding settings_check
   settings-shape x = rw (← h, x)
 
-  pub settings-width : not s ≡ false → not (leb 1 c.nb && leb c.nb widest_panel) ≡ true → Refused Width ≡ settings_check c n
+  pub settings-width : not s ≡ false → not (leb 1 c.nb && leb c.nb widest_panel) ≡ true → Err Width ≡ settings_check c n
   unfolding settings_check
   settings-width x w = rw (← h, x, w)
 
   module _ (l : Bool) (g : l ≡ lengths_sound c n) (x : not s ≡ false) (w : not (leb 1 c.nb && leb c.nb widest_panel) ≡ false) where
-    pub settings-length : not l ≡ true → Refused Length ≡ settings_check c n
+    pub settings-length : not l ≡ true → Err Length ≡ settings_check c n
     unfolding settings_check
     settings-length y = rw (← h, x, w, ← g, y)
 
@@ -104,11 +103,11 @@ module _ (c : Settings) (n : Lengths) (s : Bool) (h : s ≡ shape_sound c.ncol c
       }
 
 -- past all five, the input is a panel of its stated length
-pub settings-panel : (c : Settings) (n : Lengths) (e : Check) (len : ℕ) → e ≡ settings_check c n → e ≡ Sound → n.input ≡ len
+pub settings-panel : (c : Settings) (n : Lengths) (e : Check) (len : ℕ) → e ≡ settings_check c n → e ≡ Ok tt → n.input ≡ len
     → PanelPre c.nrow c.ncol len
 unfolding settings_check lengths_sound
 settings-panel c n e len h s l =
-    let passed : settings_check c n ≡ Sound = sym h ∙ s in
+    let passed : settings_check c n ≡ Ok tt = sym h ∙ s in
     let shape : shape_sound c.ncol c.nrow ≡ true = not-refused (shape_sound c.ncol c.nrow) Shape (search first-sound) in
     let held : lengths_sound c n ≡ true = not-refused (lengths_sound c n) Length (search (first-sound, second-sound)) in
     record {
@@ -119,10 +118,10 @@ settings-panel c n e len h s l =
 -- ---- 1 to 5, then 6: e is what the first five say
 
 module _ (c : Settings) (n : Lengths) (rest : Check) (e : Check) (h : e ≡ settings_check c n) where
-  pub check-refused : (r : Refusal) → e ≡ Refused r → e ≡ or_else (settings_check c n) rest
+  pub check-refused : (r : Refusal) → e ≡ Err r → e ≡ or_else (settings_check c n) rest
   check-refused r x = first-refuses e r (settings_check c n) rest x h
 
-  pub check_sound : (f : Check) → e ≡ Sound → f ≡ rest → f ≡ or_else (settings_check c n) rest
+  pub check_sound : (f : Check) → e ≡ Ok tt → f ≡ rest → f ≡ or_else (settings_check c n) rest
   check_sound f x g = second-decides e f (settings_check c n) rest x h g
 
 -- ---- the factor call: e is what `check` answers over the lengths of its buffers
@@ -133,10 +132,10 @@ module _ (c : Settings) (input : List Float) (b : Buffers) (e : Check)
   unfolding entry_check
   entry-is = h
 
-  pub entry-sound : e ≡ Sound → entry_check c input b ≡ Sound
+  pub entry-sound : e ≡ Ok tt → entry_check c input b ≡ Ok tt
   entry-sound x = sym entry-is ∙ x
 
   -- a refused call answers the refusal and leaves every buffer as it was
-  pub entry-refused : (r : Refusal) → e ≡ Refused r → factor_of c input b ≡ record { answer = turned_away r; buffers = b }
+  pub entry-refused : (r : Refusal) → e ≡ Err r → factor_of c input b ≡ record { answer = turned_away r; buffers = b }
   unfolding factor_of
-  entry-refused r x = let w : entry_check c input b ≡ Refused r = sym entry-is ∙ x in rw w
+  entry-refused r x = let w : entry_check c input b ≡ Err r = sym entry-is ∙ x in rw w

@@ -10,7 +10,7 @@ ghost use Rattle.model.specs.Factor.{lengths_sound, mode_check, columns_check, s
 ghost use Rattle.model.specs.Answer.{or_else};
 ghost use Rattle.entry.specs.Entry.{LengthsPre};
 
-use model::{Check, LIMIT_MAX, Lengths, Mode, Refusal, Settings, WIDTH_MAX};
+use model::{LIMIT_MAX, Lengths, Mode, Refusal, Settings, WIDTH_MAX};
 
 // Refusal 3's test, the last buffers first.
 fn lengths_sound(c: Settings, n: Lengths) -> bool
@@ -27,48 +27,44 @@ fn lengths_sound(c: Settings, n: Lengths) -> bool
 }
 
 // Refusals 4 and 5.
-fn check_mode(mode: Mode, limit: usize) -> Check
+fn check_mode(mode: Mode, limit: usize) -> Result<(), Refusal>
     ensures { result ≡ mode_check mode limit }
 {
     let Mode::Lift(floor) = mode else {
-        return Check::Sound;
+        return Ok(());
     };
     if !(scalar::is_finite(floor) & (0.0 < floor)) {
-        return Check::Refused(Refusal::Floor);
+        return Err(Refusal::Floor);
     }
     if !((1 <= limit) & (limit <= LIMIT_MAX)) {
-        return Check::Refused(Refusal::Limit);
+        return Err(Refusal::Limit);
     }
-    Check::Sound
+    Ok(())
 }
 
 // Refusals 1 to 5.
-fn check_settings(c: Settings, n: Lengths) -> Check
+fn check_settings(c: Settings, n: Lengths) -> Result<(), Refusal>
     ensures { result ≡ settings_check c n }
 {
     if !checks::shape_sound(c.ncol, c.nrow) {
-        return Check::Refused(Refusal::Shape);
+        return Err(Refusal::Shape);
     }
     if !((1 <= c.nb) & (c.nb <= WIDTH_MAX)) {
-        return Check::Refused(Refusal::Width);
+        return Err(Refusal::Width);
     }
     if !lengths_sound(c, n) {
-        return Check::Refused(Refusal::Length);
+        return Err(Refusal::Length);
     }
-    let mode = c.mode;
-    check_mode(mode, c.limit)
+    check_mode(c.mode, c.limit)
 }
 
 // Refusals 1 to 6.
 // in: the settings, the lengths of the ten buffers, and the input itself
-pub fn check(c: Settings, n: Lengths, input: &[f64]) -> Check
+pub fn check(c: Settings, n: Lengths, input: &[f64]) -> Result<(), Refusal>
     requires { n.input ≡ length input.now }
     ensures { result ≡ or_else (settings_check c n)
         (columns_check (view c.nrow input.now) c.nrow c.ncol 0) }
 {
-    let settings = check_settings(c, n);
-    let Check::Sound = settings else {
-        return settings;
-    };
+    check_settings(c, n)?;
     scan::first_not_finite(input, c.ncol, c.nrow)
 }

@@ -1,6 +1,6 @@
 -- Laws of the parts of the exchange: one pair more, as the loops have it. Assumes nothing.
 use Prim.Native.Nat.{ℕ, ◌+◌, ◌*◌, ◌<◌, ◌≤◌}
-use mathlib.Core.Path.{◌≡◌, refl, ◌∙◌, ap, fun_ext}
+use mathlib.Core.Path.{◌≡◌, refl, sym, ◌∙◌, ap, subst, fun_ext}
 use mathlib.Core.Bool.{false, ◌&&◌}
 use mathlib.Core.List.{List}
 use native.Mathlib.Omega.{arith}
@@ -9,11 +9,13 @@ use borrow.Author.Tests.{lt-ltb, le-ltb, le-leb, lt-leb, eq-eqb, ne_eqb, eqb-tru
 use lib.Dec.{ltb, leb, eqb}
 use lib.ListN.{length, get_or, set, length-set}
 use lib.Ieee.{Float, nan}
+use Rattle.std.specs.List.{swap}
+use Rattle.std.proofs.lemmas.List.Edits.{swap_is}
 use Rattle.model.specs.Matrix.{Mat, column_start, view, put_at}
 use Rattle.model.proofs.Cases.{test, no}
 use Rattle.grid.specs.Grid.{In}
 use Rattle.grid.proofs.Laws.{view-read, view-written}
-use Rattle.exchange.specs.Exchange.{cells_swapped, cross_exchanged, diagonal_exchanged, rows_exchanged}
+use Rattle.exchange.specs.Exchange.{cross_exchanged, diagonal_exchanged, rows_exchanged}
 
 -- (i, j) and (k, l) exchanged
 pair : Mat → ℕ → ℕ → ℕ → ℕ → Mat
@@ -21,10 +23,14 @@ pair M i j k l = put_at (put_at M i j (M k l)) k l (M i j)
 
 -- s and t are where columns j and l begin
 view-swapped : (n : ℕ) (xs : List Float) (i j s k l t : ℕ) → s ≡ column_start n j → t ≡ column_start n l → In n i j (length xs) → In n k l (length xs)
-    → view n (cells_swapped xs (i + s) (k + t)) ≡ pair (view n xs) i j k l
-unfolding cells_swapped pair
+    → view n (swap xs (i + s) (k + t)) ≡ pair (view n xs) i j k l
+unfolding pair
 view-swapped n xs i j s k l t first second h g =
-    rw (← view-read n xs i j s first h.row, ← view-read n xs k l t second g.row)
+    rw (
+      ← swap_is xs (i + s) (k + t) nan (subst (λ (z : ℕ). i + z < length xs) (sym first) h.off) (subst (λ (z : ℕ). k + z < length xs) (sym second) g.off),
+      ← view-read n xs i j s first h.row,
+      ← view-read n xs k l t second g.row,
+    )
     (view-written n (set xs (i + s) _) k l t _ second (record { row = g.row; off = simp length-set g.off })
     ∙ ap (λ (P : Mat). put_at P k l (get_or xs (i + s) nan)) (view-written n xs i j s _ first h))
 
@@ -99,21 +105,21 @@ in_both n len i j k l xs a b g h e = (record { row = a; off = omega arith }, rec
 pub cross-step : (M : Mat) (xs ys : List Float) (n len p q s t i : ℕ) → s ≡ column_start n p → t ≡ column_start n i → p < q → q < n → p + 1 ≤ i → i < q
     → n + p * n ≤ len → n + q * n ≤ len
     → i * n ≤ q * n → length xs ≡ len → view n xs ≡ cross_exchanged M p q (p + 1) i
-    → ys ≡ cells_swapped xs (i + s) (q + t) → view n ys ≡ cross_exchanged M p q (p + 1) (i + 1)
+    → ys ≡ swap xs (i + s) (q + t) → view n ys ≡ cross_exchanged M p q (p + 1) (i + 1)
 cross-step M xs ys n len p q s t i first own d b l h rp rq m e v y =
     let r = in_both n len i p q i xs (omega arith) (omega arith) (omega arith) (omega arith) e in
     rw y (view-swapped n xs i p s q i t first own r.0 r.1 ∙ ap (λ (P : Mat). pair P i p q i) v ∙ cross-more M p q (p + 1) i (omega arith) l h)
 
 pub rows_step : (M : Mat) (xs ys : List Float) (n len p q s j : ℕ) → s ≡ column_start n j → p < q → q < n → j < p → n + p * n ≤ len → n + q * n ≤ len
     → j * n ≤ p * n → length xs ≡ len → view n xs ≡ rows_exchanged M p q 0 j
-    → ys ≡ cells_swapped xs (p + s) (q + s) → view n ys ≡ rows_exchanged M p q 0 (j + 1)
+    → ys ≡ swap xs (p + s) (q + s) → view n ys ≡ rows_exchanged M p q 0 (j + 1)
 rows_step M xs ys n len p q s j at d b h rp rq m e v y =
     let r = in_both n len p j q j xs (omega arith) (omega arith) (omega arith) (omega arith) e in
     rw y (view-swapped n xs p j s q j s at at r.0 r.1 ∙ ap (λ (P : Mat). pair P p j q j) v ∙ rows_more M p q 0 j d (omega arith))
 
 pub diagonal-step : (xs ys : List Float) (n p q s t : ℕ) → s ≡ column_start n p → t ≡ column_start n q → p < q → q < n → n + p * n ≤ length xs
     → n + q * n ≤ length xs
-    → ys ≡ cells_swapped xs (p + s) (q + t) → view n ys ≡ diagonal_exchanged (view n xs) p q
+    → ys ≡ swap xs (p + s) (q + t) → view n ys ≡ diagonal_exchanged (view n xs) p q
 diagonal-step xs ys n p q s t first second d b rp rq y =
     let r = in_both n (length xs) p p q q xs (omega arith) (omega arith) (omega arith) (omega arith) refl in
     rw y (view-swapped n xs p p s q q t first second r.0 r.1 ∙ diagonal-is (view n xs) p q d)

@@ -1,4 +1,4 @@
--- The four parts together are the symmetric exchange, and what they ask. Assumes nothing.
+-- The four parts together are the symmetric exchange. Assumes nothing.
 use Prim.Native.Nat.{ℕ, ◌+◌, ◌<◌, ◌≤◌}
 use mathlib.Core.Path.{◌≡◌, refl, sym, ◌∙◌, fun_ext}
 use mathlib.Core.Logic.{◌≢◌}
@@ -10,8 +10,7 @@ use Rattle.model.specs.Matrix.{Mat, exchanged, exchanged_place}
 use Rattle.grid.specs.Rules.{columns_exchanged}
 use Rattle.model.proofs.Cases.{test, cmp, no, and_left, and_right}
 use Rattle.model.proofs.Exchanged.{exchanged-in, exchanged-up, exchanged-past}
-use Rattle.grid.proofs.Laws.{col-in}
-use Rattle.exchange.specs.Exchange.{cross_exchanged, diagonal_exchanged, rows_exchanged, PartsPre, ExchangePre}
+use Rattle.exchange.specs.Exchange.{cross_exchanged, diagonal_exchanged, rows_exchanged}
 use Rattle.exchange.proofs.Laws.{place-p, place-q, place-no, keep, turn}
 
 -- ---- tests
@@ -205,15 +204,3 @@ pub exchange : (M N P Q R : Mat) (p q lim : ℕ) → p < q → q < lim → N ≡
     → Q ≡ diagonal_exchanged P p q → R ≡ rows_exchanged Q p q 0 p → R ≡ exchanged p q lim M
 unfolding A B C D E
 exchange M N P Q R p q lim d u n e f g = g ∙ rw (f, e, n) (all-four M p q lim d u)
-
--- ---- what the parts ask
-
-pub parts-pre : (n c p q limit len : ℕ) → ExchangePre n c p q limit len → PartsPre n p q limit len
-parts-pre n c p q limit len h =
-    record {
-      order = h.order;
-      before = h.before;
-      rows = h.rows;
-      one = col-in n c p len h.panel (omega arith);
-      other = col-in n c q len h.panel h.columns;
-    }

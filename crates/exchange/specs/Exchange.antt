@@ -1,12 +1,7 @@
 -- The parts that make the symmetric exchange of rows and columns p < q in a lower triangle, in the order of the Rust, and what they ask of their callers.
 -- The columns' part is grid's `columns_exchanged`; the whole is model's `exchanged`. Definitions only. Assumes nothing.
-use Rattle.std.specs.Prelude.{◌≡◌, cond, ◌&&◌, List, ℕ, ◌+◌, ◌*◌, ◌<◌, ◌≤◌, eqb, get_or, set, Float}
-use Rattle.std.specs.Float.{nan}
+use Rattle.std.specs.Prelude.{◌≡◌, cond, ◌&&◌, ℕ, ◌+◌, ◌*◌, ◌<◌, ◌≤◌, eqb}
 use Rattle.model.specs.Matrix.{Mat, within, exchanged_place}
-
--- two numbers of a list, one for the other
-unfoldable pub cells_swapped : List Float → ℕ → ℕ → List Float
-cells_swapped xs x y = set (set xs x (get_or xs y nan)) y (get_or xs x nan)
 
 -- (k, p) and (q, k), for k from lo up to hi
 unfoldable pub cross_exchanged : Mat → ℕ → ℕ → ℕ → ℕ → Mat
@@ -22,23 +17,10 @@ rows_exchanged M p q lo hi = λ i j. cond (within lo hi j) (M (exchanged_place p
 
 -- ---- what the callers owe
 
--- both places are there
-pub record SwapPre (x y len : ℕ) : Type 0 where
-  pub one : x < len
-  pub other : y < len
-
 -- rows p < q of n, and the columns of the same numbers
 pub record PairPre (n p q len : ℕ) : Type 0 where
   pub order : p < q
   pub rows : q < n
-  pub one : n + p * n ≤ len
-  pub other : n + q * n ≤ len
-
--- the same before a limit that is within the n rows
-pub record PartsPre (n p q limit len : ℕ) : Type 0 where
-  pub order : p < q
-  pub before : q < limit
-  pub rows : limit ≤ n
   pub one : n + p * n ≤ len
   pub other : n + q * n ≤ len
 

@@ -1,20 +1,22 @@
-// The symmetric exchange of two rows and columns in the lower triangle of a column-major panel, up to a row limit.
+// The symmetric exchange of two rows and columns in the lower triangle of a column-major panel, up to the panel's end.
 // A reader may rely on the contracts of the two public functions: the panel becomes `exchanged` of
-// model/specs/Matrix.antt, so nothing above the diagonal and no row from the limit on changes.
+// model/specs/Matrix.antt, so nothing above the diagonal and no row from the end on changes.
 #![tactic(auto)]
 
-ghost use Rattle.std.specs.Prelude.{◌≡◌, ◌+◌, length};
+ghost use Rattle.std.specs.List.{swap};
+ghost use Rattle.std.specs.Prelude.{◌≡◌, ◌+◌, ◌<◌, length};
 ghost use Rattle.model.specs.Matrix.{view, exchanged};
-ghost use Rattle.exchange.specs.Exchange.{cells_swapped, cross_exchanged, diagonal_exchanged, rows_exchanged};
-ghost use Rattle.exchange.specs.Exchange.{SwapPre, PairPre, PartsPre, ExchangePre, ExchangeIfPre};
+ghost use Rattle.exchange.specs.Exchange.{cross_exchanged, diagonal_exchanged, rows_exchanged};
+ghost use Rattle.exchange.specs.Exchange.{PairPre, ExchangePre, ExchangeIfPre};
 
 use grid::column_start;
-use model::LocalRow;
+use model::{Frame, LocalRow};
 
-// The numbers at x and y, one for the other.
+// The numbers at x and y, one for the other. (std's `swap` first asks which of the two places comes first; in these
+// loops that took half as many instructions again.)
 fn swap(panel: &mut [f64], x: usize, y: usize)
-    requires { SwapPre x y (length panel.old) }
-    ensures { panel.new ≡ cells_swapped panel.old x y }
+    requires { (x < length panel.old) × (y < length panel.old) }
+    ensures { panel.new ≡ swap panel.old x y }
 {
     let t = panel[x];
     panel[x] = panel[y];
@@ -27,8 +29,8 @@ fn exchange_cross(panel: &mut [f64], nrow: usize, p: LocalRow, q: LocalRow)
     ensures { view nrow panel.new
         ≡ cross_exchanged (view nrow panel.old) p.0 q.0 (p.0 + 1) q.0 }
 {
+    let first = column_start(nrow, p.0);
     for i in (p.0 + 1)..q.0 {
-        let first = column_start(nrow, p.0);
         let own = column_start(nrow, i);
         swap(panel, i + first, q.0 + own);
     }
@@ -57,46 +59,26 @@ fn exchange_rows(panel: &mut [f64], nrow: usize, p: LocalRow, q: LocalRow)
     }
 }
 
-// The parts in turn: the columns below q and before the limit, the cross strip, the diagonal, the rows left of p.
-fn exchange_parts(panel: &mut [f64], nrow: usize, p: LocalRow, q: LocalRow, limit: usize)
-    requires { PartsPre nrow p.0 q.0 limit (length panel.old) }
-    ensures { view nrow panel.new ≡ exchanged p.0 q.0 limit (view nrow panel.old) }
-{
-    grid::columns::exchange(panel, nrow, p.0, q.0, q.0 + 1, limit);
-    exchange_cross(panel, nrow, p, q);
-    exchange_diagonal(panel, nrow, p, q);
-    exchange_rows(panel, nrow, p, q);
-}
-
-// The exchange of p < q in the lower triangle before the limit.
+// The exchange of p < q in the lower triangle before the panel's end, its parts in turn: the columns below q, the cross
+// strip, the diagonal, the rows left of p.
 // origin: src/numeric/ldlt/bunch_kaufman.rs, fn swap_sym_lower_bounded
-pub fn swap_sym_lower_bounded(
-    panel: &mut [f64],
-    nrow: usize,
-    ncol: usize,
-    p: LocalRow,
-    q: LocalRow,
-    limit: usize,
-)
-    requires { ExchangePre nrow ncol p.0 q.0 limit (length panel.old) }
-    ensures { view nrow panel.new ≡ exchanged p.0 q.0 limit (view nrow panel.old) }
+pub fn swap_sym_lower_bounded(panel: &mut [f64], at: Frame, p: LocalRow, q: LocalRow)
+    requires { ExchangePre at.nrow at.ncol p.0 q.0 at.ke (length panel.old) }
+    ensures { view at.nrow panel.new ≡ exchanged p.0 q.0 at.ke (view at.nrow panel.old) }
 {
-    exchange_parts(panel, nrow, p, q, limit);
+    grid::columns::exchange(panel, at.nrow, p.0, q.0, q.0 + 1, at.ke);
+    exchange_cross(panel, at.nrow, p, q);
+    exchange_diagonal(panel, at.nrow, p, q);
+    exchange_rows(panel, at.nrow, p, q);
 }
 
-// The exchange of p ≤ q, which is none where they are one.
-pub fn exchange_if(
-    panel: &mut [f64],
-    nrow: usize,
-    ncol: usize,
-    p: LocalRow,
-    q: LocalRow,
-    limit: usize,
-)
-    requires { ExchangeIfPre nrow ncol p.0 q.0 limit (length panel.old) }
-    ensures { view nrow panel.new ≡ exchanged p.0 q.0 limit (view nrow panel.old) }
+// The exchange of p ≤ q, which is none where they are one. (Inlined: a step mostly exchanges nothing.)
+#[inline(always)]
+pub fn exchange_if(panel: &mut [f64], at: Frame, p: LocalRow, q: LocalRow)
+    requires { ExchangeIfPre at.nrow at.ncol p.0 q.0 at.ke (length panel.old) }
+    ensures { view at.nrow panel.new ≡ exchanged p.0 q.0 at.ke (view at.nrow panel.old) }
 {
     if p.0 != q.0 {
-        swap_sym_lower_bounded(panel, nrow, ncol, p, q, limit);
+        swap_sym_lower_bounded(panel, at, p, q);
     }
 }

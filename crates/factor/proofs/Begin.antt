@@ -12,33 +12,37 @@ use lib.Ieee.{Float, lt}
 use Rattle.model.specs.Sizes.{most_columns, most_rounds}
 use Rattle.model.specs.Scalar.{zero_f, is_finite}
 use Rattle.model.specs.Matrix.{view, naturals}
-use Rattle.model.specs.Step.{pivots_of}
+use Rattle.model.specs.Step.{pivots_of, recorded_in}
 use Rattle.model.specs.Head.{State}
-use Rattle.model.specs.Factor.{Buffers, work_length, mode_check, entry_check, start}
+use Rattle.model.specs.Factor.{Buffers, lent_in, work_length, mode_check, entry_check, pivoting_of, start}
+use Rattle.model.specs.declared.LentBuffers.{LentBuffers}
+use Rattle.model.specs.declared.PivotRecord.{PivotRecord}
 use Rattle.model.specs.Answer.{refuse_if}
 use Rattle.model.specs.declared.Settings.{Settings}
 use Rattle.model.specs.declared.Mode.{Mode}
 use Rattle.model.specs.declared.Pivoting.{Pivoting}
 use Rattle.model.specs.declared.Mode.TheVariants.{Fail, Lift}
 use Rattle.model.specs.declared.Refusal.TheVariants.{Floor, Limit}
-use Rattle.model.specs.declared.Check.TheVariants.{Sound}
+use Rattle.std.specs.Prelude.{Ok}
 use Rattle.model.proofs.Cases.{and_right}
 use Rattle.model.proofs.Entry.{second-sound, not-refused, passed}
 use Rattle.model.proofs.Recorded.{none-recorded}
 use Rattle.whole.specs.Whole.{WholeRun, whole_panels_of}
-use Rattle.buffers.specs.Buffers.{Begun}
+use Rattle.buffers.specs.Buffers.{begun_of}
 use Rattle.buffers.proofs.Buffers.{bytes-zeros, begun-start}
 use Rattle.step.specs.Terms.{LimitPre}
 use Rattle.bunch_kaufman.specs.Terms.{NotedTo}
 use Rattle.panels.specs.Turn.{between}
-use Rattle.panels.specs.Run.{RunPre, TurnHolds}
+use Rattle.panels.specs.Run.{run_of, RunPre, TurnHolds}
+use Rattle.bunch_kaufman.specs.Answers.{Ran}
+use Rattle.factor.specs.Run.{Eliminated}
 
-pub copy-pre : (c : Settings) (input : List Float) (b : Buffers) → entry_check c input b ≡ Sound → length b.panel ≡ length input
+pub copy-pre : (c : Settings) (input : List Float) (b : Buffers) → entry_check c input b ≡ Ok tt → length b.panel ≡ length input
 copy-pre c input b e = let w = passed c input b e in w.lengths.panel ∙ sym w.lengths.input
 
 -- ---- what the loop asks
 
-limit-pre : (mode : Mode) (limit : ℕ) → mode_check mode limit ≡ Sound → LimitPre mode limit
+limit-pre : (mode : Mode) (limit : ℕ) → mode_check mode limit ≡ Ok tt → LimitPre mode limit
 unfolding mode_check
 limit-pre Fail limit e = tt
 limit-pre (Lift floor) limit e =
@@ -53,7 +57,7 @@ work-less nrow w nb h =
     let c : w * nb ≤ nb * nb = mul-le-mul_right nb h in
     omega arith
 
-pub run-pre : (c : Settings) (input : List Float) (b : Buffers) (w len len_w : ℕ) → entry_check c input b ≡ Sound
+pub run-pre : (c : Settings) (input : List Float) (b : Buffers) (w len len_w : ℕ) → entry_check c input b ≡ Ok tt
     → w ≡ min c.nb (max c.ncol 1) → len ≡ length b.panel → len_w ≡ length b.work
     → RunPre (record { ncol = c.ncol; nrow = c.nrow; nb = w; mode = c.mode; limit = c.limit }) len len_w
 run-pre c input b w len len_w e h l m =
@@ -71,18 +75,17 @@ run-pre c input b w len len_w e h l m =
       work = omega (arith, work-less c.nrow w c.nb (omega arith), p.lengths.work);
     }
 
-pub holds-pre : (c : Settings) (input : List Float) (b : Buffers) (ld ls lb : ℕ) (partners : List ℕ) (ll la lo : ℕ) → entry_check c input b ≡ Sound
-    → ld ≡ length b.d → ls ≡ length b.sub → lb ≡ length b.blocks → partners ≡ replicate most_columns 0 → ll ≡ length b.lifts
-    → la ≡ length b.amounts → lo ≡ length b.order → TurnHolds c.nrow c.ncol ld ls lb (length partners) ll la lo
-holds-pre c input b ld ls lb partners ll la lo e e1 e2 e3 e4 e5 e6 e7 =
-    let p = passed c input b e in
+pub holds-pre : (c : Settings) (input : List Float) (x : LentBuffers) (r : PivotRecord) → entry_check c input (lent_in x) ≡ Ok tt
+    → length r.d.now ≡ length x.d.now → length r.sub.now ≡ length x.sub.now → length r.blocks.now ≡ length x.blocks.now
+    → r.partners.now ≡ replicate most_columns 0 → length r.lifts.now ≡ length x.lifts.now → length r.amounts.now ≡ length x.amounts.now
+    → length r.order.now ≡ length x.order.now → TurnHolds c.nrow c.ncol r
+holds-pre c input x r e e1 e2 e3 e4 e5 e6 e7 =
+    let p = passed c input (lent_in x) e in
     record {
-      diagonals = record {
-        d = e1 ∙ p.lengths.d;
-        sub = e2 ∙ p.lengths.sub;
-        blocks = e3 ∙ p.lengths.blocks;
-        partners = ap length e4 ∙ length-replicate {A = ℕ} most_columns 0;
-      };
+      d = e1 ∙ p.lengths.d;
+      sub = e2 ∙ p.lengths.sub;
+      blocks = e3 ∙ p.lengths.blocks;
+      partners = ap length e4 ∙ length-replicate {A = ℕ} most_columns 0;
       lifts = e5 ∙ p.lengths.lifts;
       amounts = e6 ∙ p.lengths.amounts;
       order = e7 ∙ p.lengths.order;
@@ -97,21 +100,31 @@ run_is how nrow ncol w v r s t e f h =
 -- ---- before the first panel
 
 -- nothing is noted yet
-pub noted-none : (n : ℕ) (blocks partners : List ℕ) → blocks ≡ replicate n 0 → partners ≡ replicate most_columns 0
-    → NotedTo 0 1 0 (naturals blocks) (naturals partners)
-noted-none n blocks partners e f = record {
+pub noted-none : (n : ℕ) (d sub : List Float) (blocks partners lifts : List ℕ) (amounts : List Float) (order : List ℕ)
+    → blocks ≡ replicate n 0 → partners ≡ replicate most_columns 0 → NotedTo 0 1 0 (pivots_of d sub blocks partners lifts amounts order)
+noted-none n d sub blocks partners lifts amounts order e f = record {
   few = omega arith;
   pair = λ c h. absurd (omega (arith, ap (λ (g : ℕ → ℕ). g c) (ap naturals e ∙ bytes-zeros n)));
   partner = λ c. omega (arith, ap (λ (g : ℕ → ℕ). g c) (ap naturals f ∙ bytes-zeros most_columns));
-  recorded = none-recorded (naturals blocks) (naturals partners);
+  recorded = rw (e, f, bytes-zeros n, bytes-zeros most_columns) (none-recorded (λ i. 0) (λ i. 0));
 }
 
--- the slices show the start
-pub start_is : (c : Settings) (input : List Float) (b : Buffers) (panel d sub amounts : List Float) (blocks lifts order partners : List ℕ)
-    → entry_check c input b ≡ Sound → Begun input panel d sub blocks lifts amounts order
-    → length d ≡ length b.d → length sub ≡ length b.sub → length amounts ≡ length b.amounts → partners ≡ replicate most_columns 0
-    → between c.nrow panel (pivots_of d sub blocks partners lifts amounts order) 0 ≡ start c.ncol (view c.nrow input)
-start_is c input b panel d sub amounts blocks lifts order partners e w ld ls la p =
-    let q = passed c input b e in
-    begun-start input panel d sub amounts blocks partners lifts order c.nrow c.ncol w (ld ∙ q.lengths.d) (ls ∙ q.lengths.sub)
-    (la ∙ q.lengths.amounts) (ap naturals p ∙ bytes-zeros most_columns)
+-- the buffers show the start: x as they were lent, y as they begin
+pub start_is : (c : Settings) (input : List Float) (x y : LentBuffers) (partners : List ℕ) → entry_check c input (lent_in x) ≡ Ok tt
+    → lent_in y ≡ begun_of input (lent_in x) → partners ≡ replicate most_columns 0
+    → between c.nrow y.panel.now (pivots_of y.d.now y.sub.now y.blocks.now partners y.lifts.now y.amounts.now y.order.now) 0
+    ≡ start c.ncol (view c.nrow input)
+start_is c input x y partners e w p =
+    let q = passed c input (lent_in x) e in
+    begun-start input (lent_in x) (lent_in y) partners c.nrow c.ncol w q.lengths.d q.lengths.sub q.lengths.amounts
+    (ap naturals p ∙ bytes-zeros most_columns)
+
+-- ---- after the last panel
+
+-- what the loop over panels leaves in the record R is what the lists that it was lent show
+pub eliminated-is : (c : Settings) (input : List Float) (r : Ran) (b : Buffers) (R : PivotRecord)
+    → run_of r (between c.nrow b.panel (recorded_in R))
+    ≡ whole_panels_of (pivoting_of c) c.nrow c.ncol (min c.nb (max c.ncol 1)) c.ncol 0 (start c.ncol (view c.nrow input))
+    → b.d ≡ R.d.now → b.sub ≡ R.sub.now → b.blocks ≡ R.blocks.now → b.lifts ≡ R.lifts.now → b.amounts ≡ R.amounts.now → b.order ≡ R.order.now
+    → Eliminated c input r b
+eliminated-is c input r b R h e1 e2 e3 e4 e5 e6 = record { partners = R.partners.now; run = rw (e1, e2, e3, e4, e5, e6) h }

@@ -11,19 +11,18 @@ use Rattle.model.specs.Step.{diagonals_of, Pivots, pivots_of}
 use Rattle.model.specs.Head.{State}
 use Rattle.model.specs.Inertia.{tallied_of}
 use Rattle.model.specs.Factor.{pivoting_of, Buffers, start, entry_check, result_check, HeadAnswer, fails, stands, head_answer_of}
-use Rattle.model.specs.Factor.{factor_row_of, mark_of, factor_entry, zeros, report_of, after_head, factor_of}
-use Rattle.model.specs.Answer.{turned_away}
+use Rattle.model.specs.Factor.{factor_row_of, mark_of, factor_entry, Outcome, zeros, report_of, after_head, factor_of}
+use Rattle.model.specs.Answer.{accepted, turned_away}
 use Rattle.model.specs.declared.Settings.{Settings}
 use Rattle.model.specs.declared.Tally.{Tally}
 use Rattle.model.specs.declared.Refusal.{Refusal}
-use Rattle.model.specs.declared.Check.TheVariants.{Sound, Refused}
+use Rattle.std.specs.Prelude.{Ok, Err}
 use Rattle.model.proofs.Tabulated.{length-tabulate_from, get_d_tabulate, is-tabulate, is-column_major}
 use Rattle.model.proofs.Entry.{Passed, passed, past-entry}
 use Rattle.whole.specs.Whole.{WholeRun, stopped_by, ended, whole_panels_of}
 use Rattle.whole.proofs.Result.{Reached, run-stopped, run-ended, reached-answer, reached-entry, reached-mark, reached-pivots, reached-rounds}
 use Rattle.buffers.specs.Buffers.{buffers_of}
 use Rattle.panels.specs.Turn.{between}
-use Rattle.judge.proofs.Laws.{accepted_with}
 
 -- ---- lists from what they show
 
@@ -50,6 +49,9 @@ tabulate-same : (n : ℕ) (f g : ℕ → ℕ) → ((k : ℕ) → k < n → f k �
 tabulate-same n f g h = is-tabulate n g 0 (tabulate n f) (length-tabulate_from 0 n f) (λ k l. get_d_tabulate n k f 0 l ∙ h k l)
 
 -- an accepted outcome by its parts
+abbrev accepted_with : ℕ → Tally → Buffers → Outcome
+accepted_with rounds tally b = record { answer = accepted (record { rounds = rounds; inertia = tally }); buffers = b }
+
 outcome-same : (r r' : ℕ) (t t' : Tally) (p p' d d' s s' a a' w w' : List Float) (b b' l l' o o' m m' : List ℕ)
     → r ≡ r' → t ≡ t' → p ≡ p' → d ≡ d' → s ≡ s' → b ≡ b' → l ≡ l' → a ≡ a' → o ≡ o' → m ≡ m' → w ≡ w'
     → accepted_with r t (buffers_of p d s b l a o m w) ≡ accepted_with r' t' (buffers_of p' d' s' b' l' a' o' m' w')
@@ -58,7 +60,7 @@ outcome-same r r' t t' p p' d d' s s' a a' w w' b b' l l' o o' m m' er et ep ed 
 
 -- ---- the call past the entry checks
 
-module _ (c : Settings) (input : List Float) (b : Buffers) (e : entry_check c input b ≡ Sound) where
+module _ (c : Settings) (input : List Float) (b : Buffers) (e : entry_check c input b ≡ Ok tt) where
   abbrev given : Mat
   given = view c.nrow input
 
@@ -82,19 +84,19 @@ module _ (c : Settings) (input : List Float) (b : Buffers) (e : entry_check c in
     reached = run-ended (pivoting_of c) c.nrow c.ncol c.nb given checked.head checked.some t (sym s)
 
     -- refused after the last column
-    pub unsound-outcome : (r : Refusal) → result_check c.ncol t.pivots.diagonals t.a c.ncol 0 ≡ Refused r
+    pub unsound-outcome : (r : Refusal) → result_check c.ncol t.pivots.diagonals t.a c.ncol 0 ≡ Err r
         → record { answer = turned_away r; buffers = zeros b } ≡ factor_of c input b
     unsound-outcome r h =
         sym (by-head (fails r) (reached-answer (pivoting_of c) c.nrow c.ncol c.nb given t reached ∙ rw h))
 
-    stands-answer : result_check c.ncol t.pivots.diagonals t.a c.ncol 0 ≡ Sound
+    stands-answer : result_check c.ncol t.pivots.diagonals t.a c.ncol 0 ≡ Ok tt
         → head_answer_of (pivoting_of c) c.ncol c.nb given ≡ stands reached.state reached.panels
     stands-answer h = reached-answer (pivoting_of c) c.nrow c.ncol c.nb given t reached ∙ rw h
 
   -- accepted
   pub accepted-outcome : (panel d sub amounts work : List Float) (blocks lifts order marks partners : List ℕ) (rounds : ℕ) (tally : Tally)
       → ended (between c.nrow panel (pivots_of d sub blocks partners lifts amounts order) rounds) ≡ whole_of
-      → result_check c.ncol (diagonals_of d sub blocks) (view c.nrow panel) c.ncol 0 ≡ Sound
+      → result_check c.ncol (diagonals_of d sub blocks) (view c.nrow panel) c.ncol 0 ≡ Ok tt
       → length panel ≡ c.nrow * c.ncol → length d ≡ c.ncol → length sub ≡ c.ncol → length amounts ≡ c.ncol
       → length blocks ≡ c.ncol → length lifts ≡ c.ncol → length order ≡ c.nrow
       → marks ≡ tabulate (c.nrow - c.ncol) (λ i. mark_of c.ncol (view c.nrow panel (c.ncol + i)))

@@ -3,9 +3,8 @@
 use Rattle.std.specs.Prelude.{◌≡◌, ℕ, ◌-◌, ◌≤◌, ◌<◌}
 use Rattle.model.specs.Matrix.{view, naturals}
 use Rattle.model.specs.Factor.{Buffers, factor_of}
-use Rattle.model.specs.Answer.{factored_says}
+use Rattle.model.specs.Answer.{Factored, factored_says}
 use Rattle.model.specs.Independence.{Call, PastEntry, Alike, SameInput}
-use Rattle.model.specs.declared.Factored.{Factored}
 use Rattle.judge.specs.Judge.{outcome_of}
 
 -- a call that was made: what `factor` answered, what it left in the nine buffers, and its contract

@@ -1,129 +1,67 @@
 // The factor call: the LDLᵀ factorization of one supernode, refused by number and place or accepted with the factor. A
 // reader may rely on the contract of `factor` alone: its answer and every lent buffer are `factor_of` of
-// crates/model/specs/Factor.antt, on every input. It asks nothing of its caller. The functions above it are a chain,
-// each with one or two calls that pass the buffers on: eliminate (copy, panels in turn), run (and crates/judge: refusal
-// 9, or accepted).
+// crates/model/specs/Factor.antt, on every input. It asks nothing of its caller.
 #![tactic(auto)]
 
-ghost use Rattle.std.specs.Prelude.{◌≡◌, min, max};
-ghost use Rattle.model.specs.Factor.{entry_check, factor_of};
-ghost use Rattle.model.specs.declared.Check.TheVariants.{Sound};
-ghost use Rattle.buffers.specs.Buffers.{buffers_of};
+ghost use Rattle.std.specs.Prelude.{◌≡◌, min, max, Ok};
+ghost use Rattle.model.specs.Factor.{entry_check, factor_of, lent_in, SameLent};
 ghost use Rattle.judge.specs.Judge.{outcome_of};
-ghost use Rattle.factor.specs.Run.{refusal_of, Eliminated};
+ghost use Rattle.factor.specs.Run.{Eliminated};
 
-use bunch_kaufman::Ran;
-use model::{COLUMNS_MAX, Check, Factored, Lengths, Report, Settings, Tally};
+use model::{COLUMNS_MAX, Lengths, LentBuffers, PivotRecord, Refusal, Report, Settings};
 
 // The panel width that is used: no panel is wider than the node.
 fn width(nb: usize, ncol: usize) -> usize
     ensures { result ≡ min nb (max ncol 1) }
 {
-    if ncol == 0 {
-        if nb < 1 {
-            return nb;
-        }
-        return 1;
-    }
-    if nb < ncol {
-        return nb;
-    }
-    ncol
+    nb.min(ncol.max(1))
 }
 
-// The input copied, then its panels in turn.
-fn eliminate(
-    c: Settings,
-    input: &[f64],
-    panel: &mut [f64],
-    d: &mut [f64],
-    sub: &mut [f64],
-    blocks: &mut [u8],
-    lifts: &mut [u8],
-    amounts: &mut [f64],
-    order: &mut [usize],
-    marks: &[u8],
-    work: &mut [f64],
-) -> Ran
-    requires { entry_check c input.now (buffers_of panel.old d.old sub.old blocks.old lifts.old
-        amounts.old order.old marks.now work.old) ≡ Sound }
-    ensures { Eliminated c input.now result panel.new d.new sub.new
-        blocks.new lifts.new amounts.new order.new }
+// The input copied, then its panels in turn; the rounds of all block lifts.
+fn eliminate(c: Settings, input: &[f64], b: &mut LentBuffers) -> Result<usize, Refusal>
+    requires { entry_check c input.now (lent_in b.old) ≡ Ok tt }
+    ensures same { SameLent b.old b.new }
+    ensures eliminated { Eliminated c input.now result (lent_in b.new) }
 {
-    buffers::begin(input, panel, d, sub, blocks, lifts, amounts, order);
-    let mut partners = [0u16; COLUMNS_MAX];
-    let nb = width(c.nb, c.ncol);
-    let mode = c.mode;
+    buffers::begin(input, b);
     let used = Settings {
-        ncol: c.ncol,
-        nrow: c.nrow,
-        nb,
-        mode,
-        limit: c.limit,
+        nb: width(c.nb, c.ncol),
+        ..c
     };
-    panels::panels(
-        panel,
-        work,
+    let panel = &mut *b.panel;
+    let d = &mut *b.d;
+    let sub = &mut *b.sub;
+    let blocks = &mut *b.blocks;
+    let lifts = &mut *b.lifts;
+    let amounts = &mut *b.amounts;
+    let order = &mut *b.order;
+    let work = &mut *b.work;
+    let mut partners = [0u16; COLUMNS_MAX];
+    let mut r = PivotRecord {
         d,
         sub,
         blocks,
-        &mut partners,
+        partners: &mut partners,
         lifts,
         amounts,
         order,
-        used,
-    )
-}
-
-// The answer to a run that stopped. (A run that did not is answered by judge.)
-fn refusal(ran: Ran) -> Factored
-    ensures { result ≡ refusal_of ran }
-{
-    match ran {
-        Ran::Stopped(r) => Factored::Refused(r),
-        Ran::Done(rounds) => Factored::Accepted(Report {
-            rounds,
-            inertia: Tally {
-                positive: 0,
-                negative: 0,
-                zero: 0,
-            },
-        }),
-    }
+    };
+    panels::panels(panel, work, &mut r, used)
 }
 
 // Past the entry checks: a refusal of the run zeroes the outputs and returns.
-fn run(
-    c: Settings,
-    input: &[f64],
-    panel: &mut [f64],
-    d: &mut [f64],
-    sub: &mut [f64],
-    blocks: &mut [u8],
-    lifts: &mut [u8],
-    amounts: &mut [f64],
-    order: &mut [usize],
-    marks: &mut [u8],
-    work: &mut [f64],
-) -> Factored
-    requires { entry_check c input.now (buffers_of panel.old d.old sub.old blocks.old lifts.old
-        amounts.old order.old marks.old work.old) ≡ Sound }
-    ensures { outcome_of result (buffers_of panel.new d.new sub.new blocks.new
-        lifts.new amounts.new order.new marks.new work.new)
-        ≡ factor_of c input.now (buffers_of panel.old d.old sub.old
-        blocks.old lifts.old amounts.old order.old marks.old
-        work.old) }
+fn run(c: Settings, input: &[f64], b: &mut LentBuffers) -> Result<Report, Refusal>
+    requires { entry_check c input.now (lent_in b.old) ≡ Ok tt }
+    ensures same { SameLent b.old b.new }
+    ensures value { outcome_of result (lent_in b.new) ≡ factor_of c input.now (lent_in b.old) }
 {
-    let ran = eliminate(
-        c, input, panel, d, sub, blocks, lifts, amounts, order, marks, work,
-    );
-    let Ran::Done(rounds) = ran else {
-        buffers::zero_all(panel, d, sub, blocks, lifts, amounts, order, marks, work);
-        return refusal(ran);
-    };
-    judge::judge(
-        c, rounds, panel, d, sub, blocks, lifts, amounts, order, marks, work,
-    )
+    match eliminate(c, input, b) {
+        Ok(rounds) => judge::judge(c, rounds, b),
+        Err(r) => {
+            buffers::zero_all(b);
+            Err(r)
+        }
+    }
 }
 
 // The factor call.
@@ -133,42 +71,22 @@ fn run(
 // work: 3·nrow·(nb + 1) + nb² numbers, any on entry, +0.0 on acceptance
 // refused with 1 to 6: nothing is written; with 7, 8, 9, 23 or 24: every output and the working buffer hold zeros
 // origin: src/numeric/ldlt/bunch_kaufman.rs, fn ll_cdiv_emit
-pub fn factor(
-    c: Settings,
-    input: &[f64],
-    panel: &mut [f64],
-    d: &mut [f64],
-    sub: &mut [f64],
-    blocks: &mut [u8],
-    lifts: &mut [u8],
-    amounts: &mut [f64],
-    order: &mut [usize],
-    marks: &mut [u8],
-    work: &mut [f64],
-) -> Factored
-    ensures { outcome_of result (buffers_of panel.new d.new sub.new blocks.new
-        lifts.new amounts.new order.new marks.new work.new)
-        ≡ factor_of c input.now (buffers_of panel.old d.old sub.old
-        blocks.old lifts.old amounts.old order.old marks.old
-        work.old) }
+pub fn factor(c: Settings, input: &[f64], b: &mut LentBuffers) -> Result<Report, Refusal>
+    ensures same { SameLent b.old b.new }
+    ensures value { outcome_of result (lent_in b.new) ≡ factor_of c input.now (lent_in b.old) }
 {
     let n = Lengths {
         input: input.len(),
-        panel: panel.len(),
-        d: d.len(),
-        sub: sub.len(),
-        blocks: blocks.len(),
-        lifts: lifts.len(),
-        amounts: amounts.len(),
-        order: order.len(),
-        marks: marks.len(),
-        work: work.len(),
+        panel: b.panel.len(),
+        d: b.d.len(),
+        sub: b.sub.len(),
+        blocks: b.blocks.len(),
+        lifts: b.lifts.len(),
+        amounts: b.amounts.len(),
+        order: b.order.len(),
+        marks: b.marks.len(),
+        work: b.work.len(),
     };
-    let entry = entry::check(c, n, input);
-    if let Check::Refused(r) = entry {
-        return Factored::Refused(r);
-    }
-    run(
-        c, input, panel, d, sub, blocks, lifts, amounts, order, marks, work,
-    )
+    entry::check(c, n, input)?;
+    run(c, input, b)
 }

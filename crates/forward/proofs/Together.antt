@@ -1,6 +1,6 @@
 -- Laws of columns taken in turn: what each leaves alone, and that columns which first take from the rows beside them and then together from the rows below
 -- leave what they leave one after another. Assumes nothing.
-use Prim.Native.Nat.{ℕ, zero, suc, ◌+◌, ◌-◌, ◌<◌, ◌≤◌, min}
+use Prim.Native.Nat.{ℕ, zero, suc, ◌+◌, ◌-◌, ◌%◌, ◌<◌, ◌≤◌, min}
 use mathlib.Core.Path.{◌≡◌, refl, sym, ◌∙◌, ap, fun_ext}
 use mathlib.Core.List.{List}
 use native.Mathlib.Omega.{arith}
@@ -137,8 +137,8 @@ beside-pre blocks n k hi len w h = record { whole = w.whole; up = omega arith; c
 pub below-pre : (blocks : List ℕ) (n m k hi len : ℕ) → TogetherPre blocks n k len → m ≡ n → hi ≡ min (k + 5) n → BelowPre m k hi len
 below-pre blocks n m k hi len w e h = rw e (record { columns = w.columns; rows = omega arith; area = w.whole.area })
 
-pub fours-pre : (blocks : List ℕ) (n m k len : ℕ) → ForwardPre blocks n len → m ≡ n → 4 ≤ n - k → TogetherPre blocks m k len
-fours-pre blocks n m k len w e h = rw e (record { whole = w; columns = omega arith })
+pub fours-pre : (blocks : List ℕ) (n m k len : ℕ) → ForwardPre blocks n len → m ≡ n → k % 4 ≡ 0 → k < n - n % 4 → TogetherPre blocks m k len
+fours-pre blocks n m k len w e f h = rw e (record { whole = w; columns = omega arith })
 
 pub rest-pre : (blocks : List ℕ) (n m s len : ℕ) → ForwardPre blocks n len → m ≡ n → s ≤ n → ColumnsPre blocks m s m m len
 rest-pre blocks n m s len w e h = rw e (record { whole = w; up = h; columns = omega arith; past = omega arith; rows = omega arith })
@@ -177,6 +177,15 @@ module _ (blocks : ℕ → ℕ) (gs : List Float) (n : ℕ) where
   fours-step m k x y z e p q =
       let a : 0 + k ≡ k = omega arith in
       q ∙ rw (e, p) (sym (rw a at (columns-append blocks (view n gs) n 4 k 0 x)))
+
+  -- the end of the whole fours is a multiple of 4 too: there k is, or after four more
+  pub fours-end : (k : ℕ) (x y : Row) → k ≤ n - n % 4 → n - n % 4 ≤ k → y ≡ columns_lost blocks (view n gs) n k 0 x
+      → y ≡ columns_lost blocks (view n gs) n (n - n % 4) 0 x
+  fours-end k x y h g p = p ∙ ap (λ (q : ℕ). columns_lost blocks (view n gs) n q 0 x) (le_antisymm h g)
+
+  pub fours-last : (m k : ℕ) (x y z : Row) → m ≡ n → k % 4 ≡ 0 → k < n - n % 4 → n - n % 4 - k ≤ 4 → y ≡ columns_lost blocks (view n gs) n k 0 x
+      → z ≡ columns_lost blocks (view m gs) m 4 k y → z ≡ columns_lost blocks (view n gs) n (n - n % 4) 0 x
+  fours-last m k x y z e d h g p q = fours-end (k + 4) x z (omega arith) (omega arith) (fours-step m k x y z e p q)
 
   -- fours, then the rest
   pub all-columns : (m s : ℕ) (x y z : Row) → m ≡ n → s ≤ n → y ≡ columns_lost blocks (view n gs) n s 0 x → z ≡ columns_lost blocks (view m gs) m (m - s) s y

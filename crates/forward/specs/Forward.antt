@@ -26,17 +26,10 @@ four_lost l lo hi k y = with_part y lo hi (λ i. less_all 4 (y i) (λ u. l i (k 
 
 -- ---- what the callers owe
 
--- n numbers of the slice that is written, and as many of the other from each place on
-pub record OnePre (n a x g : ℕ) : Type 0 where
+-- n numbers of the slice that is written, and as many of the other from each of c places on
+pub record LessPre (c n : ℕ) (from : ℕ → ℕ) (x g : ℕ) : Type 0 where
   pub out : n ≤ x
-  pub first : a + n ≤ g
-
-pub record FourPre (n a b c d x g : ℕ) : Type 0 where
-  pub out : n ≤ x
-  pub first : a + n ≤ g
-  pub second : b + n ≤ g
-  pub third : c + n ≤ g
-  pub fourth : d + n ≤ g
+  pub runs : (u : ℕ) → u < c → from u + n ≤ g
 
 -- a panel of n columns and rows, and as many sound block bytes
 pub record ForwardPre (blocks : List ℕ) (n len : ℕ) : Type 0 where

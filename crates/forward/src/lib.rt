@@ -2,49 +2,35 @@
 // numbers below, so that the rows are innermost and the loops vectorise. Four columns go together: first what they take
 // from the rows among and right below them, then what the four of them take from all further rows in one pass. Each
 // number still loses its terms one by one, by rising position. A reader may rely on the contract of `forward`.
+// (Panel, block bytes and vector are lent each by itself: a struct of two shared lists and a lent one would serve this
+// crate alone.)
 #![tactic(auto)]
 
 ghost use Rattle.std.specs.Prelude.{◌≡◌, ◌-◌, ◌≤◌, length};
 ghost use Rattle.model.specs.Matrix.{view, vec, naturals, with_part};
 ghost use Rattle.model.specs.Solve.{forward_from};
-ghost use Rattle.kernels.specs.Rules.{pick};
 ghost use Rattle.forward.specs.Forward.{less_of, column_lost, columns_lost, four_lost};
-ghost use Rattle.forward.specs.Forward.{OnePre, FourPre, ColumnPre, BelowPre, ColumnsPre, TogetherPre, ForwardPre};
+ghost use Rattle.forward.specs.Forward.{LessPre, ColumnPre, BelowPre, ColumnsPre, TogetherPre, ForwardPre};
 
-use grid::{FourPlaces, column_start};
-use kernels::FourMultipliers;
+use grid::column_start;
 use model::Elim;
 
-// ---- kernels: the n numbers of each column begin at the places named
+// ---- the kernel
 
-// x − g·m.
-fn less_one(x: &mut [f64], g: &[f64], a: usize, n: usize, m: f64)
-    requires { OnePre n a (length x.old) (length g.now) }
+// Of the first n numbers of x, number i loses, for u = 0, 1 .. N − 1 in turn, number i of the run of g that begins at
+// at[u], times m[u]. (Counted, like the loops of crates/kernels, and apart from its less_ahead, whose runs stand in the
+// slice that is written.)
+fn less<const N: usize>(x: &mut [f64], g: &[f64], at: [usize; N], n: usize, m: [f64; N])
+    requires { LessPre N n (naturals at) (length x.old) (length g.now) }
     ensures { vec x.new ≡ with_part (vec x.old) 0 n
-        (less_of 1 (vec x.old) (vec g.now) (pick a a a a) (pick m m m m)) }
+        (less_of N (vec x.old) (vec g.now) (naturals at.entry) (vec m.entry)) }
 {
     for i in 0..n {
-        x[i] = x[i] - g[a + i] * m;
-    }
-}
-
-// (((x − g0·m0) − g1·m1) − g2·m2) − g3·m3.
-fn less_four(x: &mut [f64], g: &[f64], at: FourPlaces, n: usize, m: FourMultipliers)
-    requires { FourPre n at.0 at.1 at.2 at.3 (length x.old) (length g.now) }
-    ensures { vec x.new ≡ with_part (vec x.old) 0 n
-        (less_of 4 (vec x.old) (vec g.now) (pick at.0 at.1 at.2 at.3)
-        (pick m.0 m.1 m.2 m.3)) }
-{
-    let a = at.0;
-    let b = at.1;
-    let c = at.2;
-    let d = at.3;
-    let m1 = m.0;
-    let m2 = m.1;
-    let m3 = m.2;
-    let m4 = m.3;
-    for i in 0..n {
-        x[i] = x[i] - g[a + i] * m1 - g[b + i] * m2 - g[c + i] * m3 - g[d + i] * m4;
+        let mut v = x[i];
+        for u in 0..N {
+            v = v - g[at[u] + i] * m[u];
+        }
+        x[i] = v;
     }
 }
 
@@ -59,7 +45,7 @@ fn lose_column(panel: &[f64], blocks: &[u8], y: &mut [f64], k: usize, hi: usize)
     let start = column_start(y.len(), k);
     let lo = diagonal::past(blocks, Elim(k));
     let m = y[k];
-    less_one(&mut y[lo..hi], panel, lo + start, hi - lo, m);
+    less(&mut y[lo..hi], panel, [lo + start], hi - lo, [m]);
 }
 
 // Rows from lo on lose columns k to k + 3 times y[k] to y[k + 3].
@@ -69,9 +55,9 @@ fn lose_four(panel: &[f64], y: &mut [f64], k: usize, lo: usize)
         (view (length y.old) panel.now) lo (length y.old) k (vec y.old) }
 {
     let n = y.len();
-    let at = grid::four_places(n, k, lo);
-    let m = FourMultipliers(y[k], y[k + 1], y[k + 2], y[k + 3]);
-    less_four(&mut y[lo..n], panel, at, n - lo, m);
+    let at = grid::places::<4>(n, k, lo);
+    let m = [y[k], y[k + 1], y[k + 2], y[k + 3]];
+    less(&mut y[lo..n], panel, at, n - lo, m);
 }
 
 // Columns s up to e, one by one, take from rows before hi.
@@ -103,13 +89,11 @@ fn lose_by_fours(panel: &[f64], blocks: &[u8], y: &mut [f64]) -> usize
         (view (length y.old) panel.now) (length y.old) result 0 (vec y.old) }
     ensures upper_bound { result ≤ length y.old }
 {
-    let n = y.len();
-    let mut k = 0;
-    while n - k >= 4 {
+    let end = y.len() - y.len() % 4;
+    for k in (0..end).step_by(4) {
         lose_together(panel, blocks, y, k);
-        k += 4;
     }
-    k
+    end
 }
 
 // in: panel, n·n numbers, column-major, L below the diagonal and outside of the blocks; blocks, n sound block bytes.

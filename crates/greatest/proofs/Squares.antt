@@ -1,11 +1,12 @@
 -- Laws of the greatest square: one place more, the end, and the two scans that the choice of a pivot makes. Assumes nothing.
-use Prim.Native.Nat.{ℕ, zero, suc, ◌+◌, ◌-◌, ◌*◌, ◌<◌, ◌≤◌}
+use Prim.Native.Nat.{ℕ, zero, suc, max, min, ◌+◌, ◌-◌, ◌*◌, ◌<◌, ◌≤◌}
 use mathlib.Core.Path.{◌≡◌, refl, sym, ◌∙◌, ap, subst}
 use mathlib.Core.Logic.{inl, inr}
 use mathlib.Core.List.{List}
-use native.Mathlib.Nat.{mul-le-mul_right, suc-mul}
+use native.Mathlib.Nat.{mul-le-mul_right, suc-mul, max-eq_left, max-eq_right, min-eq_left, min-eq_right}
 use native.Mathlib.Omega.{arith}
-use borrow.Author.Tests.{lt-ltb, le-ltb}
+use borrow.Author.Tests.{lt-ltb, le-ltb, ltb-true, ltb-false}
+use lib.Dec.{ltb}
 use lib.ListN.{get_or}
 use lib.Ieee.{Float, nan, lt}
 use Rattle.model.specs.Scalar.{square_of}
@@ -77,13 +78,19 @@ column-found a k ke G h e =
     (greatest-keeps P (λ i. a i k) (ke - (k + 1)) (k + 1) (none_yet k) (none_found k ke (a k k) h)
     (λ i l u. record { place = record { low = omega arith; high = omega arith }; of = inr refl }))
 
-pub across-left : (a : Mat) (r i : ℕ) (x : Float) → i < r → x ≡ a r i → x ≡ across a r i
+across-left : (a : Mat) (r i : ℕ) → i < r → a r i ≡ across a r i
 unfolding across
-across-left a r i x h e = e ∙ rw (lt-ltb i r h)
+across-left a r i h = rw (lt-ltb i r h)
 
-pub across-below : (a : Mat) (r i : ℕ) (x : Float) → r ≤ i → x ≡ a i r → x ≡ across a r i
+across-below : (a : Mat) (r i : ℕ) → r ≤ i → a i r ≡ across a r i
 unfolding across
-across-below a r i x h e = e ∙ rw (le-ltb i r h)
+across-below a r i h = rw (le-ltb i r h)
+
+pub across-is : (a : Mat) (r i : ℕ) (x : Float) → x ≡ a (max r i) (min r i) → x ≡ across a r i
+across-is a r i x e =
+    e ∙ test (ltb i r)
+    (λ p. let l : i < r = ltb-true i r p in let h : i ≤ r = omega arith in rw (max-eq_left h, min-eq_right h) (across-left a r i l))
+    (λ p. let l : r ≤ i = ltb-false i r p in rw (max-eq_right l, min-eq_left l) (across-below a r i l))
 
 pub row-found : (a : Mat) (k ke r : ℕ) (F G : Greatest) → k ≤ r → r < ke → F ≡ greatest_along a r k r (none_yet k) → G ≡ greatest_down a r (r + 1) ke F
     → FoundIn k ke G (across a r G.at.0)
@@ -93,10 +100,10 @@ row-found a k ke r F G h l e p =
     let left : P F =
     subst P (sym e)
     (greatest-keeps P (a r) (r - k) k (none_yet k) (none_found k ke (across a r k) (omega arith))
-    (λ i m u. record { place = record { low = m; high = omega arith }; of = inr (ap square_of (across-left a r i (a r i) (omega arith) refl)) })) in
+    (λ i m u. record { place = record { low = m; high = omega arith }; of = inr (ap square_of (across-left a r i (omega arith))) })) in
     subst P (sym p)
     (greatest-keeps P (λ i. a i r) (ke - (r + 1)) (r + 1) F left
-    (λ i m u. record { place = record { low = omega arith; high = omega arith }; of = inr (ap square_of (across-below a r i (a i r) (omega arith) refl)) }))
+    (λ i m u. record { place = record { low = omega arith; high = omega arith }; of = inr (ap square_of (across-below a r i (omega arith))) }))
 
 pub row_is : (a : Mat) (k ke r : ℕ) (F G : Greatest) → F ≡ greatest_along a r k r (none_yet k) → G ≡ greatest_down a r (r + 1) ke F → G ≡ row_greatest a k ke r
 unfolding greatest_down greatest_along row_greatest
@@ -110,11 +117,8 @@ column-down n c k ke len h = record { up = omega arith; rows = omega arith; ther
 pub row-along : (n c k ke r len : ℕ) → RowPre n c k ke r len → AlongPre n r k r len
 row-along n c k ke r len h = record { up = h.here; inside = omega arith; there = omega (arith, col-in n c r len h.panel (omega arith)) }
 
-pub across-row : (n r i len : ℕ) → AcrossPre n r i len → i < r → In n r i len
-across-row n r i len h l = in-col n r r i len h.column h.row (omega arith)
-
-pub across-column : (n r i len : ℕ) → AcrossPre n r i len → In n i r len
-across-column n r i len h = in-col n r i r len h.column h.inside (omega arith)
+pub across-in : (n r i len : ℕ) → AcrossPre n r i len → In n (max r i) (min r i) len
+across-in n r i len h = in-col n r (max r i) (min r i) len h.column (omega (arith, h.row, h.inside)) (omega arith)
 
 pub row-down : (n c k ke r len : ℕ) → RowPre n c k ke r len → DownPre n r (r + 1) ke len
 row-down n c k ke r len h = record { up = omega arith; rows = omega arith; there = col-in n c r len h.panel (omega arith) }

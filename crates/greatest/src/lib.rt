@@ -12,7 +12,7 @@ ghost use Rattle.grid.specs.Grid.{DownPre};
 ghost use Rattle.greatest.specs.Greatest.{better, greatest_down, greatest_along, across};
 ghost use Rattle.greatest.specs.Greatest.{AlongPre, ColumnPre, RowPre, AcrossPre, FoundIn};
 
-use model::{Elim, Greatest, LocalRow};
+use model::{Elim, Frame, Greatest, LocalRow};
 
 // The better of `best` and a number x at a place: the greater square, the first on ties; a not-a-number never wins.
 fn better(best: Greatest, x: f64, at: usize) -> Greatest
@@ -48,7 +48,8 @@ fn greatest_down(
     g
 }
 
-// The greatest square of columns lo up to hi of a row, beginning with `best`.
+// The greatest square of columns lo up to hi of a row, beginning with `best`. One loop for both directions, with a step
+// of 1 or of nrow, would be no plainer: a column's numbers stand side by side, so its address is worked out once.
 fn greatest_along(
     panel: &[f64],
     nrow: usize,
@@ -67,19 +68,19 @@ fn greatest_along(
     g
 }
 
-// The greatest square below the diagonal of column k and above ke; 0 and k where none is above 0.
+// The greatest square below the diagonal of column k and above the panel's end; 0 and k where none is above 0.
 // origin: src/numeric/ldlt/bunch_kaufman.rs, fn ll_bk_panel_step
-pub fn column_greatest(panel: &[f64], nrow: usize, ncol: usize, k: Elim, ke: usize) -> Greatest
-    requires { ColumnPre nrow ncol k.0 ke (length panel.now) }
-    ensures value { result ≡ column_greatest (view nrow panel.now) k.0 ke }
-    ensures found_in { FoundIn k.0 ke result (view nrow panel.now result.at.0 k.0) }
+pub fn column_greatest(panel: &[f64], at: Frame, k: Elim) -> Greatest
+    requires { ColumnPre at.nrow at.ncol k.0 at.ke (length panel.now) }
+    ensures value { result ≡ column_greatest (view at.nrow panel.now) k.0 at.ke }
+    ensures found_in { FoundIn k.0 at.ke result (view at.nrow panel.now result.at.0 k.0) }
 {
     greatest_down(
         panel,
-        nrow,
+        at.nrow,
         k.0,
         k.0 + 1,
-        ke,
+        at.ke,
         Greatest {
             square: 0.0,
             at: LocalRow(k.0),
@@ -92,30 +93,20 @@ pub fn across(panel: &[f64], nrow: usize, r: LocalRow, at: LocalRow) -> f64
     requires { AcrossPre nrow r.0 at.0 (length panel.now) }
     ensures { result ≡ across (view nrow panel.now) r.0 at.0 }
 {
-    if at.0 < r.0 {
-        return grid::get(panel, nrow, r.0, at.0);
-    }
-    grid::get(panel, nrow, at.0, r.0)
+    grid::get(panel, nrow, r.0.max(at.0), r.0.min(at.0))
 }
 
-// The greatest square of row and column r from k to ke, its diagonal aside.
+// The greatest square of row and column r from k to the panel's end, its diagonal aside.
 // origin: src/numeric/ldlt/bunch_kaufman.rs, fn ll_bk_panel_step
-pub fn row_greatest(
-    panel: &[f64],
-    nrow: usize,
-    ncol: usize,
-    k: Elim,
-    ke: usize,
-    r: LocalRow,
-) -> Greatest
-    requires { RowPre nrow ncol k.0 ke r.0 (length panel.now) }
-    ensures value { result ≡ row_greatest (view nrow panel.now) k.0 ke r.0 }
-    ensures found_in { FoundIn k.0 ke result (across (view nrow panel.now) r.0 result.at.0) }
+pub fn row_greatest(panel: &[f64], at: Frame, k: Elim, r: LocalRow) -> Greatest
+    requires { RowPre at.nrow at.ncol k.0 at.ke r.0 (length panel.now) }
+    ensures value { result ≡ row_greatest (view at.nrow panel.now) k.0 at.ke r.0 }
+    ensures found_in { FoundIn k.0 at.ke result (across (view at.nrow panel.now) r.0 result.at.0) }
 {
     let none = Greatest {
         square: 0.0,
         at: LocalRow(k.0),
     };
-    let along = greatest_along(panel, nrow, r.0, k.0, r.0, none);
-    greatest_down(panel, nrow, r.0, r.0 + 1, ke, along)
+    let along = greatest_along(panel, at.nrow, r.0, k.0, r.0, none);
+    greatest_down(panel, at.nrow, r.0, r.0 + 1, at.ke, along)
 }

@@ -12,12 +12,11 @@ use borrow.Rule.Slice.PartMut.{mid_of, put_mid}
 use lib.Ieee.{Float, nan, eq, ne}
 use Rattle.model.specs.Scalar.{zero_f}
 use Rattle.model.specs.Matrix.{Row, Mat, column_start, view, vec, with_column, with_part}
-use Rattle.kernels.specs.Rules.{behind, ahead, less_all, less_runs, times, combined, MoreAheadPre}
+use Rattle.kernels.specs.Rules.{behind, ahead, times, combined}
 use Rattle.kernels.proofs.Laws.{vec-put, vec-part}
 use Rattle.model.proofs.Cases.{test, cmp, no}
-use Rattle.kernels.proofs.Rules.{all_same}
-use Rattle.kernels.proofs.Parts.{part, back, mid-count, back_at, part-bounds, run-back, runs-back, runs_same}
-use Rattle.grid.specs.Rules.{column_of, less_times, less_times_if, LaterPre, RowsPre}
+use Rattle.kernels.proofs.Parts.{part, back, mid-count, back_at, runs-back, runs_same}
+use Rattle.grid.specs.Rules.{column_of, less_times, less_times_if, RowsPre}
 
 -- ---- any rule
 
@@ -80,59 +79,17 @@ unfolding times column_of
 scale-lent n xs ys j s lo hi r at room u h ly e =
     column-lent n xs ys j s lo hi _ _ _ at room u h ly e (λ t l. rw (column-at n xs j s lo hi t at h l))
 
--- ---- the functions that lend from one column's row lo to a later column's row hi
+-- ---- a column, and a later one
 
 -- a column ends before a later one begins
 pub column-past : (n k j : ℕ) → k < j → column_start n k + n ≤ column_start n j
 column-past n k j l = omega (arith, mul-le-mul_right n l, suc-mul k n)
-
-later-ends : (p t q n lo hi : ℕ) → p ≤ t → t + n ≤ q → hi ≤ n → lo ≤ hi → t - p + (hi - lo) ≤ q - p
-later-ends p t q n lo hi a b c d = omega arith
 
 -- what is lent of column c, in a part that begins in row lo of the column at p
 later-at : (n : ℕ) (xs : List Float) (p c lo e a s : ℕ) → a < n → lo + p + s ≡ a + column_start n c → s < e - (lo + p)
     → vec (part xs (lo + p) e) s ≡ view n xs a c
 unfolding vec view
 later-at n xs p c lo e a s h o l = rw (lt-ltb a n h) (vec-part (lo + p) e xs s l ∙ ap (λ (x : ℕ). get_or xs x nan) o)
-
--- what the kernels ask: places t, u and v of columns up to d, and column j
-pub columns-ahead : (n : ℕ) (xs : List Float) (d j p t u v q lo hi : ℕ) → LaterPre n d j lo hi (length xs) → q ≡ column_start n j
-    → p ≤ t → t ≤ column_start n d → p ≤ u → u ≤ column_start n d → p ≤ v → v ≤ column_start n d
-    → MoreAheadPre (hi - lo) (t - p) (u - p) (v - p) (q - p) (length (part xs (lo + p) (hi + q)))
-columns-ahead n xs d j p t u v q lo hi pre own pt td pu ud pv vd =
-    let far = column-past n d j pre.past in
-    let rows = pre.rows in
-    let up = pre.up in
-    let col = pre.col in
-    record {
-      second = later-ends p t q n lo hi pt (omega arith) rows up;
-      third = later-ends p u q n lo hi pu (omega arith) rows up;
-      fourth = later-ends p v q n lo hi pv (omega arith) rows up;
-      out = omega (arith, mid-count (lo + p) (hi + q) xs (omega arith) (omega arith));
-    }
-
--- column j less c columns before it, of which the u-th is `col u` and begins at `from u` of the lent part
-module _ (n : ℕ) (xs ys : List Float) (c d p j q lo hi : ℕ) (col from : ℕ → ℕ) (m : ℕ → Float) (own : q ≡ column_start n j) (past : p ≤ q)
-    (pre : LaterPre n d j lo hi (length xs)) (at : (u : ℕ) → (col u ≤ d) × (p + from u ≡ column_start n (col u))) where
-  columns-seen : (a : ℕ) → lo ≤ a → a < hi
-      → behind (lo + p) (less_runs c (vec (part xs (lo + p) (hi + q))) (q - p) from m) (a + q) ≡ less_all c (view n xs a j) (λ u. view n xs a (col u)) m
-  unfolding behind less_runs
-  columns-seen a l g =
-      all_same c _ _ _ _ m
-      (later-at n xs p j lo (hi + q) a _ (omega (arith, pre.rows)) (omega arith) (omega arith))
-      (λ u o.
-      let next = column-past n (col u) j (omega (arith, (at u).0, pre.past)) in
-      later-at n xs p (col u) lo (hi + q) a _ (omega (arith, pre.rows)) (omega (arith, (at u).1)) (omega (arith, (at u).1, pre.rows)))
-
-  pub columns-lent : length ys ≡ length (part xs (lo + p) (hi + q))
-      → vec ys ≡ with_part (vec (part xs (lo + p) (hi + q))) (q - p) (q - p + (hi - lo)) (less_runs c (vec (part xs (lo + p) (hi + q))) (q - p) from m)
-      → view n (back xs (lo + p) (hi + q) ys) ≡ with_column (view n xs) j lo hi (λ a. less_all c (view n xs a j) (λ u. view n xs a (col u)) m)
-  unfolding view vec
-  columns-lent ly e =
-      view-part n (vec xs) _ j q lo hi _ _ own pre.rows
-      (run-back xs ys (lo + p) (lo + q) (hi + q) _ (omega arith) (omega (arith, pre.up)) (omega (arith, pre.col)) ly
-      (e ∙ part-bounds _ _ _ _ _ _ (omega arith) (omega (arith, pre.up))))
-      columns-seen
 
 -- ---- the function that lends two columns, one after the other
 

@@ -4,6 +4,7 @@ use Rattle.std.specs.Prelude.{ℕ, ◌+◌, ◌*◌, ◌<◌, ◌≤◌, cond, F
 use Rattle.model.specs.Scalar.{◌⊖◌, ◌⊗◌}
 use Rattle.model.specs.Matrix.{Row, Mat, within, exchanged_place}
 use Rattle.model.specs.Step.{less_multiple}
+use Rattle.kernels.specs.Rules.{less_all}
 
 -- a column as the rows see it
 unfoldable pub column_of : Mat → ℕ → Row
@@ -26,6 +27,10 @@ less_three f s t u m1 m2 m3 = less_times (less_two f s t m1 m2) u m3
 
 unfoldable pub less_four : Row → Row → Row → Row → Row → Float → Float → Float → Float → Row
 less_four f s t u v m1 m2 m3 m4 = less_two (less_two f s t m1 m2) u v m3 m4
+
+-- column j less columns k to k + c − 1, times m 0 to m (c − 1), in turn
+unfoldable pub less_columns : ℕ → Mat → ℕ → ℕ → (ℕ → Float) → Row
+less_columns c M k j m = λ a. less_all c (M a j) (λ u. M a (k + u)) m
 
 -- rows lo up to hi of columns p and q, one for the other
 unfoldable pub columns_exchanged : Mat → ℕ → ℕ → ℕ → ℕ → Mat

@@ -1,12 +1,13 @@
 // A column-major panel: where its columns begin, and one number read and written, here; parts of columns lent to the
 // slice kernels in columns.rt. Whoever needs an address asks column_start for it: no other code knows how the columns
-// lie.
+// lie. (A panel and its nrow stay two parameters here and above: a struct of both, lent by `&mut`, would have each
+// function promise besides that both stay, which is no plainer.)
 #![tactic(auto)]
 
-ghost use Rattle.std.specs.Prelude.{◌≡◌, ◌+◌, ◌*◌, length};
+ghost use Rattle.std.specs.Prelude.{ℕ, ◌≡◌, ◌+◌, ◌-◌, ◌*◌, ◌<◌, length};
 ghost use Rattle.std.specs.Int.{w64};
 ghost use Rattle.std.proofs.Common.{Fits};
-ghost use Rattle.model.specs.Matrix.{column_start, view, put_at};
+ghost use Rattle.model.specs.Matrix.{column_start, view, naturals, put_at};
 ghost use Rattle.grid.specs.Grid.{In};
 
 pub mod columns;
@@ -19,21 +20,17 @@ pub fn column_start(nrow: usize, j: usize) -> usize
     j * nrow
 }
 
-// Where the numbers of four columns begin.
-#[derive(Clone, Copy)]
-pub struct FourPlaces(pub usize, pub usize, pub usize, pub usize);
-
-// Of columns j to j + 3, those from row lo on.
-pub fn four_places(nrow: usize, j: usize, lo: usize) -> FourPlaces
-    requires { Fits w64 (j + 3) × Fits w64 (lo + (j + 3) * nrow) }
-    ensures result_value { (result.0 ≡ lo + column_start nrow j) × (result.1 ≡ lo + column_start nrow (j + 1)) }
-    ensures result_value_2 { (result.2 ≡ lo + column_start nrow (j + 2)) × (result.3 ≡ lo + column_start nrow (j + 3)) }
+// Where the numbers of N columns begin: of columns j to j + N − 1, those from row lo on. (By index: N is a constant
+// where it is called, and the loop is unrolled.)
+pub fn places<const N: usize>(nrow: usize, j: usize, lo: usize) -> [usize; N]
+    requires { Fits w64 (j + (N - 1)) × Fits w64 (lo + (j + (N - 1)) * nrow) }
+    ensures { (u : ℕ) → u < N → naturals result u ≡ lo + column_start nrow (j + u) }
 {
-    let a = column_start(nrow, j);
-    let b = column_start(nrow, j + 1);
-    let c = column_start(nrow, j + 2);
-    let d = column_start(nrow, j + 3);
-    FourPlaces(lo + a, lo + b, lo + c, lo + d)
+    let mut at = [0; N];
+    for u in 0..N {
+        at[u] = lo + column_start(nrow, j + u);
+    }
+    at
 }
 
 // The number at row i, column j.

@@ -1,8 +1,7 @@
 -- A pivot of D as it is counted, and what the counting functions ask of their callers. Definitions only. Assumes nothing.
-use Rattle.std.specs.Prelude.{◌≡◌, List, ℕ, ◌+◌, ◌<◌, ◌^◌, length, Float}
+use Rattle.std.specs.Prelude.{◌≡◌, List, ℕ, ◌+◌, ◌<◌, ◌^◌, length, Float, Ok}
 use Rattle.model.specs.Inertia.{one_counted, two_counted, check_bytes}
 use Rattle.model.specs.declared.Tally.{Tally}
-use Rattle.model.specs.declared.Check.TheVariants.{Sound}
 use Rattle.model.specs.declared.Diagonal.{Diagonal}
 use Rattle.model.specs.declared.Diagonal.TheVariants.{One, Two}
 
@@ -25,4 +24,4 @@ pub record CountPre (t : Tally) : Type 0 where
 pub record TallyPre (ds subs : List Float) (bs : List ℕ) : Type 0 where
   pub sub : length subs ≡ length ds
   pub blocks : length bs ≡ length ds
-  pub check : check_bytes bs ≡ Sound
+  pub check : check_bytes bs ≡ Ok tt

@@ -10,7 +10,7 @@ ghost use Rattle.model.specs.Inertia.{more, one_counted, two_counted, tallied_of
 ghost use Rattle.model.specs.Inertia.{inertia_check, inertia_of};
 ghost use Rattle.inertia.specs.Count.{counted_of, MorePre, CountPre, TallyPre};
 
-use model::{Block, COLUMNS_MAX, Check, Counted, Diagonal, Elim, Refusal, Tally};
+use model::{Block, COLUMNS_MAX, Diagonal, DiagonalLists, Elim, Refusal, Tally};
 
 // ---- the counting rule
 
@@ -28,6 +28,7 @@ fn added(t: Tally, positive: usize, negative: usize, zero: usize) -> Tally
 
 // A 1x1 counts by its sign; a zero of either sign and a not-a-number count as zero.
 // origin: src/numeric/ldlt/bunch_kaufman.rs, fn ll_cdiv_emit
+#[tactic(auto, unfolding(model::specs::Inertia::one_counted))]
 fn counted_one(t: Tally, d: f64) -> Tally
     requires { CountPre t }
     ensures { result ≡ one_counted t d }
@@ -43,6 +44,7 @@ fn counted_one(t: Tally, d: f64) -> Tally
 
 // A block counts by the signs of its determinant, as rounded, and of its trace.
 // origin: src/numeric/ldlt/bunch_kaufman.rs, fn ll_cdiv_emit
+#[tactic(auto, unfolding(model::specs::Inertia::two_counted))]
 fn counted_two(t: Tally, b: Block) -> Tally
     requires { CountPre t }
     ensures { result ≡ two_counted t b }
@@ -64,6 +66,7 @@ fn counted_two(t: Tally, b: Block) -> Tally
 }
 
 // One pivot or one block more: the rule by its kind.
+#[tactic(auto, unfolding(crate::specs::Count::counted_of))]
 fn counted(t: Tally, p: Diagonal) -> Tally
     requires { CountPre t }
     ensures { result ≡ counted_of t p }
@@ -74,8 +77,6 @@ fn counted(t: Tally, p: Diagonal) -> Tally
     }
 }
 
-// ---- the lent tally
-
 // The counting step: the running tally is lent, and has one pivot or one block more.
 pub fn count(t: &mut Tally, p: Diagonal)
     requires { CountPre t.old }
@@ -84,23 +85,14 @@ pub fn count(t: &mut Tally, p: Diagonal)
     *t = counted(*t, p);
 }
 
-// The lender: by value on the outside.
-fn tallied(t: Tally, p: Diagonal) -> Tally
-    requires { CountPre t }
-    ensures { result ≡ counted_of t p }
-{
-    let mut running = t;
-    count(&mut running, p);
-    running
-}
-
 // ---- all columns
 
-// The counts of all columns, one or two a turn by the block bytes.
-pub fn tally(d: &[f64], sub: &[f64], blocks: &[u8]) -> Tally
-    requires { TallyPre d.now sub.now blocks.now }
-    ensures { result ≡ tallied_of (length d.now)
-        (vec d.now) (vec sub.now) (naturals blocks.now) }
+// The counts of all columns, one or two a turn by the block bytes. (The next column is the last pivot's to say, so that
+// no range or iterator is plainer than k.)
+pub fn tally(x: DiagonalLists) -> Tally
+    requires { TallyPre x.d.now x.sub.now x.blocks.now }
+    ensures { result ≡ tallied_of (length x.entry.d.now)
+        (vec x.entry.d.now) (vec x.entry.sub.now) (naturals x.entry.blocks.now) }
 {
     let mut t = Tally {
         positive: 0,
@@ -108,10 +100,10 @@ pub fn tally(d: &[f64], sub: &[f64], blocks: &[u8]) -> Tally
         zero: 0,
     };
     let mut k = 0;
-    while k < d.len() {
+    while k < x.d.len() {
         let at = Elim(k);
-        t = tallied(t, diagonal::diagonal_at(d, sub, blocks, at));
-        k = diagonal::past(blocks, at);
+        count(&mut t, diagonal::diagonal_at(x, at));
+        k = diagonal::past(x.blocks, at);
     }
     t
 }
@@ -119,24 +111,22 @@ pub fn tally(d: &[f64], sub: &[f64], blocks: &[u8]) -> Tally
 // ---- the call
 
 // Refusals 19 and 16.
-fn inertia_check(d: &[f64], sub: &[f64], blocks: &[u8]) -> Check
-    ensures { result ≡ inertia_check d.now sub.now blocks.now }
+fn inertia_check(x: DiagonalLists) -> Result<(), Refusal>
+    ensures { result ≡ inertia_check x.entry.d.now x.entry.sub.now x.entry.blocks.now }
 {
-    let n = d.len();
-    if !((sub.len() == n) & ((blocks.len() == n) & (n <= COLUMNS_MAX))) {
-        return Check::Refused(Refusal::InertiaLength);
+    let n = x.d.len();
+    if !((x.sub.len() == n) & ((x.blocks.len() == n) & (n <= COLUMNS_MAX))) {
+        return Err(Refusal::InertiaLength);
     }
-    checks::first_bad_byte(blocks)
+    checks::first_bad_byte(x.blocks)
 }
 
 // in: d, subdiagonal and block bytes, as a factor call emits them; any lists are answered.
 // Counts, or refusal 19 or 16.
-pub fn inertia(d: &[f64], sub: &[f64], blocks: &[u8]) -> Counted
+pub fn inertia(d: &[f64], sub: &[f64], blocks: &[u8]) -> Result<Tally, Refusal>
     ensures { counted_says result ≡ inertia_of d.now sub.now blocks.now }
 {
-    let checked = inertia_check(d, sub, blocks);
-    match checked {
-        Check::Refused(r) => Counted::Refused(r),
-        Check::Sound => Counted::Counts(tally(d, sub, blocks)),
-    }
+    let x = DiagonalLists { d, sub, blocks };
+    inertia_check(x)?;
+    Ok(tally(x))
 }

@@ -1,13 +1,11 @@
 -- After the last panel: refused with 9 and zeros, or accepted with marks, counts and a working buffer of +0.0. Definitions only. Assumes nothing.
-use Rattle.std.specs.Prelude.{◌≡◌, List, ℕ, ◌-◌, ◌*◌, ◌≤◌, length, replicate}
+use Rattle.std.specs.Prelude.{◌≡◌, List, ℕ, ◌-◌, ◌*◌, ◌≤◌, length, replicate, Ok, Err}
 use Rattle.model.specs.Scalar.{zero_f}
 use Rattle.model.specs.Matrix.{view, vec, naturals}
 use Rattle.model.specs.Step.{diagonals_of}
 use Rattle.model.specs.Inertia.{tallied_of, check_bytes}
 use Rattle.model.specs.Factor.{Buffers, Outcome, result_check, zeros}
-use Rattle.model.specs.Answer.{accepted, turned_away, factored_says}
-use Rattle.model.specs.declared.Check as check
-use Rattle.model.specs.declared.Factored.{Factored}
+use Rattle.model.specs.Answer.{Check, Factored, accepted, turned_away, factored_says}
 use Rattle.scan.specs.Marks.{tail_marks}
 
 -- a call's answer with what it leaves
@@ -31,9 +29,9 @@ accept_of nrow ncol rounds b = record {
   };
 }
 
-abbrev pub judged_by : check.Check → ℕ → ℕ → ℕ → Buffers → Outcome
-judged_by check.TheVariants.Sound nrow ncol rounds b = accept_of nrow ncol rounds b
-judged_by (check.TheVariants.Refused r) nrow ncol rounds b = record { answer = turned_away r; buffers = zeros b }
+abbrev pub judged_by : Check → ℕ → ℕ → ℕ → Buffers → Outcome
+judged_by (Ok u) nrow ncol rounds b = accept_of nrow ncol rounds b
+judged_by (Err r) nrow ncol rounds b = record { answer = turned_away r; buffers = zeros b }
 
 unfoldable pub judge_of : ℕ → ℕ → ℕ → Buffers → Outcome
 judge_of nrow ncol rounds b =
@@ -47,4 +45,4 @@ pub record JudgePre (nrow ncol lp ld ls lm : ℕ) (blocks : List ℕ) : Type 0 w
   pub sub : ls ≡ ncol
   pub bytes : length blocks ≡ ncol
   pub marks : lm ≡ nrow - ncol
-  pub check : check_bytes blocks ≡ check.TheVariants.Sound
+  pub check : check_bytes blocks ≡ Ok tt

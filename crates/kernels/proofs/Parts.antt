@@ -60,27 +60,6 @@ zero-lent xs ys lo hi u h e =
 
 -- ---- runs within the lent part
 
--- a run that ends with the lent part, written there and not before it
-pub run-back : (xs ys : List Float) (a x e : ℕ) (N' : Row) → a ≤ x → x ≤ e → e ≤ length xs → length ys ≡ length (part xs a e)
-    → vec ys ≡ with_part (vec (part xs a e)) (x - a) (x - a + (e - x)) N' → vec (back xs a e ys) ≡ with_part (vec xs) x e (behind a N')
-unfolding with_part behind
-run-back xs ys a x e N' h g l ly w =
-    vec-put a e xs ys (omega arith) l (ly ∙ mid-count a e xs (omega arith) l)
-    ∙ fun_ext λ t.
-    test (ltb t a)
-    (λ p. let u : t < a = ltb-true t a p in rw (lt-leb a t u, lt-leb x t (omega arith)))
-    (λ p. let u : a ≤ t = ltb-false t a p in
-    rw (le-leb a t u)
-    (test (ltb t e)
-    (λ q. let v : t < e = ltb-true t e q in
-    rw q (ap (λ (z : Row). z (t - a)) w ∙
-    test (ltb t x)
-    (λ r. let o : t < x = ltb-true t x r in
-    rw (lt-leb x t o, lt-leb (x - a) (t - a) (omega arith)) (vec-part a e xs (t - a) (omega arith) ∙ ap (vec xs) (omega arith)))
-    (λ r. let o : x ≤ t = ltb-false t x r in
-    rw (le-leb x t o, le-leb (x - a) (t - a) (omega arith), lt-ltb (t - a) (x - a + (e - x)) (omega arith)))))
-    (λ q. rw (q, no (leb x t)))))
-
 -- two runs, the lent part's first and its last, written there and not between them
 pub runs-back : (xs ys : List Float) (a b x e : ℕ) (N' O' : Row) → a ≤ b → b ≤ x → x ≤ e → e ≤ length xs → length ys ≡ length (part xs a e)
     → vec ys ≡ with_part (with_part (vec (part xs a e)) 0 (b - a) N') (x - a) (x - a + (e - x)) O'

@@ -1,16 +1,15 @@
 -- Laws of the slice kernels: a turn of each loop is one place more by its rule. Assumes nothing.
 use Prim.Native.Nat.{ℕ, zero, suc, ◌+◌, ◌-◌, ◌<◌, ◌≤◌}
 use mathlib.Core.Path.{◌≡◌, refl, sym, ◌∙◌, ap, fun_ext}
-use mathlib.Core.List.{List, [], ◌∷◌, ◌++◌, append-nil}
+use mathlib.Core.List.{List}
 use native.Mathlib.Omega.{arith}
-use native.Mathlib.Nat.{not-suc-le-zero, le_of_suc-le-suc, le_antisymm}
-use native.Mathlib.Numerals.{add-one}
+use native.Mathlib.Nat.{le_antisymm}
 use borrow.Author.Tests.{lt-leb, eqb-true}
 use lib.Dec.{eqb}
-use lib.ListN.{length, get_or, set, drop, replicate, drop_of_length-le, length-set}
+use lib.ListN.{length, get_or, set, length-set}
 use lib.Ieee.{Float, nan, binary64, add, sub, mul}
 use Rattle.model.specs.Matrix.{Row, vec, put, with_part}
-use Rattle.kernels.specs.Rules.{pick, behind, ahead, less_all, less_runs, less_each, plus_times, plus_four, times, combined, blended}
+use Rattle.kernels.specs.Rules.{behind, ahead, less_all, less_runs, less_each, plus_times, plus_four, times, combined, blended}
 use Rattle.kernels.proofs.Laws.{vec-set, with_part-none, with_part-past, with_part-before, with_part-step}
 use Rattle.model.proofs.Cases.{test}
 
@@ -53,35 +52,20 @@ store-from f xs q i n len N v l h r e w =
 
 -- ---- the kernels
 
-pub copy_step : (f : Row) (xs zs : List Float) (i n len : ℕ) → i < n → n ≤ len → length xs ≡ len → vec xs ≡ with_part f 0 i (vec zs)
-    → vec (set xs i (get_or zs i nan)) ≡ with_part f 0 (i + 1) (vec zs)
-unfolding vec
-copy_step f xs zs i n len l h r e = store f xs i n len _ _ l h r e refl
-
 -- a turn of the kernels that read runs of the slice itself: any number of them
 pub all_same : (c : ℕ) (x y : Float) (s t m : ℕ → Float) → x ≡ y → ((u : ℕ) → u < c → s u ≡ t u) → less_all c x s m ≡ less_all c y t m
 unfolding less_all
 all_same zero x y s t m e h = e
 all_same (suc c) x y s t m e h = rw (all_same c x y s t m e (λ u l. h u (omega arith)), h c (omega arith))
 
-pub less-step : (c : ℕ) (f : Row) (xs : List Float) (q i n len : ℕ) (from at : ℕ → ℕ) (m : ℕ → Float) → i < n
-    → ((u : ℕ) → (at u ≡ from u + i) × (from u + n ≤ q)) → q + n ≤ len
-    → length xs ≡ len → vec xs ≡ with_part f q (q + i) (less_runs c f q from m)
-    → vec (set xs (q + i) (less_all c (get_or xs (q + i) nan) (λ u. get_or xs (at u) nan) m)) ≡ with_part f q (q + (i + 1)) (less_runs c f q from m)
+pub less-step : (c : ℕ) (f : Row) (xs : List Float) (q i n len : ℕ) (from : ℕ → ℕ) (m : ℕ → Float) (v : Float) → i < n
+    → ((u : ℕ) → u < c → from u + n ≤ q) → q + n ≤ len → length xs ≡ len → vec xs ≡ with_part f q (q + i) (less_runs c f q from m)
+    → v ≡ less_all c (get_or xs (q + i) nan) (λ u. get_or xs (from u + i) nan) m → vec (set xs (q + i) v) ≡ with_part f q (q + (i + 1)) (less_runs c f q from m)
 unfolding less_runs
-less-step c f xs q i n len from at m l h r e w =
+less-step c f xs q i n len from m v l h r e w g =
     store-from f xs q i n len _ _ l r e w
-    (all_same c _ _ _ _ m (reached-from f xs q i _ w)
-    (λ u o. kept-before f xs q (q + i) (at u) _ w (omega (arith, (h u).0, (h u).1)) ∙ ap f (omega (arith, (h u).0))))
-
--- what holds of each of four and its fellow holds of the u-th
-pub pick-each : {A B : Type 0} (Q : A → B → Type 0) (a b c d : A) (x y z w : B) → Q a x → Q b y → Q c z → Q d w → (u : ℕ)
-    → Q (pick a b c d u) (pick x y z w u)
-unfolding pick
-pick-each Q a b c d x y z w p q r s zero = p
-pick-each Q a b c d x y z w p q r s (suc zero) = q
-pick-each Q a b c d x y z w p q r s (suc (suc zero)) = r
-pick-each Q a b c d x y z w p q r s (suc (suc (suc u))) = s
+    (g ∙ all_same c _ _ _ _ m (reached-from f xs q i _ w)
+    (λ u o. kept-before f xs q (q + i) (from u + i) _ w (omega (arith, h u o)) ∙ ap f (omega arith)))
 
 pub less-each-step : (f : Row) (xs zs : List Float) (i n len : ℕ) → i < n → n ≤ len → length xs ≡ len → vec xs ≡ with_part f 0 i (less_each f (vec zs))
     → vec (set xs i (sub binary64 (get_or xs i nan) (get_or zs i nan))) ≡ with_part f 0 (i + 1) (less_each f (vec zs))
@@ -163,20 +147,3 @@ pub blend-step : (f : Row) (xs zs ws : List Float) (i n len : ℕ) (p q : Float)
     → vec (set xs i (add binary64 (mul binary64 (get_or zs i nan) p) (mul binary64 (get_or ws i nan) q))) ≡ with_part f 0 (i + 1) (blended (vec zs) (vec ws) p q)
 unfolding blended vec
 blend-step f xs zs ws i n len p q l h o e = store f xs i n len _ _ l h o e refl
-
--- ---- fills
-
-fill_suc : {A : Type 0} (n : ℕ) (v : A) (xs : List A) → n < length xs → set (replicate n v ++ drop n xs) n v ≡ replicate (suc n) v ++ drop (suc n) xs
-fill_suc n v [] l = absurd (not-suc-le-zero l)
-fill_suc zero v (x ∷ xs) l = refl
-fill_suc (suc n) v (x ∷ xs) l = ap (λ (t : List _). v ∷ t) (fill_suc n v xs (le_of_suc-le-suc l))
-
-pub fill_step : {A : Type 0} (ys xs : List A) (v : A) (i n : ℕ) → i < n → n ≡ length xs → ys ≡ replicate i v ++ drop i xs
-    → set ys i v ≡ replicate (i + 1) v ++ drop (i + 1) xs
-fill_step ys xs v i n l m e = rw (e, add-one i) (fill_suc i v xs (omega arith))
-
-pub fill_end : {A : Type 0} (ys xs : List A) (v : A) (i n : ℕ) → i ≤ n → n ≤ i → n ≡ length xs → ys ≡ replicate i v ++ drop i xs → ys ≡ replicate (length xs) v
-fill_end {A = A} ys xs v i n h l m e =
-    let q : i ≡ length xs = omega arith in
-    e ∙ ap (λ (k : ℕ). replicate k v ++ drop k xs) q
-    ∙ ap (λ (z : List A). replicate (length xs) v ++ z) (drop_of_length-le xs {i = length xs} (omega arith)) ∙ append-nil _

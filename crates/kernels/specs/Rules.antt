@@ -1,15 +1,8 @@
 -- What the slice kernels make of place a from the numbers at place a of their operands, each operation rounded, in the order written.
 -- A kernel puts its rule at n places. Definitions only. Assumes nothing.
-use Rattle.std.specs.Prelude.{ℕ, zero, suc, ◌+◌, ◌-◌, ◌≤◌, Float}
+use Rattle.std.specs.Prelude.{ℕ, zero, suc, ◌+◌, ◌-◌, ◌<◌, ◌≤◌, Float}
 use Rattle.model.specs.Scalar.{◌⊕◌, ◌⊖◌, ◌⊗◌, zero_f}
 use Rattle.model.specs.Matrix.{Row}
-
--- the u-th of four, and the last from there on
-unfoldable pub pick : {A : Type 0} → A → A → A → A → ℕ → A
-pick a b c d zero = a
-pick a b c d (suc zero) = b
-pick a b c d (suc (suc zero)) = c
-pick a b c d (suc (suc (suc u))) = d
 
 -- what stands q places before, and q places on
 unfoldable pub behind : ℕ → Row → Row
@@ -71,9 +64,7 @@ pub record AheadPre (n q x : ℕ) : Type 0 where
   pub apart : n ≤ q
   pub out : q + n ≤ x
 
--- past its first n, the n from p on, the n from r on and the n from s on, in any order; who reads fewer names his last place again
-pub record MoreAheadPre (n p r s q x : ℕ) : Type 0 where
-  pub second : p + n ≤ q
-  pub third : r + n ≤ q
-  pub fourth : s + n ≤ q
+-- c runs of n numbers, of which the u-th begins at `from u` and ends before q, and n numbers from q on
+pub record RunsPre (c n q x : ℕ) (from : ℕ → ℕ) : Type 0 where
+  pub apart : (u : ℕ) → u < c → from u + n ≤ q
   pub out : q + n ≤ x

@@ -1,6 +1,6 @@
 -- Laws of rising rows: a row stands at one place only, and a search may go on where the one for a lesser row ended. Assumes nothing.
 use mathlib.Core.Path.{◌≡◌, refl, sym, ◌∙◌, ap}
-use mathlib.Core.Bool.{true, false}
+use mathlib.Core.Bool.{Bool, true, false}
 use mathlib.Core.List.{List}
 use Prim.Native.Nat.{ℕ, zero, suc, ◌+◌, ◌-◌, ◌≤◌, ◌<◌}
 use native.Mathlib.Omega.{arith}
@@ -13,7 +13,8 @@ use Rattle.model.specs.Factor.{every_from}
 use Rattle.model.specs.Assembly.{first_not}
 use Rattle.model.specs.Update.{place_from}
 use Rattle.model.specs.declared.Refusal.TheVariants.{AbsentRow}
-use Rattle.model.specs.declared.Check.TheVariants.{Sound, Refused}
+use Rattle.std.specs.Prelude.{Ok, Err}
+use Rattle.std.specs.List.{IsAllAdjacentAnswer}
 use Rattle.model.proofs.Cases.{test, cmp}
 use Rattle.model.proofs.Every.{every-at}
 use Rattle.checks.proofs.First.{first_step, first-bad, first-end}
@@ -31,6 +32,27 @@ rising-is f n e = record {
       let t : rises_at f n i ≡ true = ap (λ (k : ℕ). rises_at f n k) (omega arith) ∙ every-at (rises_at f n) n 0 i e (omega arith) in
       ltb-true (f i) (f (i + 1)) (rw (ne_eqb (i + 1) n (λ x. omega arith)) at t);
 }
+
+-- each of n places holds, so all do
+every-all : (f : ℕ → Bool) (n i : ℕ) → ((k : ℕ) → k < n → f (i + k) ≡ true) → every_from f n i ≡ true
+unfolding every_from
+every-all f zero i h = refl
+every-all f (suc n) i h =
+    let here : f i ≡ true = ap f (omega arith) ∙ h 0 (omega arith) in
+    rw here (every-all f n (i + 1) (λ k l. ap f (omega arith) ∙ h (suc k) (omega arith)))
+
+-- what std's 'is_sorted_by' answers of each row and the next is the definition's test of all rows
+pub rising-says : (xs : List ℕ) (r : Bool) → IsAllAdjacentAnswer (λ x y b. b ≡ ltb x y) xs r
+    → r ≡ every_from (rises_at (naturals xs) (length xs)) (length xs) 0
+unfolding rises_at naturals
+rising-says xs true h =
+    sym (every-all (rises_at (naturals xs) (length xs)) (length xs) 0
+    (λ k l. let z : 0 + k ≡ k = omega arith in
+    rw z (test (eqb (k + 1) (length xs)) (λ t. rw t) (λ t. rw (t, ← h k 0 (omega (arith, eqb-false (k + 1) (length xs) t)))))))
+rising-says xs false h =
+    let apart : every_from (rises_at (naturals xs) (length xs)) (length xs) 0 ≡ true → ⊥
+    = λ t. omega (arith, ltb-false _ _ (sym (h.2 0)), (rising-is (naturals xs) (length xs) t).next h.0 h.1) in
+    test (every_from (rises_at (naturals xs) (length xs)) (length xs) 0) (λ t. absurd (apart t)) (λ t. sym t)
 
 module _ (f : ℕ → ℕ) (n : ℕ) (r : Rising f n) where
   further : (d i : ℕ) → i + (d + 1) < n → f i < f (i + (d + 1))
@@ -150,13 +172,13 @@ module _ (rows krows : List ℕ) (start room : ℕ) (places : List ℕ) (w : Loc
       located = located-step rows krows start room w from i p h v.next v.passed e x places (omega (arith, v.size, w.fits)) v.located;
     }
 
-    pub locating-bad : p ≡ length rows → Refused (AbsentRow i) ≡ first_not (there_at rows (naturals krows)) AbsentRow (length krows - start) start
+    pub locating-bad : p ≡ length rows → Err (AbsentRow i) ≡ first_not (there_at rows (naturals krows)) AbsentRow (length krows - start) start
     locating-bad x =
         first-bad (there_at rows (naturals krows)) AbsentRow (length krows) i false _ (AbsentRow i) h
         (sym (absent rows krows start room w from i p h v.next v.passed e x)) refl v.scan refl
 
   module _ (from i : ℕ) (v : Locating rows krows start room places from i) (h : length krows ≤ i) where
-    pub locating-end : Sound ≡ first_not (there_at rows (naturals krows)) AbsentRow (length krows - start) start
+    pub locating-end : Ok tt ≡ first_not (there_at rows (naturals krows)) AbsentRow (length krows - start) start
     locating-end = first-end (there_at rows (naturals krows)) AbsentRow (length krows) i _ h v.scan
 
     pub locating-all : Located rows krows start (length krows) places

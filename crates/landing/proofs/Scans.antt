@@ -1,10 +1,14 @@
 -- Laws of scans as a loop takes them: k is the place, w what the whole scan finds. And what a scan's result says of each place. Assumes nothing.
 use mathlib.Core.Path.{◌≡◌, sym, ◌∙◌}
 use mathlib.Core.Bool.{Bool, true, false, not}
+use mathlib.Core.List.{List}
 use Prim.Native.Nat.{ℕ, zero, suc, ◌+◌, ◌-◌, ◌≤◌, ◌<◌}
 use native.Mathlib.Omega.{arith}
 use borrow.Author.Tests.{eq-eqb, ne_eqb, eqb-true, eqb-false, ltb-true, ltb-false, not-true, not-false}
 use lib.Dec.{ltb, eqb}
+use lib.ListN.{length, get_or}
+use Rattle.std.specs.List.{position_or_len}
+use Rattle.std.proofs.lemmas.List.Sums.{position_or_len_is}
 use Rattle.model.specs.Factor.{every_from}
 use Rattle.model.specs.Update.{place_from}
 use Rattle.model.proofs.Cases.{test, one_left}
@@ -30,22 +34,6 @@ every-none f n = let e : n - 0 ≡ n = omega arith in rw e
 
 -- ---- the first place where f holds
 
-module _ (f : ℕ → Bool) (n k w : ℕ) where
-  pub from_step : (b : Bool) → k < n → b ≡ f k → b ≡ false → first_from f (n - k) k ≡ w → first_from f (n - (k + 1)) (k + 1) ≡ w
-  unfolding first_from
-  from_step b h s t e = let y : f k ≡ false = sym s ∙ t in rw (one_left n k h, y) at e
-
-  pub from-hit : (b : Bool) → k < n → b ≡ f k → b ≡ true → first_from f (n - k) k ≡ w → k ≡ w
-  unfolding first_from
-  from-hit b h s t e = let y : f k ≡ true = sym s ∙ t in rw (one_left n k h, y) at e
-
-  pub from_end : n ≤ k → first_from f (n - k) k ≡ w → k ≡ w
-  unfolding first_from
-  from_end h e = let m : n - k ≡ 0 = omega arith in rw m at e
-
-pub from-none : (f : ℕ → Bool) (n : ℕ) → first_from f (n - 0) 0 ≡ first_from f n 0
-from-none f n = let e : n - 0 ≡ n = omega arith in rw e
-
 -- w is the first of the places lo up to hi where f holds, and hi where it holds at none
 pub record First (f : ℕ → Bool) (lo hi w : ℕ) : Type 0 where
   pub low : lo ≤ w
@@ -66,6 +54,15 @@ first-is f (suc m) i =
       before = λ k l h. test (eqb k i) (λ e. rw (eqb-true k i e) t) (λ e. rest.before k (omega (arith, eqb-false k i e)) h);
       here = λ h. rest.here (omega arith);
     }))
+
+-- of a list: what std's 'position_or_len' finds of the test
+pub first-position : (test : ℕ → Bool) (f : ℕ → Bool) (xs : List ℕ) → ((i : ℕ) → i < length xs → f i ≡ test (get_or xs i 0))
+    → position_or_len test xs ≡ first_from f (length xs) 0
+first-position test f xs h =
+    let p : First f 0 (0 + length xs) (first_from f (length xs) 0) = first-is f (length xs) 0 in
+    position_or_len_is test xs (first_from f (length xs) 0) 0 (omega (arith, p.high))
+    (λ k l. sym (h k (omega (arith, p.high))) ∙ p.before k (omega arith) l)
+    (λ l. sym (h (first_from f (length xs) 0) l) ∙ p.here (omega arith))
 
 -- ---- the first place where f is g
 

@@ -1,10 +1,11 @@
 -- Tests of one row, scans over rows, and where the descendant's rows stand among the target's. From docs/SCOPE.md, "Update".
 -- Rows of the system are whole numbers; a place is an index into the target's rows. Definitions only. Assumes nothing.
-use Rattle.std.specs.Prelude.{◌≡◌, Bool, true, cond, ◌&&◌, ◌||◌, List, ℕ, zero, suc, ◌+◌, ◌<◌, ◌≤◌, ◌^◌, leb, ltb, eqb, length}
+use Rattle.std.specs.Prelude.{◌≡◌, Bool, true, cond, ◌&&◌, ◌||◌, List, ℕ, zero, suc, ◌+◌, ◌<◌, ◌≤◌, ◌^◌, leb, ltb, eqb, length, Option, Some, None}
 use Rattle.model.specs.Sizes.{most_rows}
 use Rattle.model.specs.Matrix.{naturals}
 use Rattle.model.specs.Factor.{every_from}
 use Rattle.model.specs.Update.{place_from}
+use Rattle.model.specs.declared.LocalRow.{LocalRow}
 
 -- row i of n is below the one after it, if there is one
 unfoldable pub rises_at : (ℕ → ℕ) → ℕ → ℕ → Bool
@@ -29,6 +30,11 @@ there_at rows krows = λ i. ltb (place_from (naturals rows) (krows i) (length ro
 unfoldable pub first_from : (ℕ → Bool) → ℕ → ℕ → ℕ
 first_from f zero i = i
 first_from f (suc m) i = let rest = first_from f m (i + 1) in cond (f i) i rest
+
+-- where a search for a row of the panel ended: its place, or the end n where it found none
+abbrev pub found_of : Option LocalRow → ℕ → ℕ
+found_of None n = n
+found_of (Some p) n = p.0
 
 -- ---- what the functions ask and give
 

@@ -1,41 +1,40 @@
 // Rows of the system (GlobalRow), rows of the target's panel (LocalRow) and its columns (Elim) are three types.
 // `local_row` is the one way from the first to the second, `column_of` the one way from the first to the third.
-// Both lists of rows rise, so a search goes on where the one before it ended. `Shapes` has the sizes of both nodes.
+// Both lists of rows rise, so a search goes on where the one before it ended. `Target` and `Descendant` are what an
+// update is given of its two nodes, whatever their sizes and lengths are.
 #![tactic(auto)]
 
-ghost use Rattle.std.specs.Prelude.{◌≡◌, ◌+◌, ◌-◌, ◌<◌, ◌≤◌, ◌^◌, eqb, length};
+ghost use Rattle.std.specs.Prelude.{◌≡◌, ◌+◌, ◌-◌, ◌<◌, ◌≤◌, ◌^◌, eqb, length, Ok, IfSome};
 ghost use Rattle.model.specs.Matrix.{naturals};
 ghost use Rattle.model.specs.Factor.{every_from};
 ghost use Rattle.model.specs.Assembly.{first_not};
 ghost use Rattle.model.specs.Update.{place_from};
 ghost use Rattle.model.specs.declared.Refusal.TheVariants.{AbsentRow};
-ghost use Rattle.model.specs.declared.Check.TheVariants.{Sound};
-ghost use Rattle.landing.specs.Rows.{rises_at, stands_at, lands_on, lands_at, first_from, there_at};
+ghost use Rattle.landing.specs.Rows.{rises_at, stands_at, lands_on, lands_at, first_from, there_at, found_of};
 ghost use Rattle.landing.specs.Rows.{ColumnsPre, LocatePre, Located};
 
-use model::{Check, Elim, GlobalRow, LocalRow, Refusal};
+use model::{Elim, GlobalRow, LocalRow, Refusal};
 
-// The target's columns and rows, and the global row of its first column; the descendant's columns, and rows below them.
+// The target: its columns and rows, the global row of its first column, and its global rows.
 #[derive(Clone, Copy)]
-pub struct Shapes {
+pub struct Target<'a> {
     pub ncol: usize,
     pub nrow: usize,
     pub first: GlobalRow,
-    pub nk: usize,
-    pub mk: usize,
+    pub rows: &'a [u32],
 }
 
-// Row i is below the one after it, if there is one.
-fn rises_at(rows: &[u32], i: usize) -> bool
-    requires { i < length rows.now }
-    ensures { result ≡ rises_at (naturals rows.now) (length rows.now) i }
-{
-    if i + 1 == rows.len() {
-        return true;
-    }
-    let g = GlobalRow(rows[i]);
-    let next = GlobalRow(rows[i + 1]);
-    g.0 < next.0
+// The descendant: its columns and the rows below them, its panel of (nk + mk)·nk numbers, d, subdiagonal and block
+// bytes, and the global rows below its columns.
+#[derive(Clone, Copy)]
+pub struct Descendant<'a> {
+    pub nk: usize,
+    pub mk: usize,
+    pub panel: &'a [f64],
+    pub d: &'a [f64],
+    pub sub: &'a [f64],
+    pub blocks: &'a [u8],
+    pub rows: &'a [u32],
 }
 
 // Whether the rows are strictly rising.
@@ -43,14 +42,7 @@ pub fn rising(rows: &[u32]) -> bool
     ensures { result ≡ every_from (rises_at (naturals rows.now) (length rows.now))
         (length rows.now) 0 }
 {
-    let mut i = 0;
-    while i < rows.len() {
-        if !rises_at(rows, i) {
-            return false;
-        }
-        i += 1;
-    }
-    true
+    rows.is_sorted_by(|g, next| g < next)
 }
 
 // Whether g is the row of a column.
@@ -61,90 +53,83 @@ fn stands_at(first: GlobalRow, column: Elim, g: GlobalRow) -> bool
     g.0 as usize == first.0 as usize + column.0
 }
 
-// Whether the first ncol rows are first, first + 1, ..
-pub fn begins_at(first: GlobalRow, rows: &[u32], ncol: usize) -> bool
-    requires { ColumnsPre ncol (length rows.now) }
-    ensures { result ≡ every_from (stands_at first.0 (naturals rows.now)) ncol 0 }
+// Whether the target's first ncol rows are first, first + 1, ..
+pub fn begins_at(t: Target) -> bool
+    requires { ColumnsPre t.ncol (length t.rows.now) }
+    ensures { result ≡ every_from (stands_at t.entry.first.0 (naturals t.entry.rows.now)) t.entry.ncol 0 }
 {
-    let mut j = 0;
-    while j < ncol {
-        if !stands_at(first, Elim(j), GlobalRow(rows[j])) {
+    for (j, g) in t.rows[..t.ncol].iter().enumerate() {
+        if !stands_at(t.first, Elim(j), GlobalRow(*g)) {
             return false;
         }
-        j += 1;
     }
     true
 }
 
-// Whether g is the row of one of the ncol columns from `first` on.
-pub fn lands(first: GlobalRow, ncol: usize, g: GlobalRow) -> bool
-    requires { ncol < 2 ^ 32 }
-    ensures { result ≡ lands_on first.0 ncol g.0 }
+// Whether g is the row of one of the target's columns.
+pub fn lands(t: Target, g: GlobalRow) -> bool
+    requires { t.ncol < 2 ^ 32 }
+    ensures { result ≡ lands_on t.entry.first.0 t.entry.ncol g.0 }
 {
-    (first.0 <= g.0) & ((g.0 as usize) < first.0 as usize + ncol)
+    (t.first.0 <= g.0) & ((g.0 as usize) < t.first.0 as usize + t.ncol)
 }
 
 // The column that the landing row g lands on.
-pub fn column_of(first: GlobalRow, g: GlobalRow) -> Elim
-    requires { first.0 ≤ g.0 }
-    ensures { result.0 ≡ g.0 - first.0 }
+pub fn column_of(t: Target, g: GlobalRow) -> Elim
+    requires { t.first.0 ≤ g.0 }
+    ensures { result.0 ≡ g.0 - t.entry.first.0 }
 {
-    Elim((g.0 - first.0) as usize)
+    Elim((g.0 - t.first.0) as usize)
 }
 
-// The first of the descendant's rows that lands; their count where none does.
-pub fn first_landing(first: GlobalRow, ncol: usize, krows: &[u32]) -> usize
-    requires { ncol < 2 ^ 32 }
-    ensures { result ≡ first_from (lands_at first.0 ncol (naturals krows.now))
+// The first of the descendant's rows that lands; their count where none does, and no Option, since what is done with
+// the rows from there on is then nothing.
+pub fn first_landing(t: Target, krows: &[u32]) -> usize
+    requires { t.ncol < 2 ^ 32 }
+    ensures { result ≡ first_from (lands_at t.entry.first.0 t.entry.ncol (naturals krows.now))
         (length krows.now) 0 }
 {
-    let mut i = 0;
-    while i < krows.len() {
-        if lands(first, ncol, GlobalRow(krows[i])) {
-            return i;
-        }
-        i += 1;
-    }
-    i
+    krows
+        .iter()
+        .position(|g| lands(t, GlobalRow(*g)))
+        .unwrap_or(krows.len())
 }
 
-// The first of the rows, from row `from` on, that is g; their count where none is.
-fn local_row(rows: &[u32], from: LocalRow, g: GlobalRow) -> LocalRow
+// The first of the rows, from row `from` on, that is g.
+fn local_row(rows: &[u32], from: LocalRow, g: GlobalRow) -> Option<LocalRow>
     requires { from.0 ≤ length rows.now }
-    ensures { result.0 ≡ place_from (naturals rows.now) g.0
-        (length rows.now - from.0) from.0 }
+    ensures place { found_of result (length rows.now)
+        ≡ place_from (naturals rows.now) g.0 (length rows.now - from.0) from.0 }
+    ensures inside { IfSome result (λ p. p.0 < length rows.now) }
 {
-    let mut i = from.0;
-    while i < rows.len() {
+    // by places, since the search begins within the list and its answer is a place of the whole
+    for i in from.0..rows.len() {
         let here = GlobalRow(rows[i]);
         if here.0 == g.0 {
-            return LocalRow(i);
+            return Some(LocalRow(i));
         }
-        i += 1;
     }
-    LocalRow(i)
+    None
 }
 
 // The place of each of the descendant's rows from `start` on among the target's; or refusal 17, at the first that has
 // none.
-pub fn locate(rows: &[u32], krows: &[u32], start: usize, places: &mut [u16]) -> Check
+pub fn locate(rows: &[u32], krows: &[u32], start: usize, places: &mut [u16]) -> Result<(), Refusal>
     requires { LocatePre rows.now krows.now start (length places.old) }
     ensures value { result ≡ first_not (there_at rows.now (naturals krows.now)) AbsentRow
         (length krows.now - start) start }
-    ensures located { result ≡ Sound
+    ensures located { result ≡ Ok tt
         → Located rows.now krows.now start (length krows.now) places.new }
 {
     let mut from = 0;
-    let mut i = start;
-    while i < krows.len() {
+    // by places: two lists go in step, and the refusal names the place
+    for i in start..krows.len() {
         let place = local_row(rows, LocalRow(from), GlobalRow(krows[i]));
-        let p = place.0;
-        if p == rows.len() {
-            return Check::Refused(Refusal::AbsentRow(i));
-        }
-        places[i] = p as u16;
-        from = p + 1;
-        i += 1;
+        let Some(found) = place else {
+            return Err(Refusal::AbsentRow(i));
+        };
+        places[i] = found.0 as u16;
+        from = found.0 + 1;
     }
-    Check::Sound
+    Ok(())
 }

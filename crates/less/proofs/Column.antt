@@ -8,7 +8,8 @@ use Rattle.model.specs.Scalar.{zero_f}
 use Rattle.model.specs.Matrix.{Row, Mat, with_column}
 use Rattle.model.specs.Head.{last_of}
 use Rattle.model.proofs.Recorded.{last-from, last_block, last-single}
-use Rattle.grid.specs.Rules.{column_of, less_times, less_times_if, less_two, less_three, less_four, LaterPre}
+use Rattle.grid.specs.Rules.{column_of, less_times, less_times_if, less_two, less_three, less_four, less_columns, LaterPre}
+use Rattle.grid.proofs.Together.{columns-two, columns-three, columns-four}
 use Rattle.less.specs.Less.{less_at, stepped, stepped_twice}
 
 -- ---- where a pivot's columns stand
@@ -16,6 +17,23 @@ use Rattle.less.specs.Less.{less_at, stepped, stepped_twice}
 -- what the grid asks, from what is asked by kind
 later-at : (n k k' j lo hi len : ℕ) → LaterPre n k j lo hi len → k' ≤ k → LaterPre n k' j lo hi len
 later-at n k k' j lo hi len h e = record { col = h.col; past = omega (arith, h.past); up = h.up; rows = h.rows }
+
+-- ---- what the grid leaves of a column less two columns before it, or three, or four
+
+module _ (M Q : Mat) (k j lo hi : ℕ) (m : ℕ → Float) where
+  pub by-two : Q ≡ with_column M j lo hi (less_columns 2 M k j m)
+      → Q ≡ with_column M j lo hi (less_two (column_of M j) (column_of M k) (column_of M (k + 1)) (m 0) (m 1))
+  by-two q = q ∙ rw (columns-two M k j m)
+
+  pub by-three : Q ≡ with_column M j lo hi (less_columns 3 M k j m)
+      → Q ≡ with_column M j lo hi (less_three (column_of M j) (column_of M k) (column_of M (k + 1)) (column_of M (k + 2)) (m 0) (m 1) (m 2))
+  by-three q = q ∙ rw (columns-three M k j m)
+
+  pub by-four : Q ≡ with_column M j lo hi (less_columns 4 M k j m)
+      → Q
+      ≡ with_column M j lo hi
+      (less_four (column_of M j) (column_of M k) (column_of M (k + 1)) (column_of M (k + 2)) (column_of M (k + 3)) (m 0) (m 1) (m 2) (m 3))
+  by-four q = q ∙ rw (columns-four M k j m)
 
 -- ---- zero multipliers
 

@@ -1,3 +1,2 @@
--- Laws of the lines, and of all lines of an answer.
+-- Laws of the lines.
 pub mod Laws
-pub mod Said

@@ -1,27 +1,9 @@
--- What the functions ask of their callers: the lengths of the lists that they print. Definitions only. Assumes nothing.
-use Rattle.std.specs.Prelude.{◌≡◌, ℕ, ◌-◌, ◌*◌, ◌≤◌, ◌<◌}
+-- The lengths of the lists that the functions print. Definitions only. Assumes nothing.
+use Rattle.std.specs.Prelude.{◌≡◌, ℕ, ◌-◌, ◌*◌, ◌≤◌}
 use Rattle.model.specs.declared.Settings.{Settings}
 
--- lists by position, all of one length
-pub record PivotsPre (d sub blocks lifts amounts : ℕ) : Type 0 where
-  pub subs : sub ≡ d
-  pub bytes : blocks ≡ d
-  pub lifted : lifts ≡ d
-  pub added : amounts ≡ d
-
--- a row of a panel
-pub record EntriesPre (nrow ncol i panel : ℕ) : Type 0 where
-  pub row : i < nrow
-  pub numbers : panel ≡ nrow * ncol
-
--- a panel of few columns, and the marks of its tail rows
-pub record RowsPre (nrow ncol panel marks : ℕ) : Type 0 where
-  pub columns : ncol ≤ 16
-  pub numbers : panel ≡ nrow * ncol
-  pub tail : marks ≡ nrow - ncol
-
--- the lists of a factor call at the program's sizes, and the room that all its lines take at most
-pub record LinesPre (c : Settings) (panel d sub blocks lifts amounts order marks out : ℕ) : Type 0 where
+-- the lists of a factor call at the program's sizes
+pub record LinesPre (c : Settings) (panel d sub blocks lifts amounts order marks : ℕ) : Type 0 where
   pub columns : c.ncol ≤ 16
   pub rows : c.nrow ≤ 64
   pub numbers : panel ≡ c.nrow * c.ncol
@@ -32,4 +14,3 @@ pub record LinesPre (c : Settings) (panel d sub blocks lifts amounts order marks
   pub added : amounts ≡ c.ncol
   pub places : order ≡ c.nrow
   pub tail : marks ≡ c.nrow - c.ncol
-  pub room : 32768 ≤ out

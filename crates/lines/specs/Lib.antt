@@ -1,3 +1,4 @@
--- The lines that the program prints of an answer, and what the functions ask of their callers.
+-- The lines that the program prints of an answer, what a call left as they tell it, and the lengths of the lists printed.
 pub mod Lines
+pub mod Left
 pub mod Lengths

@@ -57,6 +57,10 @@ pivot_line k block d sub lift amount =
 unfoldable pub pivot_at : (d sub : List Float) → (blocks lifts : List ℕ) → (amounts : List Float) → ℕ → List ℕ
 pivot_at d sub blocks lifts amounts k = pivot_line k (naturals blocks k) (vec d k) (vec sub k) (naturals lifts k) (vec amounts k)
 
+-- position k's line of a call's buffers
+abbrev pub pivot_of : Buffers → ℕ → List ℕ
+pivot_of x = pivot_at x.d x.sub x.blocks x.lifts x.amounts
+
 -- 'positive, negative, zero'
 unfoldable pub inertia_line : Tally → List ℕ
 inertia_line t = word "inertia" ++ three t.positive t.negative t.zero ++ newline
@@ -73,13 +77,17 @@ mark_field ncol marks i = cond (ltb i ncol) [] (field (naturals marks (i - ncol)
 unfoldable pub row_line : (nrow ncol : ℕ) → List Float → List ℕ → ℕ → List ℕ
 row_line nrow ncol panel marks i = word "row" ++ field i ++ each (entry_field nrow panel i) ncol ++ mark_field ncol marks i ++ newline
 
+-- row i's line of a call's buffers
+abbrev pub row_of : Settings → Buffers → ℕ → List ℕ
+row_of c x = row_line c.nrow c.ncol x.panel x.marks
+
 -- ---- all lines of a factor call's answer
 
 -- the lines of an accepted call
 unfoldable pub accepted_lines : Settings → Report → Buffers → List ℕ
 accepted_lines c r x =
-    accepted_line r.rounds ++ order_line x.order ++ each (pivot_at x.d x.sub x.blocks x.lifts x.amounts) c.ncol
-    ++ inertia_line r.inertia ++ each (row_line c.nrow c.ncol x.panel x.marks) c.nrow
+    accepted_line r.rounds ++ order_line x.order ++ each (pivot_of x) c.ncol
+    ++ inertia_line r.inertia ++ each (row_of c x) c.nrow
 
 abbrev pub said_lines : Said Report → Settings → Buffers → List ℕ
 said_lines (refused n a b) c x = refused_line n a b

@@ -1,19 +1,21 @@
-// The lines that the program prints, each written into a lent buffer from a place on.
-// A reader may rely on each contract: the buffer is what it was with the line of specs/Lines.antt placed in it, and the
-// answer is the place after the line. A caller owes room for the longest line of its kind: a space and a number take at
-// most 21 bytes in decimal and 17 in hexadecimal.
+// The lines that the program prints, each pushed to a text.
+// A reader may rely on each contract: the text is what it was with the line of specs/Lines.antt after it. A caller owes
+// room for the longest line of its kind: a space and a number take at most 21 bytes in decimal and 17 in hexadecimal.
 #![tactic(auto)]
 
-ghost use Rattle.std.specs.Prelude.{◌+◌, ◌*◌, ◌≤◌, ◌<◌, ◌≡◌, [], length};
+ghost use Rattle.std.specs.Prelude.{◌+◌, ◌*◌, ◌≤◌, ◌<◌, ◌≡◌, ◌++◌, length};
 ghost use Rattle.model.specs.Answer.{factored_says};
-ghost use Rattle.buffers.specs.Buffers.{buffers_of};
-ghost use Rattle.text.specs.Text.{Writes};
 ghost use Rattle.lines.specs.Lines.{field, number, three, each, refused_line, accepted_line, inertia_line};
-ghost use Rattle.lines.specs.Lines.{order_field, order_line, pivot_line, pivot_at, entry_field, mark_field, row_line};
-ghost use Rattle.lines.specs.Lines.{accepted_lines, said_lines};
-ghost use Rattle.lines.specs.Lengths.{PivotsPre, EntriesPre, RowsPre, LinesPre};
+ghost use Rattle.lines.specs.Lines.{order_field, order_line, entry_field, mark_field};
+ghost use Rattle.lines.specs.Lines.{accepted_lines, said_lines, pivot_of, row_of};
+ghost use Rattle.lines.specs.Left.{left_in};
 
-use model::{Factored, Report, Settings, Tally};
+mod left;
+
+pub use left::Left;
+use model::{Refusal, Report, Tally};
+use refusal::NumberAndPlace;
+use text::Text;
 
 const SPACE: u8 = b' ';
 
@@ -22,294 +24,209 @@ const NEWLINE: u8 = b'\n';
 // ---- parts of a line
 
 // A space and a number in decimal.
-fn put_field(n: usize, out: &mut [u8], at: usize) -> usize
-    requires { at + 21 ≤ length out.old }
-    ensures writes { Writes out.old at (field n) out.new result }
-    ensures upper_bound { result ≤ at + 21 }
+#[tactic(auto, unfolding(crate::specs::Lines::field))]
+fn put_field(n: usize, out: &mut Text)
+    requires { length out.old + 21 ≤ 32768 }
+    ensures writes { out.new ≡ out.old ++ field n }
+    ensures upper_bound { length out.new ≤ length out.old + 21 }
 {
-    let end = text::put_byte(SPACE, out, at);
-    text::put_decimal(n as u64, out, end)
-}
-
-// A space and a byte in decimal.
-fn put_byte_field(n: u8, out: &mut [u8], at: usize) -> usize
-    requires { at + 21 ≤ length out.old }
-    ensures writes { Writes out.old at (field n) out.new result }
-    ensures upper_bound { result ≤ at + 21 }
-{
-    put_field(n as usize, out, at)
+    out.push(SPACE);
+    out.push_decimal(n as u64);
 }
 
 // A space and a number's bits.
-fn put_number(x: f64, out: &mut [u8], at: usize) -> usize
-    requires { at + 17 ≤ length out.old }
-    ensures writes { Writes out.old at (number x) out.new result }
-    ensures value { result ≡ at + 17 }
+#[tactic(auto, unfolding(crate::specs::Lines::number))]
+fn put_number(x: f64, out: &mut Text)
+    requires { length out.old + 17 ≤ 32768 }
+    ensures writes { out.new ≡ out.old ++ number x }
+    ensures value { length out.new ≡ length out.old + 17 }
 {
-    let end = text::put_byte(SPACE, out, at);
-    text::put_hex(little_endian::pattern_of(x), out, end)
+    out.push(SPACE);
+    out.push_hex(little_endian::pattern_of(x));
 }
 
 // Three numbers in decimal.
-fn put_three(x: usize, y: usize, z: usize, out: &mut [u8], at: usize) -> usize
-    requires { at + 63 ≤ length out.old }
-    ensures writes { Writes out.old at (three x y z) out.new result }
-    ensures upper_bound { result ≤ at + 63 }
+#[tactic(auto, unfolding(crate::specs::Lines::three))]
+fn put_three(x: usize, y: usize, z: usize, out: &mut Text)
+    requires { length out.old + 63 ≤ 32768 }
+    ensures writes { out.new ≡ out.old ++ three x y z }
+    ensures upper_bound { length out.new ≤ length out.old + 63 }
 {
-    let first = put_field(x, out, at);
-    let second = put_field(y, out, first);
-    put_field(z, out, second)
+    put_field(x, out);
+    put_field(y, out);
+    put_field(z, out);
 }
 
 // ---- refused, accepted, inertia
 
-pub fn put_refused(number: usize, a: usize, b: usize, out: &mut [u8], at: usize) -> usize
-    requires { at + 71 ≤ length out.old }
-    ensures { Writes out.old at (refused_line number a b) out.new result }
+// A refusal's line: its number and place.
+#[tactic(auto, unfolding(crate::specs::Lines::refused_line))]
+pub fn put_refused(number: usize, a: usize, b: usize, out: &mut Text)
+    requires { length out.old + 71 ≤ 32768 }
+    ensures { out.new ≡ out.old ++ refused_line number a b }
 {
-    let word = text::put_word(b"refused", out, at);
-    let fields = put_three(number, a, b, out, word);
-    text::put_byte(NEWLINE, out, fields)
+    out.push_word(b"refused");
+    put_three(number, a, b, out);
+    out.push(NEWLINE);
 }
 
-pub fn put_accepted(rounds: usize, out: &mut [u8], at: usize) -> usize
-    requires { at + 37 ≤ length out.old }
-    ensures writes { Writes out.old at (accepted_line rounds) out.new result }
-    ensures upper_bound { result ≤ at + 37 }
+// The first line of an accepted call: its rounds.
+pub fn put_accepted(rounds: usize, out: &mut Text)
+    requires { length out.old + 37 ≤ 32768 }
+    ensures writes { out.new ≡ out.old ++ accepted_line rounds }
+    ensures upper_bound { length out.new ≤ length out.old + 37 }
 {
-    let word = text::put_word(b"accepted rounds", out, at);
-    let fields = put_field(rounds, out, word);
-    text::put_byte(NEWLINE, out, fields)
+    out.push_word(b"accepted rounds");
+    put_field(rounds, out);
+    out.push(NEWLINE);
 }
 
-pub fn put_inertia(t: Tally, out: &mut [u8], at: usize) -> usize
-    requires { at + 71 ≤ length out.old }
-    ensures writes { Writes out.old at (inertia_line t) out.new result }
-    ensures upper_bound { result ≤ at + 71 }
+// The counts.
+#[tactic(auto, unfolding(crate::specs::Lines::inertia_line))]
+pub fn put_inertia(t: Tally, out: &mut Text)
+    requires { length out.old + 71 ≤ 32768 }
+    ensures writes { out.new ≡ out.old ++ inertia_line t }
+    ensures upper_bound { length out.new ≤ length out.old + 71 }
 {
-    let word = text::put_word(b"inertia", out, at);
-    let fields = put_three(t.positive, t.negative, t.zero, out, word);
-    text::put_byte(NEWLINE, out, fields)
+    out.push_word(b"inertia");
+    put_three(t.positive, t.negative, t.zero, out);
+    out.push(NEWLINE);
 }
 
 // ---- order
 
 // The order's places.
-fn put_places(order: &[usize], out: &mut [u8], at: usize) -> usize
-    requires { at + 21 * length order.now ≤ length out.old }
-    ensures writes { Writes out.old at (each (order_field order.now)
-        (length order.now)) out.new result }
-    ensures upper_bound { result ≤ at + 21 * length order.now }
+fn put_places(order: &[usize], out: &mut Text)
+    requires { length out.old + 21 * length order.now ≤ 32768 }
+    ensures writes { out.new ≡ out.old ++ each (order_field order.now) (length order.now) }
+    ensures upper_bound { length out.new ≤ length out.old + 21 * length order.now }
 {
-    let mut end = at;
-    for i in 0..order.len() {
-        end = put_field(order[i], out, end);
+    for place in order {
+        put_field(*place, out);
     }
-    end
 }
 
-pub fn put_order(order: &[usize], out: &mut [u8], at: usize) -> usize
-    requires { at + 6 + 21 * length order.now ≤ length out.old }
-    ensures writes { Writes out.old at (order_line order.now) out.new result }
-    ensures upper_bound { result ≤ at + 6 + 21 * length order.now }
+// The order's line.
+#[tactic(auto, unfolding(crate::specs::Lines::order_line))]
+pub fn put_order(order: &[usize], out: &mut Text)
+    requires { length out.old + 6 + 21 * length order.now ≤ 32768 }
+    ensures writes { out.new ≡ out.old ++ order_line order.now }
+    ensures upper_bound { length out.new ≤ length out.old + 6 + 21 * length order.now }
 {
-    let word = text::put_word(b"order", out, at);
-    let places = put_places(order, out, word);
-    text::put_byte(NEWLINE, out, places)
+    out.push_word(b"order");
+    put_places(order, out);
+    out.push(NEWLINE);
 }
 
 // ---- pivots
 
-// At most 5 + 3·21 + 3·17 + 1 bytes.
-fn put_pivot(
-    k: usize,
-    block: u8,
-    d: f64,
-    sub: f64,
-    lift: u8,
-    amount: f64,
-    out: &mut [u8],
-    at: usize,
-) -> usize
-    requires { at + 120 ≤ length out.old }
-    ensures writes { Writes out.old at (pivot_line k block d sub lift amount) out.new result }
-    ensures upper_bound { result ≤ at + 120 }
+// Position k, in at most 5 + 3·21 + 3·17 + 1 bytes.
+fn put_pivot(left: Left, k: usize, out: &mut Text)
+    requires place { k < left.c.ncol }
+    requires room { length out.old + 120 ≤ 32768 }
+    ensures writes { out.new ≡ out.old ++ pivot_of (left_in left.entry) k }
+    ensures upper_bound { length out.new ≤ length out.old + 120 }
 {
-    let word = text::put_word(b"pivot", out, at);
-    let position = put_field(k, out, word);
-    let begins = put_byte_field(block, out, position);
-    let diagonal = put_number(d, out, begins);
-    let below = put_number(sub, out, diagonal);
-    let lifted = put_byte_field(lift, out, below);
-    let added = put_number(amount, out, lifted);
-    text::put_byte(NEWLINE, out, added)
+    out.push_word(b"pivot");
+    put_field(k, out);
+    put_field(usize::from(left.blocks[k]), out);
+    put_number(left.d[k], out);
+    put_number(left.sub[k], out);
+    put_field(usize::from(left.lifts[k]), out);
+    put_number(left.amounts[k], out);
+    out.push(NEWLINE);
 }
 
 // A line for each position.
-pub fn put_pivots(
-    d: &[f64],
-    sub: &[f64],
-    blocks: &[u8],
-    lifts: &[u8],
-    amounts: &[f64],
-    out: &mut [u8],
-    at: usize,
-) -> usize
-    requires pivots_pre { PivotsPre (length d.now) (length sub.now) (length blocks.now) (length lifts.now)
-        (length amounts.now) }
-    requires d_in_bounds { at + 120 * length d.now ≤ length out.old }
-    ensures writes { Writes out.old at (each (pivot_at d.now sub.now
-        blocks.now lifts.now amounts.now) (length d.now))
-        out.new result }
-    ensures upper_bound { result ≤ at + 120 * length d.now }
+pub fn put_pivots(left: Left, out: &mut Text)
+    requires { length out.old + 120 * left.c.ncol ≤ 32768 }
+    ensures writes { out.new ≡ out.old ++ each (pivot_of (left_in left.entry)) left.entry.c.ncol }
+    ensures upper_bound { length out.new ≤ length out.old + 120 * left.entry.c.ncol }
 {
-    let mut end = at;
-    for k in 0..d.len() {
-        end = put_pivot(k, blocks[k], d[k], sub[k], lifts[k], amounts[k], out, end);
+    for k in 0..left.c.ncol {
+        put_pivot(left, k, out);
     }
-    end
 }
 
 // ---- rows
 
 // Row i's numbers.
-fn put_entries(
-    panel: &[f64],
-    nrow: usize,
-    ncol: usize,
-    i: usize,
-    out: &mut [u8],
-    at: usize,
-) -> usize
-    requires entries_pre { EntriesPre nrow ncol i (length panel.now) }
-    requires ncol_in_bounds { at + 17 * ncol ≤ length out.old }
-    ensures writes { Writes out.old at (each (entry_field nrow panel.now i) ncol)
-        out.new result }
-    ensures value { result ≡ at + 17 * ncol }
+fn put_entries(left: Left, i: usize, out: &mut Text)
+    requires row { i < left.c.nrow }
+    requires room { length out.old + 17 * left.c.ncol ≤ 32768 }
+    ensures writes { out.new ≡ out.old ++ each (entry_field left.entry.c.nrow left.entry.panel.now i)
+        left.entry.c.ncol }
+    ensures value { length out.new ≡ length out.old + 17 * left.entry.c.ncol }
 {
-    let mut end = at;
-    for j in 0..ncol {
-        let x = grid::get(panel, nrow, i, j);
-        end = put_number(x, out, end);
+    for j in 0..left.c.ncol {
+        put_number(grid::get(left.panel, left.c.nrow, i, j), out);
     }
-    end
 }
 
 // A tail row's mark.
-fn put_mark(marks: &[u8], ncol: usize, i: usize, out: &mut [u8], at: usize) -> usize
-    requires i_bound { i < ncol + length marks.now }
-    requires at_in_bounds { at + 21 ≤ length out.old }
-    ensures writes { Writes out.old at (mark_field ncol marks.now i) out.new result }
-    ensures upper_bound { result ≤ at + 21 }
+#[tactic(auto, unfolding(crate::specs::Lines::mark_field))]
+fn put_mark(left: Left, i: usize, out: &mut Text)
+    requires row { i < left.c.nrow }
+    requires room { length out.old + 21 ≤ 32768 }
+    ensures writes { out.new ≡ out.old ++ mark_field left.entry.c.ncol left.entry.marks.now i }
+    ensures upper_bound { length out.new ≤ length out.old + 21 }
 {
-    if i < ncol {
-        return at;
+    if i >= left.c.ncol {
+        put_field(usize::from(left.marks[i - left.c.ncol]), out);
     }
-    put_byte_field(marks[i - ncol], out, at)
 }
 
-// At most 3 + 21 + 16·17 + 21 + 1 bytes.
-fn put_row(
-    panel: &[f64],
-    marks: &[u8],
-    nrow: usize,
-    ncol: usize,
-    i: usize,
-    out: &mut [u8],
-    at: usize,
-) -> usize
-    requires rows_pre { RowsPre nrow ncol (length panel.now) (length marks.now) }
-    requires i_lt_nrow { i < nrow }
-    requires at_in_bounds { at + 318 ≤ length out.old }
-    ensures writes { Writes out.old at (row_line nrow ncol panel.now marks.now i)
-        out.new result }
-    ensures upper_bound { result ≤ at + 318 }
+// Row i, in at most 3 + 21 + 16·17 + 21 + 1 bytes.
+#[tactic(auto, unfolding(crate::specs::Lines::row_line))]
+fn put_row(left: Left, i: usize, out: &mut Text)
+    requires row { i < left.c.nrow }
+    requires room { length out.old + 318 ≤ 32768 }
+    ensures writes { out.new ≡ out.old ++ row_of left.entry.c (left_in left.entry) i }
+    ensures upper_bound { length out.new ≤ length out.old + 318 }
 {
-    let word = text::put_word(b"row", out, at);
-    let place = put_field(i, out, word);
-    let entries = put_entries(panel, nrow, ncol, i, out, place);
-    let mark = put_mark(marks, ncol, i, out, entries);
-    text::put_byte(NEWLINE, out, mark)
+    out.push_word(b"row");
+    put_field(i, out);
+    put_entries(left, i, out);
+    put_mark(left, i, out);
+    out.push(NEWLINE);
 }
 
 // A line for each row.
-pub fn put_rows(
-    panel: &[f64],
-    marks: &[u8],
-    nrow: usize,
-    ncol: usize,
-    out: &mut [u8],
-    at: usize,
-) -> usize
-    requires rows_pre { RowsPre nrow ncol (length panel.now) (length marks.now) }
-    requires nrow_in_bounds { at + 318 * nrow ≤ length out.old }
-    ensures writes { Writes out.old at (each (row_line nrow ncol panel.now marks.now)
-        nrow) out.new result }
-    ensures upper_bound { result ≤ at + 318 * nrow }
+pub fn put_rows(left: Left, out: &mut Text)
+    requires { length out.old + 318 * left.c.nrow ≤ 32768 }
+    ensures writes { out.new ≡ out.old ++ each (row_of left.entry.c (left_in left.entry)) left.entry.c.nrow }
+    ensures upper_bound { length out.new ≤ length out.old + 318 * left.entry.c.nrow }
 {
-    let mut end = at;
-    for i in 0..nrow {
-        end = put_row(panel, marks, nrow, ncol, i, out, end);
+    for i in 0..left.c.nrow {
+        put_row(left, i, out);
     }
-    end
 }
 
 // ---- all lines of a factor call's answer
 
-// The lines of an accepted call. Nothing of its working buffer is printed.
-fn put_factor(
-    c: Settings,
-    report: Report,
-    panel: &[f64],
-    d: &[f64],
-    sub: &[f64],
-    blocks: &[u8],
-    lifts: &[u8],
-    amounts: &[f64],
-    order: &[usize],
-    marks: &[u8],
-    out: &mut [u8],
-) -> usize
-    requires { LinesPre c (length panel.now) (length d.now) (length sub.now) (length blocks.now)
-        (length lifts.now) (length amounts.now) (length order.now) (length marks.now) (length out.old) }
-    ensures { Writes out.old 0 (accepted_lines c report (buffers_of panel.now
-        d.now sub.now blocks.now lifts.now amounts.now
-        order.now marks.now [])) out.new result }
+// The lines of an accepted call, in fewer than 24,000 bytes.
+#[tactic(auto, unfolding(crate::specs::Lines::accepted_lines))]
+fn put_factor(report: Report, left: Left, out: &mut Text)
+    requires { length out.old + 24000 ≤ 32768 }
+    ensures { out.new ≡ out.old ++ accepted_lines left.entry.c report (left_in left.entry) }
 {
-    let accepted = put_accepted(report.rounds, out, 0);
-    let ordered = put_order(order, out, accepted);
-    let pivots = put_pivots(d, sub, blocks, lifts, amounts, out, ordered);
-    let inertia = put_inertia(report.inertia, out, pivots);
-    put_rows(panel, marks, c.nrow, c.ncol, out, inertia)
+    put_accepted(report.rounds, out);
+    put_order(left.order, out);
+    put_pivots(left, out);
+    put_inertia(report.inertia, out);
+    put_rows(left, out);
 }
 
 // What a factor call answered, with what it left.
-pub fn put_said(
-    c: Settings,
-    answer: Factored,
-    panel: &[f64],
-    d: &[f64],
-    sub: &[f64],
-    blocks: &[u8],
-    lifts: &[u8],
-    amounts: &[f64],
-    order: &[usize],
-    marks: &[u8],
-    out: &mut [u8],
-) -> usize
-    requires { LinesPre c (length panel.now) (length d.now) (length sub.now) (length blocks.now)
-        (length lifts.now) (length amounts.now) (length order.now) (length marks.now) (length out.old) }
-    ensures { Writes out.old 0 (said_lines (factored_says answer) c (buffers_of panel.now
-        d.now sub.now blocks.now lifts.now amounts.now
-        order.now marks.now [])) out.new result }
+pub fn put_said(answer: Result<Report, Refusal>, left: Left, out: &mut Text)
+    requires { length out.old + 24000 ≤ 32768 }
+    ensures { out.new ≡ out.old ++ said_lines (factored_says answer) left.entry.c (left_in left.entry) }
 {
     match answer {
-        Factored::Accepted(report) => put_factor(
-            c, report, panel, d, sub, blocks, lifts, amounts, order, marks, out,
-        ),
-        Factored::Refused(why) => {
-            let n = refusal::numbered(why);
-            put_refused(n.number, n.a, n.b, out, 0)
+        Ok(report) => put_factor(report, left, out),
+        Err(why) => {
+            let n = NumberAndPlace::from(why);
+            put_refused(n.number, n.a, n.b, out);
         }
     }
 }

@@ -3,38 +3,45 @@
 // not-a-number is the pattern 7FF8000000000000, and every pattern of one is read as a not-a-number.
 #![tactic(auto)]
 
-ghost use Rattle.std.specs.Prelude.{◌≡◌, ◌+◌, ◌*◌, ◌<◌, ◌≤◌, length};
+ghost use Rattle.std.specs.Prelude.{◌≡◌, ◌+◌, ◌*◌, ◌≤◌, length, take, drop};
 ghost use Rattle.std.specs.Float.{binary64};
 ghost use Rattle.std.specs.Float.Ieee.{of_bits, to_bits};
 ghost use Rattle.little_endian.specs.LittleEndian.{le16, le32, le64, numbers_of};
 
 // ---- whole numbers
 
-fn byte_value(byte: u8) -> u64
-    ensures { (result ≡ byte) × (result < 0x100) }
+// The N bytes from place at on.
+fn bytes_at<const N: usize>(s: &[u8], at: usize) -> [u8; N]
+    requires { at + N ≤ length s.now }
+    ensures { result ≡ take N (drop at s.now) }
 {
-    byte as u64
+    let mut bytes = [0; N];
+    bytes.copy_from_slice(&s[at..at + N]);
+    bytes
 }
 
-pub fn u16_at(s: &[u8], at: usize) -> u64
+// The u16 in the two bytes from place at on.
+pub fn u16_at(s: &[u8], at: usize) -> u16
     requires { at + 2 ≤ length s.now }
-    ensures { (result ≡ le16 s.now at) × (result < 0x1_0000) }
+    ensures { result ≡ le16 s.now at }
 {
-    byte_value(s[at]) + 0x100 * byte_value(s[at + 1])
+    u16::from_le_bytes(bytes_at(s, at))
 }
 
-pub fn u32_at(s: &[u8], at: usize) -> u64
+// The u32 in the four.
+pub fn u32_at(s: &[u8], at: usize) -> u32
     requires { at + 4 ≤ length s.now }
-    ensures { (result ≡ le32 s.now at) × (result < 0x1_0000_0000) }
+    ensures { result ≡ le32 s.now at }
 {
-    u16_at(s, at) + 0x1_0000 * u16_at(s, at + 2)
+    u32::from_le_bytes(bytes_at(s, at))
 }
 
+// The u64 in the eight.
 pub fn u64_at(s: &[u8], at: usize) -> u64
     requires { at + 8 ≤ length s.now }
     ensures { result ≡ le64 s.now at }
 {
-    u32_at(s, at) + 0x1_0000_0000 * u32_at(s, at + 4)
+    u64::from_le_bytes(bytes_at(s, at))
 }
 
 // ---- numbers and their bits
@@ -44,21 +51,22 @@ pub fn number_of(bits: u64) -> f64
     ensures { result ≡ of_bits binary64 bits }
 {
     if bits % 0x8000_0000_0000_0000 > 0x7ff0_0000_0000_0000 {
-        return 0.0 / 0.0;
+        return f64::NAN;
     }
     f64::from_bits(bits)
 }
 
-// The pattern of a number.
+// The pattern of a number. `f64::to_bits` is not to be asked for a not-a-number's.
 pub fn pattern_of(x: f64) -> u64
     ensures { result ≡ to_bits binary64 x }
 {
-    if x != x {
+    if x.is_nan() {
         return 0x7ff8_0000_0000_0000;
     }
-    f64::to_bits(x)
+    x.to_bits()
 }
 
+// The number whose pattern stands in the eight.
 pub fn f64_at(s: &[u8], at: usize) -> f64
     requires { at + 8 ≤ length s.now }
     ensures { result ≡ of_bits binary64 (le64 s.now at) }
@@ -72,7 +80,7 @@ pub fn numbers_at(s: &[u8], at: usize, out: &mut [f64])
     requires { at + 8 * length out.old ≤ length s.now }
     ensures { out.new ≡ numbers_of s.now at (length out.old) }
 {
-    for i in 0..out.len() {
-        out[i] = f64_at(s, at + 8 * i);
+    for (i, x) in out.iter_mut().enumerate() {
+        *x = f64_at(s, at + 8 * i);
     }
 }

@@ -8,6 +8,7 @@ use native.Mathlib.Omega.{arith}
 use borrow.Author.Tests.{le-leb, ne_eqb, eqb-true, ltb-true, ltb-false}
 use lib.Dec.{ltb, eqb}
 use lib.ListN.{length}
+use Rattle.std.specs.Prelude.{Ok, Err}
 use Rattle.model.specs.Matrix.{Mat, view, head_of, naturals, exchanged_place, swapped, tabulate}
 use Rattle.model.specs.Step.{Pivots, is_block}
 use Rattle.model.specs.Kept.{Paired, Recorded}
@@ -17,14 +18,12 @@ use Rattle.model.specs.Head.{State, last_of, noted, Progress, stopped, going, pa
 use Rattle.model.specs.Inertia.{byte_sound, bytes_from, check_bytes}
 use Rattle.model.specs.Factor.{pivoting_of, Outcome, start, head_run_of, HeadAnswer, fails, stands, judged, judged_run, head_answer_of, entry_check, result_check}
 use Rattle.model.specs.Factor.{after_head, after_check, factor_of}
-use Rattle.model.specs.Answer.{Said, accepted, turned_away}
+use Rattle.model.specs.Answer.{Said, accepted, turned_away, Check}
 use Rattle.model.specs.Independence.{Call, PastEntry, outcome_of}
 use Rattle.model.specs.declared.Pivoting.{Pivoting}
 use Rattle.model.specs.declared.Pivot.{Pivot}
 use Rattle.model.specs.declared.Report.{Report}
 use Rattle.model.specs.declared.Refusal.{Refusal}
-use Rattle.model.specs.declared.Check.{Check}
-use Rattle.model.specs.declared.Check.TheVariants.{Sound, Refused}
 use Rattle.model.proofs.Tabulated.{length-tabulate_from, get_d_tabulate}
 use Rattle.model.proofs.Cases.{test}
 use Rattle.model.proofs.Exchanged.{place_twice, place-past}
@@ -146,14 +145,14 @@ accepted-is x r e = by-check (entry_check x.settings x.input x.lent) refl
     answer_by : Check → HeadAnswer → Said Report
     answer_by c h = (after_check c (after_head h x.settings (view x.settings.nrow x.input) x.lent) x.lent).answer
 
-    by-head : entry_check x.settings x.input x.lent ≡ Sound → (h : HeadAnswer) → head_of_call ≡ h → Accepted x
+    by-head : entry_check x.settings x.input x.lent ≡ Ok tt → (h : HeadAnswer) → head_of_call ≡ h → Accepted x
     by-head c (fails why) h =
-        absurd (refused-not why r (outcome_of x).answer (ap (λ (k : Check). answer_by k head_of_call) c ∙ ap (λ (k : HeadAnswer). answer_by Sound k) h) e)
+        absurd (refused-not why r (outcome_of x).answer (ap (λ (k : Check). answer_by k head_of_call) c ∙ ap (λ (k : HeadAnswer). answer_by (Ok tt) k) h) e)
     by-head c (stands s ps) h = record { state = s; panels = ps; entry = c; head = h }
 
     by-check : (c : Check) → entry_check x.settings x.input x.lent ≡ c → Accepted x
-    by-check Sound h = by-head h head_of_call refl
-    by-check (Refused why) h = absurd (refused-not why r (outcome_of x).answer (ap (λ (k : Check). answer_by k head_of_call) h) e)
+    by-check (Ok u) h = by-head h head_of_call refl
+    by-check (Err why) h = absurd (refused-not why r (outcome_of x).answer (ap (λ (k : Check). answer_by k head_of_call) h) e)
 
 -- the run of a head that stands was done
 pub stands-kept : (ncol : ℕ) (g : Run) (s : State) (ps : List Panel) → AtEnd ncol g → judged_run ncol g ≡ stands s ps → Kept ncol ncol s.pivots
@@ -161,8 +160,8 @@ stands-kept ncol (head.refused r) s ps w e = absurd (let z : ◌≡◌ {A = ℕ}
 stands-kept ncol (done t qs) s ps w e = by-check (result_check ncol t.pivots.diagonals t.a ncol 0) e
   where
     by-check : (c : Check) → judged c t qs ≡ stands s ps → Kept ncol ncol s.pivots
-    by-check Sound h = let z : t ≡ s = cc in subst (λ (u : State). Kept ncol ncol u.pivots) z w
-    by-check (Refused why) h = absurd (let z : ◌≡◌ {A = ℕ} 0 1 = cc in omega arith)
+    by-check (Ok u) h = let z : t ≡ s = cc in subst (λ (u : State). Kept ncol ncol u.pivots) z w
+    by-check (Err why) h = absurd (let z : ◌≡◌ {A = ℕ} 0 1 = cc in omega arith)
 
 -- its order and block bytes at the end
 pub accepted-kept : (x : Call) (w : Accepted x) → Kept x.settings.ncol x.settings.ncol w.state.pivots
@@ -229,7 +228,7 @@ sound-at f n k w h =
     (λ t. rw t))
 
 -- so are all of them
-pub bytes-sound : (f : ℕ → ℕ) (n m k : ℕ) → k + m ≤ n → Paired n f → bytes_from f n m k ≡ Sound
+pub bytes-sound : (f : ℕ → ℕ) (n m k : ℕ) → k + m ≤ n → Paired n f → bytes_from f n m k ≡ Ok tt
 unfolding bytes_from
 bytes-sound f n zero k h w = refl
 bytes-sound f n (suc m) k h w = rw (sound-at f n k w (omega arith)) (bytes-sound f n m (k + 1) (omega arith) w)
@@ -244,7 +243,7 @@ tabulated-paired n f w = record {
 }
 
 -- neither inertia nor an update answers 16 to what an accepted call emits
-pub accepted-bytes : (x : Call) → Accepted x → check_bytes (outcome_of x).buffers.blocks ≡ Sound
+pub accepted-bytes : (x : Call) → Accepted x → check_bytes (outcome_of x).buffers.blocks ≡ Ok tt
 accepted-bytes x w =
     let n = x.settings.ncol in
     let f = w.state.pivots.diagonals.blocks in

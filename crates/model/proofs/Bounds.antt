@@ -9,11 +9,12 @@ use borrow.Author.Tests.{eq-eqb, ltb-false}
 use lib.Dec.{ltb, eqb}
 use lib.Count.{count_trailing_zeros}
 use lib.Ieee.{Float, nan, inf, fin, up, lt, le, eq, is_nan, of_bits, of_fields, odd, add, mul, div, sum, round, units, size, span, climb}
+use Rattle.std.specs.Prelude.{Option, Some, None, Result, Ok, Err}
 use Rattle.model.specs.Scalar.{◌⊕◌, ◌⊗◌, ◌⊘◌, zero_f, square_of, magnitude_of, maximum_of}
 use Rattle.model.specs.Root.{sqrt_of, alpha, round_root, isqrt, whole_root}
 use Rattle.model.specs.Matrix.{Row, Mat, exchanged}
 use Rattle.model.specs.Choice.{greatest, none_yet, column_greatest, row_greatest, choose_of}
-use Rattle.model.specs.Head.{settled_one, raised_from, settled_two, bar_of, lift_step_of, growth_floor_of, Tried, refused_by, took, after_one, after_two, try_block}
+use Rattle.model.specs.Head.{settled_one, raised_from, unlifted, settled_two, bar_of, lift_step_of, growth_floor_of, Tried, refused_by, took, after_one, after_two, try_block}
 use Rattle.model.specs.Head.{try_by, try_of, last_of}
 use Rattle.model.specs.Step.{block_of, is_block}
 use Rattle.model.specs.declared.Mode.{Mode}
@@ -25,9 +26,9 @@ use Rattle.model.specs.declared.Greatest.{Greatest}
 use Rattle.model.specs.declared.Choice.{Choice}
 use Rattle.model.specs.declared.Choice.TheVariants as choice
 use Rattle.model.specs.declared.OneSettled.{OneSettled}
-use Rattle.model.specs.declared.OneSettled.TheVariants.{Zero, Number}
 use Rattle.model.specs.declared.TwoSettled.{TwoSettled}
-use Rattle.model.specs.declared.TwoSettled.TheVariants.{Low, OutOfRounds, Numbers}
+use Rattle.model.specs.declared.Unfit.{Unfit}
+use Rattle.model.specs.declared.Unfit.TheVariants.{Low, OutOfRounds}
 use Rattle.model.specs.declared.Pivot.{Pivot}
 use Rattle.model.proofs.Cases.{test}
 
@@ -145,12 +146,11 @@ Good ke limit k (refused_by r) = Unit {0}
 Good ke limit k (took v a m) = GoodPivot ke limit k v
 
 -- a block's rounds
-abbrev pub FewRounds : ℕ → TwoSettled → Type 0
-FewRounds limit Low = Unit {0}
-FewRounds limit OutOfRounds = Unit {0}
-FewRounds limit (Numbers b l x r) = r ≤ limit
+abbrev pub FewRounds : ℕ → Result TwoSettled Unfit → Type 0
+FewRounds limit (Err e) = Unit {0}
+FewRounds limit (Ok s) = s.rounds ≤ limit
 
-either-few : (limit : ℕ) (t : Bool) (a b : TwoSettled) → FewRounds limit a → FewRounds limit b → FewRounds limit (cond t a b)
+either-few : (limit : ℕ) (t : Bool) (a b : Result TwoSettled Unfit) → FewRounds limit a → FewRounds limit b → FewRounds limit (cond t a b)
 either-few limit true a b p q = p
 either-few limit false a b p q = q
 
@@ -159,28 +159,28 @@ unfolding raised_from
 raised-few limit b bar step zero r total h = tt
 raised-few limit b bar step (suc left) r total h =
     let tried = block_of (b.d11 ⊕ total) b.d21 (b.d22 ⊕ total) in
-    either-few limit (lt (magnitude_of tried.det) bar) (raised_from b bar step left (r + 1) (total ⊕ step)) (Numbers tried 1 total r)
+    either-few limit (lt (magnitude_of tried.det) bar) (raised_from b bar step left (r + 1) (total ⊕ step)) (Ok (record { block = tried; lift = Some total; rounds = r }))
     (raised-few limit b bar step left (r + 1) (total ⊕ step) (omega arith)) (omega arith)
 
 pub settled-few : (mode : Mode) (limit : ℕ) (b : Block) → FewRounds limit (settled_two mode limit b)
 unfolding settled_two
-settled-few Fail limit b = either-few limit (le (magnitude_of b.det) (growth_floor_of b)) Low (Numbers b 0 zero_f 0) tt (omega arith)
+settled-few Fail limit b = either-few limit (le (magnitude_of b.det) (growth_floor_of b)) (Err Low) (Ok (unlifted b)) tt (omega arith)
 settled-few (Lift floor) limit b =
     either-few limit (lt (magnitude_of b.det) (bar_of floor b)) (raised_from b (bar_of floor b) (lift_step_of floor b) limit 1 (lift_step_of floor b))
-    (Numbers b 0 zero_f 0)
+    (Ok (unlifted b))
     (raised-few limit b (bar_of floor b) (lift_step_of floor b) limit 1 (lift_step_of floor b) (omega arith)) (omega arith)
 
 module _ (ke : ℕ) (a m : Mat) (limit k : ℕ) where
-  one-good : (kp : ℕ) (s : OneSettled) → k ≤ kp → kp < ke → Good ke limit k (after_one ke a m k kp s)
+  one-good : (kp : ℕ) (s : Option OneSettled) → k ≤ kp → kp < ke → Good ke limit k (after_one ke a m k kp s)
   unfolding last_of
-  one-good kp Zero l r = tt
-  one-good kp (Number d b x) l r = record { last = omega arith; from = l; row = r; ahead = omega arith; first = omega arith; few = omega arith }
+  one-good kp None l r = tt
+  one-good kp (Some s) l r = record { last = omega arith; from = l; row = r; ahead = omega arith; first = omega arith; few = omega arith }
 
-  two_good : (p kp : ℕ) (s : TwoSettled) → FewRounds limit s → k < kp → kp < ke → k ≤ p → p < ke → Good ke limit k (after_two ke a m k p kp s)
+  two_good : (p kp : ℕ) (s : Result TwoSettled Unfit) → FewRounds limit s → k < kp → kp < ke → k ≤ p → p < ke → Good ke limit k (after_two ke a m k p kp s)
   unfolding last_of
-  two_good p kp Low f l r g h = tt
-  two_good p kp OutOfRounds f l r g h = tt
-  two_good p kp (Numbers b y x n) f l r g h = record { last = omega arith; from = omega arith; row = r; ahead = g; first = h; few = f }
+  two_good p kp (Err Low) f l r g h = tt
+  two_good p kp (Err OutOfRounds) f l r g h = tt
+  two_good p kp (Ok s) f l r g h = record { last = omega arith; from = omega arith; row = r; ahead = g; first = h; few = f }
 
   block-good : (mode : Mode) (p kp : ℕ) → k < kp → kp < ke → k ≤ p → p < ke → Good ke limit k (try_block ke a m mode limit k p kp)
   block-good mode p kp = two_good p kp (settled_two mode limit _) (settled-few mode limit _)

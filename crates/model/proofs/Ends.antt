@@ -7,6 +7,7 @@ use native.Mathlib.Omega.{arith}
 use borrow.Author.Tests.{ltb-true}
 use lib.Dec.{ltb}
 use lib.Ieee.{Float, lt, le}
+use Rattle.std.specs.Prelude.{Option, Some, None, Result, Ok, Err}
 use Rattle.model.specs.Scalar.{◌⊕◌, magnitude_of}
 use Rattle.model.specs.Matrix.{Mat, view, head_of, exchanged}
 use Rattle.model.specs.Choice.{choose_of}
@@ -15,7 +16,7 @@ use Rattle.model.specs.Panel.{Panel}
 use Rattle.model.specs.Head as head
 use Rattle.model.specs.Head.{State, settled_one, raised_from, settled_two, growth_floor_of, bar_of, lift_step_of, Tried, refused_by, took, after_one, after_two}
 use Rattle.model.specs.Head.{try_block, try_by, try_of, Progress, stopped, going, after, panel_of, Run, done, closed, passed, with_panel, continued, panels_of}
-use Rattle.model.specs.Answer.{numbered}
+use Rattle.model.specs.Answer.{numbered, Check}
 use Rattle.model.specs.Factor.{pivoting_of, start, head_run_of, HeadAnswer, fails, stands, judged, judged_run, head_answer_of, column_sound, result_check}
 use Rattle.model.specs.Factor.{after_head, factor_of}
 use Rattle.model.specs.Ends.{run_refusals, among, RunRefusal, Ends, EndsInItsMode}
@@ -26,21 +27,19 @@ use Rattle.model.specs.declared.Block.{Block}
 use Rattle.model.specs.declared.Choice.{Choice}
 use Rattle.model.specs.declared.Choice.TheVariants as choice
 use Rattle.model.specs.declared.OneSettled.{OneSettled}
-use Rattle.model.specs.declared.OneSettled.TheVariants.{Zero, Number}
 use Rattle.model.specs.declared.TwoSettled.{TwoSettled}
-use Rattle.model.specs.declared.TwoSettled.TheVariants.{Low, OutOfRounds, Numbers}
+use Rattle.model.specs.declared.Unfit.{Unfit}
+use Rattle.model.specs.declared.Unfit.TheVariants.{Low, OutOfRounds}
 use Rattle.model.specs.declared.Refusal.{Refusal}
-use Rattle.model.specs.declared.Check.{Check}
-use Rattle.model.specs.declared.Check.TheVariants.{Sound, Refused}
 use Rattle.model.proofs.Cases.{test}
 
 -- ---- what a mode makes of a chosen pivot
 
 -- Lift takes every 1x1
-abbrev OneEnds : Mode → OneSettled → Type 0
+abbrev OneEnds : Mode → Option OneSettled → Type 0
 OneEnds Fail s = Unit {0}
-OneEnds (Lift floor) Zero = ⊥
-OneEnds (Lift floor) (Number d b x) = Unit {0}
+OneEnds (Lift floor) None = ⊥
+OneEnds (Lift floor) (Some s) = Unit {0}
 
 one-ends : (mode : Mode) (d : Float) → OneEnds mode (settled_one mode d)
 unfolding settled_one
@@ -48,13 +47,13 @@ one-ends Fail d = tt
 one-ends (Lift floor) d = test (lt (magnitude_of d) floor) (λ t. rw t tt) (λ t. rw t tt)
 
 -- Fail counts no rounds, and Lift has no block that is too low
-abbrev TwoEnds : Mode → TwoSettled → Type 0
-TwoEnds Fail Low = Unit {0}
-TwoEnds Fail OutOfRounds = ⊥
-TwoEnds Fail (Numbers b l x r) = Unit {0}
-TwoEnds (Lift floor) Low = ⊥
-TwoEnds (Lift floor) OutOfRounds = Unit {0}
-TwoEnds (Lift floor) (Numbers b l x r) = Unit {0}
+abbrev TwoEnds : Mode → Result TwoSettled Unfit → Type 0
+TwoEnds Fail (Err Low) = Unit {0}
+TwoEnds Fail (Err OutOfRounds) = ⊥
+TwoEnds Fail (Ok s) = Unit {0}
+TwoEnds (Lift floor) (Err Low) = ⊥
+TwoEnds (Lift floor) (Err OutOfRounds) = Unit {0}
+TwoEnds (Lift floor) (Ok s) = Unit {0}
 
 raised-ends : (floor : Float) (b : Block) (bar step : Float) (left r : ℕ) (sum : Float) → TwoEnds (Lift floor) (raised_from b bar step left r sum)
 unfolding raised_from
@@ -81,22 +80,22 @@ module _ (ncol : ℕ) where
   TriedEnds mode (took v a m) = Unit {0}
 
   module _ (ke : ℕ) (a m : Mat) (k : ℕ) (h : k < ncol) where
-    after_one_lem : (mode : Mode) (kp : ℕ) (s : OneSettled) → OneEnds mode s → TriedEnds mode (after_one ke a m k kp s)
+    after_one_lem : (mode : Mode) (kp : ℕ) (s : Option OneSettled) → OneEnds mode s → TriedEnds mode (after_one ke a m k kp s)
     unfolding among
-    after_one_lem Fail kp Zero w = record { listed = refl; column = h; alone = refl }
-    after_one_lem (Lift floor) kp Zero w = absurd w
-    after_one_lem mode kp (Number d b x) w = tt
+    after_one_lem Fail kp None w = record { listed = refl; column = h; alone = refl }
+    after_one_lem (Lift floor) kp None w = absurd w
+    after_one_lem mode kp (Some s) w = tt
 
     try_one : (mode : Mode) (kp : ℕ) (d : Float) → TriedEnds mode (after_one ke a m k kp (settled_one mode d))
     try_one mode kp d = after_one_lem mode kp (settled_one mode d) (one-ends mode d)
 
-    after_two_lem : (mode : Mode) (p kp : ℕ) (s : TwoSettled) → TwoEnds mode s → TriedEnds mode (after_two ke a m k p kp s)
+    after_two_lem : (mode : Mode) (p kp : ℕ) (s : Result TwoSettled Unfit) → TwoEnds mode s → TriedEnds mode (after_two ke a m k p kp s)
     unfolding among
-    after_two_lem Fail p kp Low w = record { listed = refl; column = h; alone = refl }
-    after_two_lem (Lift floor) p kp Low w = absurd w
-    after_two_lem Fail p kp OutOfRounds w = absurd w
-    after_two_lem (Lift floor) p kp OutOfRounds w = record { listed = refl; column = h; alone = refl }
-    after_two_lem mode p kp (Numbers b l x r) w = tt
+    after_two_lem Fail p kp (Err Low) w = record { listed = refl; column = h; alone = refl }
+    after_two_lem (Lift floor) p kp (Err Low) w = absurd w
+    after_two_lem Fail p kp (Err OutOfRounds) w = absurd w
+    after_two_lem (Lift floor) p kp (Err OutOfRounds) w = record { listed = refl; column = h; alone = refl }
+    after_two_lem mode p kp (Ok s) w = tt
 
     try-block : (mode : Mode) (limit p kp : ℕ) → TriedEnds mode (try_block ke a m mode limit k p kp)
     try-block mode limit p kp = after_two_lem mode p kp (settled_two mode limit _) (two_ends mode limit _)
@@ -161,8 +160,8 @@ module _ (ncol : ℕ) where
   -- ---- the look at the result
 
   abbrev CheckEnds : Mode → Check → Type 0
-  CheckEnds mode Sound = Unit {0}
-  CheckEnds mode (Refused r) = Stops mode r
+  CheckEnds mode (Ok u) = Unit {0}
+  CheckEnds mode (Err r) = Stops mode r
 
   nine : (mode : Mode) → among 9 (run_refusals mode) ≡ true
   unfolding among
@@ -181,8 +180,8 @@ module _ (ncol : ℕ) where
   HeadEnds mode (stands s ps) = Unit {0}
 
   judged-ends : (mode : Mode) (c : Check) (s : State) (ps : List Panel) → CheckEnds mode c → HeadEnds mode (judged c s ps)
-  judged-ends mode Sound s ps w = tt
-  judged-ends mode (Refused r) s ps w = w
+  judged-ends mode (Ok u) s ps w = tt
+  judged-ends mode (Err r) s ps w = w
 
   run_ends : (mode : Mode) (r : Run) → RunEnds mode r → HeadEnds mode (judged_run ncol r)
   run_ends mode (head.refused r) w = w

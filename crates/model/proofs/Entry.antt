@@ -8,36 +8,29 @@ use borrow.Author.Tests.{eqb-true, leb-true}
 use lib.Dec.{leb}
 use lib.ListN.{length}
 use lib.Ieee.{Float}
+use Rattle.std.specs.Prelude.{Ok, Err}
 use Rattle.model.specs.Sizes.{most_columns, most_rows, widest_panel}
 use Rattle.model.specs.Matrix.{view}
 use Rattle.model.specs.Factor.{pivoting_of, Buffers, shape_sound, work_length, lengths_of, lengths_sound, mode_check, columns_check, settings_check, entry_check}
 use Rattle.model.specs.Factor.{head_answer_of, after_head, factor_of}
-use Rattle.model.specs.Answer.{or_else, refuse_if}
+use Rattle.model.specs.Answer.{or_else, refuse_if, Check}
 use Rattle.model.specs.declared.Settings.{Settings}
 use Rattle.model.specs.declared.Refusal.{Refusal}
 use Rattle.model.specs.declared.Refusal.TheVariants.{Shape, Width, Length}
-use Rattle.model.specs.declared.Check.{Check}
-use Rattle.model.specs.declared.Check.TheVariants.{Sound, Refused}
 use Rattle.model.proofs.Cases.{and_left, and_right}
 
 -- the first of two checks, and the second, where both pass
-pub first-sound : (a b : Check) → or_else a b ≡ Sound → a ≡ Sound
-first-sound Sound b h = refl
-first-sound (Refused r) b h = h
+pub first-sound : (a b : Check) → or_else a b ≡ Ok tt → a ≡ Ok tt
+first-sound (Ok u) b h = refl
+first-sound (Err r) b h = h
 
-pub second-sound : (a b : Check) → or_else a b ≡ Sound → b ≡ Sound
-second-sound Sound b h = h
-second-sound (Refused r) b h = absurd (never h)
-  where
-    never : Refused r ≡ Sound → ⊥
-    never e = let w : ◌≡◌ {A = ℕ} 0 1 = cc in omega arith
+pub second-sound : (a b : Check) → or_else a b ≡ Ok tt → b ≡ Ok tt
+second-sound (Ok u) b h = h
+second-sound (Err r) b h = cc
 
-pub not-refused : (t : Bool) (r : Refusal) → refuse_if (not t) r ≡ Sound → t ≡ true
+pub not-refused : (t : Bool) (r : Refusal) → refuse_if (not t) r ≡ Ok tt → t ≡ true
 not-refused true r h = refl
-not-refused false r h = absurd (never h)
-  where
-    never : Refused r ≡ Sound → ⊥
-    never e = let w : ◌≡◌ {A = ℕ} 0 1 = cc in omega arith
+not-refused false r h = cc
 
 -- every buffer has its stated length
 pub record Lengths (c : Settings) (xs : List Float) (b : Buffers) : Type 0 where
@@ -76,10 +69,10 @@ pub record Passed (c : Settings) (input : List Float) (b : Buffers) : Type 0 whe
   pub some : 1 ≤ c.nb
   pub narrow : c.nb ≤ widest_panel
   pub lengths : Lengths c input b
-  pub mode : mode_check c.mode c.limit ≡ Sound
-  pub finite : columns_check (view c.nrow input) c.nrow c.ncol 0 ≡ Sound
+  pub mode : mode_check c.mode c.limit ≡ Ok tt
+  pub finite : columns_check (view c.nrow input) c.nrow c.ncol 0 ≡ Ok tt
 
-pub passed : (c : Settings) (input : List Float) (b : Buffers) → entry_check c input b ≡ Sound → Passed c input b
+pub passed : (c : Settings) (input : List Float) (b : Buffers) → entry_check c input b ≡ Ok tt → Passed c input b
 unfolding entry_check settings_check
 passed c input b h =
     let shape : shape_sound c.ncol c.nrow ≡ true = not-refused (shape_sound c.ncol c.nrow) Shape (search (first-sound, second-sound)) in
@@ -96,7 +89,7 @@ passed c input b h =
     }
 
 -- past the entry checks the head decides
-pub past-entry : (c : Settings) (input : List Float) (b : Buffers) → entry_check c input b ≡ Sound
+pub past-entry : (c : Settings) (input : List Float) (b : Buffers) → entry_check c input b ≡ Ok tt
     → factor_of c input b ≡ after_head (head_answer_of (pivoting_of c) c.ncol c.nb (view c.nrow input)) c (view c.nrow input) b
 unfolding factor_of
 past-entry c input b h = rw h

@@ -16,4 +16,5 @@ pub mod Recorded
 pub mod Past
 pub mod Accepted
 pub mod Ends
+pub mod Lent
 pub mod Solution

@@ -9,6 +9,7 @@ use borrow.Author.Tests.{eq-eqb, ne_eqb, le-leb, lt-ltb, eqb-true, eqb-false}
 use lib.Dec.{ltb, eqb}
 use lib.ListN.{length}
 use lib.Ieee.{Float}
+use Rattle.std.specs.Prelude.{Ok, Err}
 use Rattle.model.specs.Sizes.{most_columns, most_rows}
 use Rattle.model.specs.Scalar.{◌⊗◌}
 use Rattle.model.specs.Matrix.{Row, Mat, view, vec, naturals, put, tabulate}
@@ -22,7 +23,6 @@ use Rattle.model.specs.Solve.{forward_at, forward_from, divided, back_at, back_f
 use Rattle.model.specs.Independence.{outcome_of}
 use Rattle.model.specs.Solution.{left_in, RefusedForTheVectorAlone, ReadsEntriesAlone, ComesBackRenumbered}
 use Rattle.model.specs.declared.Refusal.TheVariants.{SolveLength}
-use Rattle.model.specs.declared.Check.TheVariants.{Sound}
 use Rattle.model.proofs.Cases.{test}
 use Rattle.model.proofs.Tabulated.{length-tabulate_from}
 use Rattle.model.proofs.Entry.{Passed, passed as entry-passed}
@@ -38,7 +38,7 @@ unnamed f zero r h = refl
 unnamed f (suc k) r h = rw (unnamed f k r (λ j o e. h j (omega arith) e), ne_eqb (f k) r (h k (omega arith)))
 
 sound-order : (n : ℕ) (f : ℕ → ℕ) → ((i : ℕ) → i < n → f i < n) → ((i j : ℕ) → i < n → j < n → f i ≡ f j → i ≡ j) → (m k : ℕ) → k + m ≤ n
-    → first_not (order_sound f n) order_at m k ≡ Sound
+    → first_not (order_sound f n) order_at m k ≡ Ok tt
 unfolding first_not order_sound
 sound-order n f inside distinct zero k h = refl
 sound-order n f inside distinct (suc m) k h =
@@ -51,7 +51,7 @@ sound-order n f inside distinct (suc m) k h =
 
 -- a root node whose shape, lengths, order and block bytes are sound: the vector is left to check
 vector-alone : (n : ℕ) (f : Factor) (vector : List Float) → shape_sound n n ≡ true → length f.panel ≡ n * n → length f.d ≡ n → length f.sub ≡ n
-    → length f.blocks ≡ n → length f.order ≡ n → check_order n (naturals f.order) ≡ Sound → check_bytes f.blocks ≡ Sound
+    → length f.blocks ≡ n → length f.order ≡ n → check_order n (naturals f.order) ≡ Ok tt → check_bytes f.blocks ≡ Ok tt
     → solve_check n n f vector ≡ or_else (refuse_if (not (eqb (length vector) n)) SolveLength) (check_right_side n (vec vector))
 unfolding solve_check solve_lengths
 vector-alone n f vector shape panel d sub blocks order places bytes =

@@ -1,33 +1,42 @@
 -- Refusals by number and place. From docs/SCOPE.md, "Refusals", and docs/REFUSALS.md. The one definition that gives a declared answer its number and
 -- place. Definitions only. Assumes nothing.
-use Rattle.std.specs.Prelude.{Bool, cond, ℕ}
+use Rattle.std.specs.Prelude.{Bool, cond, ℕ, Result, Ok, Err}
 use Rattle.model.specs.declared.Refusal.{Refusal}
 use Rattle.model.specs.declared.Refusal.TheVariants.{Shape, Width, Length, Floor, Limit, Input, ZeroColumn, Rounds, NotFinite, AssemblyLength}
 use Rattle.model.specs.declared.Refusal.TheVariants.{AssemblyPlace, AssemblyNumber, UpdateLength, TargetRows, DescendantRows, BlockByte, AbsentRow}
 use Rattle.model.specs.declared.Refusal.TheVariants.{DescendantNumber, InertiaLength, ZeroPivot, LowBlock, SolveLength, OrderPlace}
 use Rattle.model.specs.declared.Refusal.TheVariants.{RightSide}
-use Rattle.model.specs.declared.Check.{Check}
-use Rattle.model.specs.declared.Check.TheVariants.{Sound, Refused}
 use Rattle.model.specs.declared.Report.{Report}
 use Rattle.model.specs.declared.Tally.{Tally}
-use Rattle.model.specs.declared.Factored as factored
-use Rattle.model.specs.declared.Counted as counted
-use Rattle.model.specs.declared.Applied as applied
 
 -- what a call says: a refusal's number and place A, B, or what it accepts with
 pub data Said (A : Type 0) : Type 0 where
   refused : (number a b : ℕ) → Said A
   accepted : A → Said A
 
+-- ---- the answers
+
+-- what a check finds: nothing, or the refusal
+abbrev pub Check : Type 0
+Check = Result (Unit {0}) Refusal
+
 -- the first of two checks that refuses
 abbrev pub or_else : Check → Check → Check
-or_else Sound c = c
-or_else (Refused r) c = Refused r
+or_else (Ok u) c = c
+or_else (Err r) c = Err r
 
 abbrev pub refuse_if : Bool → Refusal → Check
-refuse_if b r = cond b (Refused r) Sound
+refuse_if b r = cond b (Err r) (Ok tt)
 
--- ---- the declared answers
+-- the answer of a factor call; of an inertia call; of an assembly, an update or a solve
+abbrev pub Factored : Type 0
+Factored = Result Report Refusal
+
+abbrev pub Counted : Type 0
+Counted = Result Tally Refusal
+
+abbrev pub Applied : Type 0
+Applied = Result (Unit {0}) Refusal
 
 -- the number of each declared refusal and its place: 0, 0 if no place is named
 abbrev pub numbered : Refusal → ℕ × ℕ × ℕ
@@ -59,14 +68,14 @@ numbered (RightSide at) = (27, at.0, 0)
 abbrev pub turned_away : {A : Type 0} → Refusal → Said A
 turned_away r = refused (numbered r).0 (numbered r).1 (numbered r).2
 
-abbrev pub factored_says : factored.Factored → Said Report
-factored_says (factored.TheVariants.Accepted r) = accepted r
-factored_says (factored.TheVariants.Refused r) = turned_away r
+abbrev pub factored_says : Factored → Said Report
+factored_says (Ok r) = accepted r
+factored_says (Err r) = turned_away r
 
-abbrev pub counted_says : counted.Counted → Said Tally
-counted_says (counted.TheVariants.Counts t) = accepted t
-counted_says (counted.TheVariants.Refused r) = turned_away r
+abbrev pub counted_says : Counted → Said Tally
+counted_says (Ok t) = accepted t
+counted_says (Err r) = turned_away r
 
-abbrev pub applied_says : applied.Applied → Said (Unit {0})
-applied_says applied.TheVariants.Done = accepted tt
-applied_says (applied.TheVariants.Refused r) = turned_away r
+abbrev pub applied_says : Applied → Said (Unit {0})
+applied_says (Ok u) = accepted u
+applied_says (Err r) = turned_away r

@@ -1,13 +1,11 @@
 -- Assembly: entries added to a panel as listed. From docs/SCOPE.md, "Assembly", and refusals 10 to 12. Definitions only. Assumes nothing.
-use Rattle.std.specs.Prelude.{Bool, cond, not, ◌&&◌, List, ℕ, zero, suc, ◌+◌, ◌*◌, leb, ltb, eqb, length, Float}
+use Rattle.std.specs.Prelude.{Bool, cond, not, ◌&&◌, List, ℕ, zero, suc, ◌+◌, ◌*◌, leb, ltb, eqb, length, Float, Ok, Err}
 use Rattle.model.specs.Scalar.{◌⊕◌, is_finite}
 use Rattle.model.specs.Matrix.{Row, Mat, view, vec, naturals, column_major}
 use Rattle.model.specs.Factor.{shape_sound}
-use Rattle.model.specs.Answer.{Said, accepted, or_else, refuse_if, turned_away}
+use Rattle.model.specs.Answer.{Said, accepted, or_else, refuse_if, turned_away, Check}
 use Rattle.model.specs.declared.Refusal.{Refusal}
 use Rattle.model.specs.declared.Refusal.TheVariants.{AssemblyLength, AssemblyPlace, AssemblyNumber}
-use Rattle.model.specs.declared.Check.{Check}
-use Rattle.model.specs.declared.Check.TheVariants.{Sound, Refused}
 
 -- the entries: local rows, columns and numbers
 pub record Entries : Type 0 where
@@ -22,10 +20,10 @@ entries_sound ncol nrow es panel =
 
 -- the first of m places from k on at which f does not hold, and what is refused there
 unfoldable pub first_not : (ℕ → Bool) → (ℕ → Refusal) → ℕ → ℕ → Check
-first_not f at zero k = Sound
+first_not f at zero k = Ok tt
 first_not f at (suc m) k =
     let rest = first_not f at m (k + 1) in
-    cond (f k) rest (Refused (at k))
+    cond (f k) rest (Err (at k))
 
 -- refusal 11 is not met at entry k: its place is a lower position of the panel
 unfoldable pub place_sound : ℕ → ℕ → (ℕ → ℕ) → (ℕ → ℕ) → ℕ → Bool
@@ -52,8 +50,8 @@ pub record Panelled : Type 0 where
   pub panel : List Float
 
 abbrev pub panel_after : Check → List Float → List Float → Panelled
-panel_after Sound new panel = record { answer = accepted tt; panel = new }
-panel_after (Refused r) new panel = record { answer = turned_away r; panel = panel }
+panel_after (Ok u) new panel = record { answer = accepted tt; panel = new }
+panel_after (Err r) new panel = record { answer = turned_away r; panel = panel }
 
 unfoldable pub assembly_of : ℕ → ℕ → Entries → List Float → Panelled
 assembly_of ncol nrow es panel =

@@ -1,16 +1,16 @@
 -- The factor call whole: its refusals in their order, and every lent cell at the end. From docs/SCOPE.md, "Sizes and buffers", "Refusals" and
 -- "The factor call". The head alone decides (`head_answer_of`); a tail row follows from the panels and itself (`factor_row_of`).
 -- Definitions only. Assumes nothing.
-use Rattle.std.specs.Prelude.{Bool, true, cond, not, ◌&&◌, ◌||◌, List, ℕ, zero, suc, ◌+◌, ◌-◌, ◌*◌, min, max, leb, ltb, eqb, length, replicate, Float}
+use Rattle.std.specs.Prelude.{Bool, true, cond, not, ◌&&◌, ◌||◌, List, ℕ, zero, suc, ◌+◌, ◌-◌, ◌*◌, min, max, leb, ltb, eqb, length, replicate, Float, Ok, Err}
 use Rattle.std.specs.Float.Ieee.{lt}
 use Rattle.model.specs.Sizes.{most_columns, most_rows, widest_panel, most_rounds}
 use Rattle.model.specs.Scalar.{zero_f, reciprocal_of, is_finite}
 use Rattle.model.specs.Matrix.{Row, Mat, view, vec, head_of, row_of, tabulate, column_major}
-use Rattle.model.specs.Step.{Diagonals, block_at, begins, ends_block}
+use Rattle.model.specs.Step.{Diagonals, StaysLent, block_at, begins, ends_block}
 use Rattle.model.specs.Panel.{Panel, tail_row_of}
 use Rattle.model.specs.Head as head
 use Rattle.model.specs.Inertia.{tallied_of}
-use Rattle.model.specs.Answer.{Said, accepted, or_else, refuse_if, turned_away}
+use Rattle.model.specs.Answer.{Said, accepted, or_else, refuse_if, turned_away, Check}
 use Rattle.model.specs.declared.Mode.{Mode}
 use Rattle.model.specs.declared.Mode.TheVariants.{Fail, Lift}
 use Rattle.model.specs.declared.Pivoting.{Pivoting}
@@ -18,9 +18,8 @@ use Rattle.model.specs.declared.Settings.{Settings}
 use Rattle.model.specs.declared.Lengths.{Lengths}
 use Rattle.model.specs.declared.Refusal.{Refusal}
 use Rattle.model.specs.declared.Refusal.TheVariants.{Shape, Width, Length, Floor, Limit, Input, NotFinite}
-use Rattle.model.specs.declared.Check.{Check}
-use Rattle.model.specs.declared.Check.TheVariants.{Sound, Refused}
 use Rattle.model.specs.declared.Report.{Report}
+use Rattle.model.specs.declared.LentBuffers.{LentBuffers}
 
 -- the nine buffers that a call writes
 pub record Buffers : Type 0 where
@@ -33,6 +32,32 @@ pub record Buffers : Type 0 where
   pub order : List ℕ
   pub marks : List ℕ
   pub work : List Float
+
+-- as a call is lent them
+abbrev pub lent_in : LentBuffers → Buffers
+lent_in b = record {
+  panel = b.panel.now;
+  d = b.d.now;
+  sub = b.sub.now;
+  blocks = b.blocks.now;
+  lifts = b.lifts.now;
+  amounts = b.amounts.now;
+  order = b.order.now;
+  marks = b.marks.now;
+  work = b.work.now;
+}
+
+-- the same nine buffers
+pub record SameLent (x y : LentBuffers) : Type 0 where
+  pub panel : StaysLent x.panel y.panel
+  pub d : StaysLent x.d y.d
+  pub sub : StaysLent x.sub y.sub
+  pub blocks : StaysLent x.blocks y.blocks
+  pub lifts : StaysLent x.lifts y.lifts
+  pub amounts : StaysLent x.amounts y.amounts
+  pub order : StaysLent x.order y.order
+  pub marks : StaysLent x.marks y.marks
+  pub work : StaysLent x.work y.work
 
 -- ---- entry checks
 
@@ -67,19 +92,19 @@ lengths_sound c n =
 
 -- refusals 4 and 5
 unfoldable pub mode_check : Mode → ℕ → Check
-mode_check Fail limit = Sound
+mode_check Fail limit = Ok tt
 mode_check (Lift floor) limit = or_else (refuse_if (not (is_finite floor && lt zero_f floor)) Floor) (refuse_if (not (leb 1 limit && leb limit most_rounds)) Limit)
 
 -- refusal 6: the first of n rows from i on, in column j, that is not finite
 unfoldable pub column_check : Mat → ℕ → ℕ → ℕ → Check
-column_check a j zero i = Sound
+column_check a j zero i = Ok tt
 column_check a j (suc n) i =
     let rest = column_check a j n (i + 1) in
-    cond (is_finite (a i j)) rest (Refused (Input (record { 0 = j }) (record { 0 = i })))
+    cond (is_finite (a i j)) rest (Err (Input (record { 0 = j }) (record { 0 = i })))
 
 -- the least of n columns from j on that has one, each from its diagonal down
 unfoldable pub columns_check : Mat → ℕ → ℕ → ℕ → Check
-columns_check a nrow zero j = Sound
+columns_check a nrow zero j = Ok tt
 columns_check a nrow (suc n) j = let rest = columns_check a nrow n (j + 1) in or_else (column_check a j (nrow - j) j) rest
 
 -- 1 to 5
@@ -138,10 +163,10 @@ column_sound ncol D a k =
 
 -- the least of n columns from k on that is not: refusal 9
 unfoldable pub result_check : ℕ → Diagonals → Mat → ℕ → ℕ → Check
-result_check ncol D a zero k = Sound
+result_check ncol D a zero k = Ok tt
 result_check ncol D a (suc n) k =
     let rest = result_check ncol D a n (k + 1) in
-    cond (column_sound ncol D a k) rest (Refused (NotFinite (record { 0 = k })))
+    cond (column_sound ncol D a k) rest (Err (NotFinite (record { 0 = k })))
 
 -- the head's answer: a refusal, or the state and the panels
 pub data HeadAnswer : Type 0 where
@@ -149,8 +174,8 @@ pub data HeadAnswer : Type 0 where
   stands : head.State → List Panel → HeadAnswer
 
 abbrev pub judged : Check → head.State → List Panel → HeadAnswer
-judged Sound s ps = stands s ps
-judged (Refused r) s ps = fails r
+judged (Ok u) s ps = stands s ps
+judged (Err r) s ps = fails r
 
 abbrev pub judged_run : ℕ → head.Run → HeadAnswer
 judged_run ncol (head.refused r) = fails r
@@ -215,8 +240,8 @@ after_head (fails r) c a b = record { answer = turned_away r; buffers = zeros b 
 after_head (stands s ps) c a b = record { answer = accepted (report_of c.ncol s); buffers = written c a s ps b }
 
 abbrev pub after_check : Check → Outcome → Buffers → Outcome
-after_check Sound o b = o
-after_check (Refused r) o b = record { answer = turned_away r; buffers = b }
+after_check (Ok u) o b = o
+after_check (Err r) o b = record { answer = turned_away r; buffers = b }
 
 -- the factor call
 unfoldable pub factor_of : Settings → List Float → Buffers → Outcome

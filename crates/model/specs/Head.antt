@@ -1,6 +1,6 @@
 -- The head's elimination: pivots within a panel, panels in turn. From docs/SCOPE.md, "A 1x1 pivot", "A block" and "The factor call".
 -- Definitions only. Assumes nothing.
-use Rattle.std.specs.Prelude.{Bool, cond, ◌&&◌, List, [], ◌∷◌, ℕ, zero, suc, ◌+◌, ◌-◌, min, leb, ltb, eqb, Float}
+use Rattle.std.specs.Prelude.{Bool, cond, ◌&&◌, List, [], ◌∷◌, ℕ, zero, suc, ◌+◌, ◌-◌, min, leb, ltb, eqb, Float, Option, Some, None, Result, Ok, Err}
 use Rattle.std.specs.Float.Ieee.{lt, le, eq}
 use Rattle.model.specs.Scalar.{◌⊕◌, ◌⊖◌, ◌⊗◌, zero_f, reciprocal_of, magnitude_of, maximum_of, lift_of, growth_eps}
 use Rattle.model.specs.Root.{sqrt_of}
@@ -19,9 +19,9 @@ use Rattle.model.specs.declared.Pivot.{Pivot}
 use Rattle.model.specs.declared.Choice.{Choice}
 use Rattle.model.specs.declared.Choice.TheVariants as choice
 use Rattle.model.specs.declared.OneSettled.{OneSettled}
-use Rattle.model.specs.declared.OneSettled.TheVariants.{Zero, Number}
 use Rattle.model.specs.declared.TwoSettled.{TwoSettled}
-use Rattle.model.specs.declared.TwoSettled.TheVariants.{Low, OutOfRounds, Numbers}
+use Rattle.model.specs.declared.Unfit.{Unfit}
+use Rattle.model.specs.declared.Unfit.TheVariants.{Low, OutOfRounds}
 use Rattle.model.specs.declared.Refusal.{Refusal}
 use Rattle.model.specs.declared.Refusal.TheVariants as refusal
 
@@ -35,12 +35,12 @@ pub record State : Type 0 where
 -- ---- the numbers of a pivot, lifted where the mode asks it
 
 -- a 1x1: in Fail a zero is refused; in Lift it is lifted if |d| < floor, strictly, and the amount is new less old
-unfoldable pub settled_one : Mode → Float → OneSettled
-settled_one Fail d = cond (eq d zero_f) Zero (Number d 0 zero_f)
+unfoldable pub settled_one : Mode → Float → Option OneSettled
+settled_one Fail d = cond (eq d zero_f) None (Some (record { d = d; lift = None }))
 settled_one (Lift floor) d =
     let new = lift_of floor d in
-    let lifted = Number new 1 (new ⊖ d) in
-    cond (lt (magnitude_of d) floor) lifted (Number d 0 zero_f)
+    let lifted : Option OneSettled = Some (record { d = new; lift = Some (new ⊖ d) }) in
+    cond (lt (magnitude_of d) floor) lifted (Some (record { d = d; lift = None }))
 
 -- 'scale', the greatest magnitude; the 'growth floor', (1e-14·scale)·scale
 abbrev pub scale_of : Block → Float
@@ -51,12 +51,12 @@ growth_floor_of b = growth_eps ⊗ scale_of b ⊗ scale_of b
 
 -- rounds of a block's lift: `left` may still be tried, `r` is the round at hand, `sum` the r-fold running sum of step.
 -- The first try whose |det| is not below the bar ends it: a not-a-number is not below.
-unfoldable pub raised_from : Block → Float → Float → ℕ → ℕ → Float → TwoSettled
-raised_from b bar step zero r sum = OutOfRounds
+unfoldable pub raised_from : Block → Float → Float → ℕ → ℕ → Float → Result TwoSettled Unfit
+raised_from b bar step zero r sum = Err OutOfRounds
 raised_from b bar step (suc left) r sum =
     let tried = block_of (b.d11 ⊕ sum) b.d21 (b.d22 ⊕ sum) in
     let again = raised_from b bar step left (r + 1) (sum ⊕ step) in
-    let enough = Numbers tried 1 sum r in
+    let enough : Result TwoSettled Unfit = Ok (record { block = tried; lift = Some sum; rounds = r }) in
     cond (lt (magnitude_of tried.det) bar) again enough
 
 -- 'bar = max(floor², growth floor)' and 'step = max(floor, scale·√1e-14)'
@@ -66,12 +66,16 @@ bar_of floor b = maximum_of (floor ⊗ floor) (growth_floor_of b)
 abbrev pub lift_step_of : Float → Block → Float
 lift_step_of floor b = maximum_of floor (scale_of b ⊗ sqrt_of growth_eps)
 
+-- a block as it is
+abbrev pub unlifted : Block → TwoSettled
+unlifted b = record { block = b; lift = None; rounds = 0 }
+
 -- a block against its growth floor: refused in Fail; in Lift a lift, refused where the limit is too small
-unfoldable pub settled_two : Mode → ℕ → Block → TwoSettled
-settled_two Fail limit b = cond (le (magnitude_of b.det) (growth_floor_of b)) Low (Numbers b 0 zero_f 0)
+unfoldable pub settled_two : Mode → ℕ → Block → Result TwoSettled Unfit
+settled_two Fail limit b = cond (le (magnitude_of b.det) (growth_floor_of b)) (Err Low) (Ok (unlifted b))
 settled_two (Lift floor) limit b =
     let raised = raised_from b (bar_of floor b) (lift_step_of floor b) limit 1 (lift_step_of floor b) in
-    cond (lt (magnitude_of b.det) (bar_of floor b)) raised (Numbers b 0 zero_f 0)
+    cond (lt (magnitude_of b.det) (bar_of floor b)) raised (Ok (unlifted b))
 
 -- ---- a step: a refusal, or a pivot with the head and the multipliers after it
 
@@ -102,21 +106,21 @@ kept_two ke k b a mult =
 
 module _ (ke : ℕ) (a₀ mult : Mat) where
   -- a 1x1 at k, exchanged with row kp
-  abbrev pub after_one : ℕ → ℕ → OneSettled → Tried
-  after_one k kp Zero = refused_by (refusal.ZeroPivot (record { 0 = k }))
-  after_one k kp (Number d lifted amount) =
+  abbrev pub after_one : ℕ → ℕ → Option OneSettled → Tried
+  after_one k kp None = refused_by (refusal.ZeroPivot (record { 0 = k }))
+  after_one k kp (Some s) =
       let a = exchanged k kp ke a₀ in
-      took (record { p = record { 0 = k }; kp = record { 0 = kp }; diagonal = One d; lifted = lifted; amount = amount; rounds = 0 })
-      (head_one ke k d a) (kept_one ke k d a mult)
+      took (record { p = record { 0 = k }; kp = record { 0 = kp }; diagonal = One s.d; lift = s.lift; rounds = 0 })
+      (head_one ke k s.d a) (kept_one ke k s.d a mult)
 
   -- a block at k and k + 1, k + 1 exchanged with row kp; k was exchanged with row p before
-  abbrev pub after_two : ℕ → ℕ → ℕ → TwoSettled → Tried
-  after_two k p kp Low = refused_by (refusal.LowBlock (record { 0 = k }))
-  after_two k p kp OutOfRounds = refused_by (refusal.Rounds (record { 0 = k }))
-  after_two k p kp (Numbers b lifted amount rounds) =
+  abbrev pub after_two : ℕ → ℕ → ℕ → Result TwoSettled Unfit → Tried
+  after_two k p kp (Err Low) = refused_by (refusal.LowBlock (record { 0 = k }))
+  after_two k p kp (Err OutOfRounds) = refused_by (refusal.Rounds (record { 0 = k }))
+  after_two k p kp (Ok s) =
       let a = exchanged (k + 1) kp ke a₀ in
-      took (record { p = record { 0 = p }; kp = record { 0 = kp }; diagonal = Two b; lifted = lifted; amount = amount; rounds = rounds })
-      (head_two ke k b a) (kept_two ke k b a mult)
+      took (record { p = record { 0 = p }; kp = record { 0 = kp }; diagonal = Two s.block; lift = s.lift; rounds = s.rounds })
+      (head_two ke k s.block a) (kept_two ke k s.block a mult)
 
   -- the block is read after the exchange
   abbrev pub try_block : Mode → ℕ → ℕ → ℕ → ℕ → Tried
@@ -153,11 +157,20 @@ with_diagonal D k e x =
       blocks = put (put D.blocks e 0) k (byte_of (is_block x));
     }
 
+-- a lift as the caller is told of it: its byte, 1 where there was one, and its amount, +0.0 where there was none
+abbrev pub lift_byte : Option Float → ℕ
+lift_byte None = 0
+lift_byte (Some x) = 1
+
+abbrev pub lift_amount : Option Float → Float
+lift_amount None = zero_f
+lift_amount (Some x) = x
+
 abbrev pub with_notes : Notes → ℕ → ℕ → Pivot → Notes
 with_notes n k e v =
     record {
-      lifts = put (put n.lifts e v.lifted) k v.lifted;
-      amounts = put (put n.amounts e v.amount) k v.amount;
+      lifts = put (put n.lifts e (lift_byte v.lift)) k (lift_byte v.lift);
+      amounts = put (put n.amounts e (lift_amount v.lift)) k (lift_amount v.lift);
       order = swapped (swapped n.order k v.p.0) e v.kp.0;
     }
 

@@ -8,10 +8,9 @@
 --   2. a tail row of the one and a tail row of the other that hold the same bits, wherever each stands, get the same factor row and the same
 --      mark (`SameTailRow`). The two calls may be one and the same call: then this speaks of two rows of it.
 -- `TailRowsSteerNothing` is that statement; proofs/Independence.antt proves it. Definitions only. Assumes nothing.
-use Rattle.std.specs.Prelude.{◌≡◌, List, ℕ, ◌-◌, ◌≤◌, ◌<◌, Float}
+use Rattle.std.specs.Prelude.{◌≡◌, List, ℕ, ◌-◌, ◌≤◌, ◌<◌, Float, Ok}
 use Rattle.model.specs.Matrix.{view, naturals}
 use Rattle.model.specs.Factor.{Buffers, Outcome, entry_check, factor_of}
-use Rattle.model.specs.declared.Check.TheVariants.{Sound}
 use Rattle.model.specs.declared.Settings.{Settings}
 
 -- a factor call: its settings, its input and the buffers lent to it
@@ -22,7 +21,7 @@ pub record Call : Type 0 where
 
 -- it passes the entry checks
 abbrev pub PastEntry : Call → Type 0
-PastEntry x = entry_check x.settings x.input x.lent ≡ Sound
+PastEntry x = entry_check x.settings x.input x.lent ≡ Ok tt
 
 -- what it leaves behind
 abbrev pub outcome_of : Call → Outcome

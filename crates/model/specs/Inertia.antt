@@ -1,17 +1,15 @@
 -- Counts of positive, negative and zero eigenvalues of D, as ported. From docs/SCOPE.md, "Inertia", and refusals 19 and 16.
 -- Definitions only. Assumes nothing.
-use Rattle.std.specs.Prelude.{Bool, cond, not, ◌&&◌, ◌||◌, List, ℕ, zero, suc, ◌+◌, leb, ltb, eqb, length, Float}
+use Rattle.std.specs.Prelude.{Bool, cond, not, ◌&&◌, ◌||◌, List, ℕ, zero, suc, ◌+◌, leb, ltb, eqb, length, Float, Ok, Err}
 use Rattle.std.specs.Float.Ieee.{lt, le}
 use Rattle.model.specs.Sizes.{most_columns}
 use Rattle.model.specs.Scalar.{◌⊕◌, zero_f}
 use Rattle.model.specs.Matrix.{Row, vec, naturals}
 use Rattle.model.specs.Step.{begins, past_of, block_at}
-use Rattle.model.specs.Answer.{Said, accepted, or_else, refuse_if, turned_away}
+use Rattle.model.specs.Answer.{Said, accepted, or_else, refuse_if, turned_away, Check}
 use Rattle.model.specs.declared.Block.{Block}
 use Rattle.model.specs.declared.Tally.{Tally}
 use Rattle.model.specs.declared.Refusal.TheVariants.{BlockByte, InertiaLength}
-use Rattle.model.specs.declared.Check.{Check}
-use Rattle.model.specs.declared.Check.TheVariants.{Sound, Refused}
 
 -- a tally with p, n and z more
 abbrev pub more : Tally → ℕ → ℕ → ℕ → Tally
@@ -55,10 +53,10 @@ byte_sound blocks n k = leb (blocks k) 1 && not (begins blocks k && (eqb (k + 1)
 
 -- the least of m places from k on that is not sound: refusal 16
 unfoldable pub bytes_from : (ℕ → ℕ) → ℕ → ℕ → ℕ → Check
-bytes_from blocks n zero k = Sound
+bytes_from blocks n zero k = Ok tt
 bytes_from blocks n (suc m) k =
     let rest = bytes_from blocks n m (k + 1) in
-    cond (byte_sound blocks n k) rest (Refused (BlockByte (record { 0 = k })))
+    cond (byte_sound blocks n k) rest (Err (BlockByte (record { 0 = k })))
 
 abbrev pub check_bytes : List ℕ → Check
 check_bytes blocks = bytes_from (naturals blocks) (length blocks) (length blocks) 0
@@ -69,8 +67,8 @@ inertia_check d sub blocks =
     or_else (refuse_if (not (eqb (length sub) (length d) && (eqb (length blocks) (length d) && leb (length d) most_columns))) InertiaLength) (check_bytes blocks)
 
 abbrev inertia_says : Check → Tally → Said Tally
-inertia_says Sound t = accepted t
-inertia_says (Refused r) t = turned_away r
+inertia_says (Ok u) t = accepted t
+inertia_says (Err r) t = turned_away r
 
 -- what the call answers
 unfoldable pub inertia_of : List Float → List Float → List ℕ → Said Tally

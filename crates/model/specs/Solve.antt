@@ -1,17 +1,15 @@
 -- Solve at a root node: the order taken, forward through L, the pivots, back through L, the order undone. From docs/SCOPE.md, "Solve", and refusals 1, 25,
 -- 26, 16 and 27. A vector is a function of the elimination position; the panel is seen as a matrix. Definitions only. Assumes nothing.
-use Rattle.std.specs.Prelude.{Bool, false, cond, not, ◌&&◌, ◌||◌, List, ℕ, zero, suc, ◌+◌, ◌-◌, ◌*◌, leb, ltb, eqb, length, Float}
+use Rattle.std.specs.Prelude.{Bool, false, cond, not, ◌&&◌, ◌||◌, List, ℕ, zero, suc, ◌+◌, ◌-◌, ◌*◌, leb, ltb, eqb, length, Float, Ok, Err}
 use Rattle.model.specs.Scalar.{◌⊖◌, ◌⊗◌, reciprocal_of, is_finite}
 use Rattle.model.specs.Matrix.{Row, Mat, view, vec, naturals, put, tabulate}
 use Rattle.model.specs.Step.{Diagonals, diagonals_of, begins, ends_block, past_of, block_at, first_multiplier, second_multiplier}
-use Rattle.model.specs.Answer.{Said, accepted, or_else, refuse_if, turned_away}
+use Rattle.model.specs.Answer.{Said, accepted, or_else, refuse_if, turned_away, Check}
 use Rattle.model.specs.Inertia.{check_bytes}
 use Rattle.model.specs.Factor.{shape_sound}
 use Rattle.model.specs.Assembly.{first_not}
 use Rattle.model.specs.declared.Refusal.{Refusal}
 use Rattle.model.specs.declared.Refusal.TheVariants.{Shape, SolveLength, OrderPlace, RightSide}
-use Rattle.model.specs.declared.Check.{Check}
-use Rattle.model.specs.declared.Check.TheVariants.{Sound, Refused}
 
 -- what a factor call left of the node: the panel with L, D, the order
 pub record Factor : Type 0 where
@@ -137,8 +135,8 @@ pub record Solved : Type 0 where
   pub vector : List Float
 
 abbrev pub solved_after : Check → List Float → List Float → Solved
-solved_after Sound new vector = record { answer = accepted tt; vector = new }
-solved_after (Refused r) new vector = record { answer = turned_away r; vector = vector }
+solved_after (Ok u) new vector = record { answer = accepted tt; vector = new }
+solved_after (Err r) new vector = record { answer = turned_away r; vector = vector }
 
 unfoldable pub solve_of : ℕ → ℕ → Factor → List Float → Solved
 solve_of ncol nrow f vector =

@@ -1,12 +1,15 @@
 -- One elimination step: what it does to a row, and how it is read off the record of pivots. From docs/SCOPE.md, "A 1x1 pivot", "A block" and
 -- "The rows below a panel". Definitions only. Assumes nothing.
-use Rattle.std.specs.Prelude.{Bool, true, false, cond, ◌&&◌, List, ℕ, zero, suc, ◌+◌, ◌-◌, eqb, ltb, Float}
+use Rattle.std.specs.Prelude.{Bool, true, false, cond, ◌&&◌, List, ℕ, zero, suc, ◌+◌, ◌-◌, eqb, ltb, Float, length, ◌≡◌}
 use Rattle.std.specs.Float.Ieee.{eq}
 use Rattle.model.specs.Scalar.{◌⊖◌, ◌⊗◌, zero_f, reciprocal_of}
 use Rattle.model.specs.Matrix.{Row, Mat, vec, naturals, places, within, exchanged_place}
+use Rattle.std.specs.Borrow.{MutBor}
 use Rattle.model.specs.declared.Block.{Block}
 use Rattle.model.specs.declared.Diagonal.{Diagonal}
 use Rattle.model.specs.declared.Diagonal.TheVariants.{One, Two}
+use Rattle.model.specs.declared.DiagonalLists.{DiagonalLists}
+use Rattle.model.specs.declared.PivotRecord.{PivotRecord}
 
 -- A 1x1 pivot d at k, or a block at k and k + 1; kp is the row exchanged with k, or with k + 1; the rows hold the multipliers of the panel's
 -- rows, by row, as they were when the step was taken.
@@ -91,6 +94,9 @@ pub record Diagonals : Type 0 where
 abbrev pub diagonals_of : List Float → List Float → List ℕ → Diagonals
 diagonals_of d sub blocks = record { d = vec d; sub = vec sub; blocks = naturals blocks }
 
+abbrev pub diagonals_in : DiagonalLists → Diagonals
+diagonals_in x = diagonals_of x.d.now x.sub.now x.blocks.now
+
 -- what a caller is told beside D and no step reads: a byte that is 1 where a lift was, lift amounts, the order
 pub record Notes : Type 0 where
   pub lifts : ℕ → ℕ
@@ -110,6 +116,24 @@ pub record Pivots : Type 0 where
 abbrev pub pivots_of : (d sub : List Float) (blocks partners lifts : List ℕ) (amounts : List Float) (order : List ℕ) → Pivots
 pivots_of d sub blocks partners lifts amounts order =
     record { diagonals = diagonals_of d sub blocks; partners = naturals partners; notes = notes_of lifts amounts order }
+
+abbrev pub recorded_in : PivotRecord → Pivots
+recorded_in r = pivots_of r.d.now r.sub.now r.blocks.now r.partners.now r.lifts.now r.amounts.now r.order.now
+
+-- a buffer that stays lent: the reference is the same one and its length is as it was, whatever was written
+pub record StaysLent {A : Type 0} (x y : MutBor (List A)) : Type 0 where
+  pub name : y.ghost_name ≡ x.ghost_name
+  pub count : length y.now ≡ length x.now
+
+-- the same buffers, lent as a record of pivots
+pub record SameRecord (x y : PivotRecord) : Type 0 where
+  pub d : StaysLent x.d y.d
+  pub sub : StaysLent x.sub y.sub
+  pub blocks : StaysLent x.blocks y.blocks
+  pub partners : StaysLent x.partners y.partners
+  pub lifts : StaysLent x.lifts y.lifts
+  pub amounts : StaysLent x.amounts y.amounts
+  pub order : StaysLent x.order y.order
 
 -- a block begins at k
 abbrev pub begins : (ℕ → ℕ) → ℕ → Bool

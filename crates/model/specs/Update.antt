@@ -1,5 +1,5 @@
 -- A descendant's update of a target node. From docs/SCOPE.md, "Update", and refusals 13 to 18. Definitions only. Assumes nothing.
-use Rattle.std.specs.Prelude.{Bool, true, cond, not, ◌&&◌, ◌||◌, List, ℕ, zero, suc, ◌+◌, ◌*◌, leb, ltb, eqb, length, Float}
+use Rattle.std.specs.Prelude.{Bool, true, cond, not, ◌&&◌, ◌||◌, List, ℕ, zero, suc, ◌+◌, ◌*◌, leb, ltb, eqb, length, Float, Ok, Err}
 use Rattle.model.specs.Sizes.{most_columns, most_rows}
 use Rattle.model.specs.Scalar.{◌⊖◌, ◌⊗◌, zero_f, is_finite}
 use Rattle.model.specs.Matrix.{Row, Mat, view, vec, naturals, column_major}
@@ -8,11 +8,9 @@ use Rattle.model.specs.Panel.{times_d, sum_from}
 use Rattle.model.specs.Inertia.{check_bytes}
 use Rattle.model.specs.Factor.{shape_sound, every_from}
 use Rattle.model.specs.Assembly.{Panelled, panel_after, first_not}
-use Rattle.model.specs.Answer.{or_else, refuse_if}
+use Rattle.model.specs.Answer.{or_else, refuse_if, Check}
 use Rattle.model.specs.declared.Refusal.{Refusal}
 use Rattle.model.specs.declared.Refusal.TheVariants.{UpdateLength, TargetRows, DescendantRows, AbsentRow, DescendantNumber}
-use Rattle.model.specs.declared.Check.{Check}
-use Rattle.model.specs.declared.Check.TheVariants.{Sound, Refused}
 
 -- the target: ncol columns, nrow rows, the global row of its first column, its global rows
 pub record Target : Type 0 where
@@ -59,12 +57,12 @@ lands t g = leb t.first g && ltb g (t.first + t.ncol)
 
 -- refusal 17: the first of m rows from i on that the target lacks, beginning with the first row that lands; `landed` says that a row before i landed
 unfoldable pub absent_from : Target → (ℕ → ℕ) → ℕ → ℕ → Bool → Check
-absent_from t rows zero i landed = Sound
+absent_from t rows zero i landed = Ok tt
 absent_from t rows (suc m) i landed =
     let now = landed || lands t (rows i) in
     let there = ltb (place_from (naturals t.rows) (rows i) t.nrow 0) t.nrow in
     let rest = absent_from t rows m (i + 1) now in
-    cond (now && not there) (Refused (AbsentRow i)) rest
+    cond (now && not there) (Err (AbsentRow i)) rest
 
 -- refusal 18 is not met at the descendant's column c: its d, its subdiagonal under a 1 and its numbers below the head are finite
 unfoldable pub descendant_sound : Descendant → ℕ → Bool
@@ -82,7 +80,7 @@ update_check t k panel =
     (or_else (refuse_if (not (rising (naturals t.rows) t.nrow && begins_at t.first (naturals t.rows) t.ncol)) TargetRows)
     (or_else (refuse_if (not (rising (naturals k.rows) k.mk)) DescendantRows)
     (or_else (check_bytes k.blocks)
-    (or_else (cond (leb 1 k.nk) (absent_from t (naturals k.rows) k.mk 0 (not true)) Sound) (first_not (descendant_sound k) number_at k.nk 0)))))
+    (or_else (cond (leb 1 k.nk) (absent_from t (naturals k.rows) k.mk 0 (not true)) (Ok tt)) (first_not (descendant_sound k) number_at k.nk 0)))))
 
 -- ---- the update
 

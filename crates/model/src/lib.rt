@@ -24,7 +24,8 @@ pub struct GlobalRow(pub u32);
 #[derive(Clone, Copy)]
 pub struct Elim(pub usize);
 
-// What a pivot that is too small meets: refusal 7, 23 or 24, or a lift to the floor that Lift carries.
+// What a pivot that is too small meets: refusal 7, 23 or 24, or a lift to the floor that Lift carries. An enum and no
+// Option: the two are modes of equal standing, with names that docs/SCOPE.md asks for.
 #[derive(Clone, Copy)]
 pub enum Mode {
     Fail,
@@ -108,37 +109,73 @@ pub enum Choice {
     Block(LocalRow, LocalRow),
 }
 
-// The chosen 1x1 as the mode settles it: zero in Fail, or its number with the lift byte and the lift's amount.
+// The chosen 1x1 as it is taken: its number, and where it was lifted by how much.
 #[derive(Clone, Copy)]
-pub enum OneSettled {
-    Zero,
-    Number { d: f64, lifted: u8, amount: f64 },
+pub struct OneSettled {
+    pub d: f64,
+    pub lift: Option<f64>,
 }
 
-// The chosen block as the mode settles it: at or below its growth floor in Fail, or in need of more rounds than the
-// limit, or its numbers with the lift byte, the lift's amount and the rounds used.
+// The chosen block as it is taken: its numbers, where it was lifted by how much, and the rounds that the lift used.
 #[derive(Clone, Copy)]
-pub enum TwoSettled {
+pub struct TwoSettled {
+    pub block: Block,
+    pub lift: Option<f64>,
+    pub rounds: usize,
+}
+
+// Why a chosen block cannot be taken: it is at or below its growth floor in Fail, or needs more rounds than the limit.
+#[derive(Clone, Copy)]
+pub enum Unfit {
     Low,
     OutOfRounds,
-    Numbers {
-        block: Block,
-        lifted: u8,
-        amount: f64,
-        rounds: usize,
-    },
 }
 
 // What a step took: the row exchanged with its first column before anything else (its own but for a rook block), the
-// row exchanged with its last column, its numbers, the lift byte, the lift amount, the rounds that its lift used.
+// row exchanged with its last column, its numbers, where it was lifted by how much, the rounds that its lift used.
 #[derive(Clone, Copy)]
 pub struct Pivot {
     pub p: LocalRow,
     pub kp: LocalRow,
     pub diagonal: Diagonal,
-    pub lifted: u8,
-    pub amount: f64,
+    pub lift: Option<f64>,
     pub rounds: usize,
+}
+
+// D as a call's lists hold it: d, the subdiagonal, and a byte that is 1 where a block begins.
+#[derive(Clone, Copy)]
+pub struct DiagonalLists<'a> {
+    pub d: &'a [f64],
+    pub sub: &'a [f64],
+    pub blocks: &'a [u8],
+}
+
+// The record of pivots as a call's lists hold it: D; the rows exchanged; the lift bytes, the lift amounts, the order.
+// (A function that is lent such a struct promises besides that its buffers stay the same ones; to lend them on it
+// takes each into a local first.)
+#[derive(Drop)]
+pub struct PivotRecord<'a> {
+    pub d: &'a mut [f64],
+    pub sub: &'a mut [f64],
+    pub blocks: &'a mut [u8],
+    pub partners: &'a mut [u16],
+    pub lifts: &'a mut [u8],
+    pub amounts: &'a mut [f64],
+    pub order: &'a mut [usize],
+}
+
+// The nine buffers that a factor call writes.
+#[derive(Drop)]
+pub struct LentBuffers<'a> {
+    pub panel: &'a mut [f64],
+    pub d: &'a mut [f64],
+    pub sub: &'a mut [f64],
+    pub blocks: &'a mut [u8],
+    pub lifts: &'a mut [u8],
+    pub amounts: &'a mut [f64],
+    pub order: &'a mut [usize],
+    pub marks: &'a mut [u8],
+    pub work: &'a mut [f64],
 }
 
 // Counts of positive, negative and zero eigenvalues of D.
@@ -157,7 +194,8 @@ pub struct Report {
 }
 
 // The refusals 1 to 19 and 23 to 27 of docs/REFUSALS.md in order. `numbered` of specs/Answer.antt gives the number and
-// the place of each.
+// the place of each. A check answers Ok(()) or one of these; a call answers Ok with what it accepts with, or one of
+// these.
 #[derive(Clone, Copy)]
 pub enum Refusal {
     Shape,
@@ -184,32 +222,4 @@ pub enum Refusal {
     SolveLength,
     OrderPlace(Elim),
     RightSide(LocalRow),
-}
-
-// What a check says: that it found nothing, or the refusal.
-#[derive(Clone, Copy)]
-pub enum Check {
-    Sound,
-    Refused(Refusal),
-}
-
-// The answer of a factor call.
-#[derive(Clone, Copy)]
-pub enum Factored {
-    Accepted(Report),
-    Refused(Refusal),
-}
-
-// The answer of an inertia call.
-#[derive(Clone, Copy)]
-pub enum Counted {
-    Counts(Tally),
-    Refused(Refusal),
-}
-
-// The answer of an assembly, an update or a solve.
-#[derive(Clone, Copy)]
-pub enum Applied {
-    Done,
-    Refused(Refusal),
 }

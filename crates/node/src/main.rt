@@ -9,18 +9,20 @@ ghost use Rattle.std.specs.Prelude.{◌≤◌, ◌<◌, IsTrue, length, take};
 ghost use Rattle.std.specs.Io.KnownBytes.{Consumes, Appends, IsAtEnd};
 ghost use Rattle.node.specs.Run.{AnswersPart, AnswersAll};
 
-use answer::ROOM;
 use record::LONGEST;
 use std::io::{Read, Write};
+use text::Text;
 
-// What was read into a place: how many bytes stand at its start, and whether no read failed.
+// What was read into a place: how many bytes stand at its start, and whether no read failed. (No Result: the bytes
+// count after a failure too.)
 #[derive(Clone, Copy)]
 struct Filled {
     bytes: usize,
     sound: bool,
 }
 
-// Reads until the place is full, the input ends or a read fails.
+// Reads until the place is full, the input ends or a read fails. (A `while`, since a read brings as many bytes as it
+// likes: no iterator takes such steps.)
 fn read_full<R: Read>(reader: &mut R, place: &mut [u8]) -> Filled
     ensures in_bounds { result.bytes ≤ length place.new }
     ensures bytes { Consumes (R.remaining reader.old) (R.remaining reader.new) (take result.bytes place.new) }
@@ -50,17 +52,15 @@ fn read_full<R: Read>(reader: &mut R, place: &mut [u8]) -> Filled
     }
 }
 
-// Writes the first n bytes of the text, and answers whether all of them were taken. It takes an array, whose type says
-// how many bytes are there.
-fn print<W: Write>(writer: &mut W, text: &[u8; ROOM], n: usize) -> bool
-    requires { n ≤ 32768 }
-    ensures { IsTrue result → Appends (W.contents writer.old) (W.contents writer.new) (take n text.now) }
+// Writes the text, and answers whether all of it was taken.
+fn print<W: Write>(writer: &mut W, text: &Text) -> bool
+    ensures { IsTrue result → Appends (W.contents writer.old) (W.contents writer.new) text.now }
 {
-    let bytes: &[u8] = text;
-    writer.write_all(&bytes[..n]).is_ok()
+    writer.write_all(text.as_slice()).is_ok()
 }
 
-// What a run came to: whether no read failed, and whether all that is printed was taken.
+// What a run came to: whether no read failed, and whether all that is printed was taken. (No Result: either may be so
+// without the other.)
 #[derive(Clone, Copy)]
 struct Ran {
     sound: bool,
@@ -75,11 +75,10 @@ fn run<R: Read, W: Write>(reader: &mut R, writer: &mut W) -> Ran
 {
     let mut stream = [0u8; LONGEST + 1];
     let read = read_full(reader, &mut stream);
-    let mut text = [0u8; ROOM];
-    let written = answer::respond(&stream[..read.bytes], &mut text);
+    let text = answer::respond(&stream[..read.bytes]);
     Ran {
         sound: read.sound,
-        taken: print(writer, &text, written),
+        taken: print(writer, &text),
     }
 }
 

@@ -68,29 +68,26 @@ row_in xs row n m b e h l = omega (arith, ltb-true row n (and_left (ltb row n) _
 
 -- ---- in the order, and back
 
-pub row-there : (order : List ℕ) (k len n : ℕ) → OrderPre order len n → k < n → get_or order k 0 < len
+pub row-there : (order : List ℕ) (k len n : ℕ) → OrderPre order len n → k < length order → get_or order k 0 < len
 unfolding naturals
-row-there order k len n w h = w.rows k h
+row-there order k len n w h = w.rows k (omega (arith, w.count))
 
 pub take_step : (f : Row) (order : List ℕ) (ys vs : List Float) (i n : ℕ) → i < n → length ys ≡ n → vec ys ≡ with_part f 0 i (ordered (naturals order) (vec vs))
     → vec (set ys i (get_or vs (get_or order i 0) nan)) ≡ with_part f 0 (i + 1) (ordered (naturals order) (vec vs))
 unfolding ordered naturals vec
 take_step f order ys vs i n l r e = store f ys i n n _ _ l (omega arith) r e refl
 
-module _ (order : ℕ → ℕ) (x : Row) (n : ℕ) where
-  pub back_none : (b : Row) → returned_from order x (n - 0) 0 b ≡ returned_from order x n 0 b
-  back_none b = let e : n - 0 ≡ n = omega arith in rw e
+pub back_end : (order : List ℕ) (x : Row) (k n len : ℕ) (b w : Row) → OrderPre order len n → length order ≤ k
+    → returned_from (naturals order) x (n - k) k b ≡ w → b ≡ w
+unfolding returned_from
+back_end order x k n len b w o h g = let m : n - k ≡ 0 = omega (arith, o.count) in rw m at g
 
-  pub back_end : (k : ℕ) (b w : Row) → n ≤ k → returned_from order x (n - k) k b ≡ w → b ≡ w
-  unfolding returned_from
-  back_end k b w h g = let m : n - k ≡ 0 = omega arith in rw m at g
-
-pub back_step : (order : List ℕ) (ys bs : List Float) (k n len : ℕ) (w : Row) → OrderPre order len n → length bs ≡ len → k < n
+pub back_step : (order : List ℕ) (ys bs : List Float) (k n len : ℕ) (w : Row) → OrderPre order len n → length bs ≡ len → k < length order
     → returned_from (naturals order) (vec ys) (n - k) k (vec bs) ≡ w
     → returned_from (naturals order) (vec ys) (n - (k + 1)) (k + 1) (vec (set bs (get_or order k 0) (get_or ys k nan))) ≡ w
 unfolding returned_from naturals vec
 back_step order ys bs k n len w o e l g =
-    let m : n - k ≡ suc (n - (k + 1)) = omega arith in
+    let m : n - k ≡ suc (n - (k + 1)) = omega (arith, o.count) in
     let h : get_or order k 0 < length bs = omega (arith, row-there order k len n o l) in
     rw (vec-set bs (get_or order k 0) (get_or ys k nan) h) (value (rw m at g))
   where

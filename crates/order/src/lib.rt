@@ -8,37 +8,32 @@ ghost use Rattle.model.specs.Matrix.{vec, naturals, with_part};
 ghost use Rattle.model.specs.Solve.{check_order, ordered, returned_from};
 ghost use Rattle.order.specs.Order.{OrderPre};
 
-use model::{COLUMNS_MAX, Check, Elim, Refusal};
+use model::{COLUMNS_MAX, Elim, Refusal};
 
 // Whether a row is one of n, and not yet seen.
 fn row_sound(seen: &[u8], row: usize, n: usize) -> bool
     requires { n ≤ length seen.now }
     ensures { result ≡ ltb row n && not (eqb (naturals seen.now row) 1) }
 {
-    if n <= row {
-        return false;
-    }
-    seen[row] != 1
+    row < n && seen[row] != 1
 }
 
 // Refusal 26: the first position that names no row of the node, or one that a position before it has named.
-pub fn first_bad_row(order: &[usize]) -> Check
+pub fn first_bad_row(order: &[usize]) -> Result<(), Refusal>
     requires { length order.now ≤ most_columns }
     ensures { result ≡ check_order (length order.now) (naturals order.now) }
 {
     let n = order.len();
-    // 1 for a row that a position has named
+    // 1 for a row that a position has named: a byte, of which the laws of lists of numbers speak, and an array of the
+    // limit's length, since there is no heap
     let mut seen = [0u8; COLUMNS_MAX];
-    let mut k = 0;
-    while k < n {
-        let row = order[k];
+    for (k, &row) in order.iter().enumerate() {
         if !row_sound(&seen, row, n) {
-            return Check::Refused(Refusal::OrderPlace(Elim(k)));
+            return Err(Refusal::OrderPlace(Elim(k)));
         }
         seen[row] = 1;
-        k += 1;
     }
-    Check::Sound
+    Ok(())
 }
 
 // y takes the vector's numbers in the order.
@@ -47,8 +42,8 @@ pub fn take(vector: &[f64], order: &[usize], y: &mut [f64])
     ensures { vec y.new ≡ with_part (vec y.old) 0 (length y.old)
         (ordered (naturals order.now) (vec vector.now)) }
 {
-    for k in 0..y.len() {
-        let row = order[k];
+    // y by its positions: after a `zip` of its `iter_mut` nothing is known of the numbers
+    for (k, &row) in order.iter().enumerate() {
         y[k] = vector[row];
     }
 }
@@ -59,8 +54,8 @@ pub fn put_back(vector: &mut [f64], order: &[usize], y: &[f64])
     ensures { vec vector.new ≡ returned_from (naturals order.now)
         (vec y.now) (length y.now) 0 (vec vector.old) }
 {
-    for k in 0..y.len() {
-        let row = order[k];
+    // the walk of `take` with its sides exchanged, and so by the positions too
+    for (k, &row) in order.iter().enumerate() {
         vector[row] = y[k];
     }
 }

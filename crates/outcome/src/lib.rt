@@ -8,14 +8,14 @@ ghost use Rattle.model.specs.Answer.{factored_says, counted_says, applied_says};
 ghost use Rattle.outcome.specs.Numbers.{mode_of, refused_as, reported_as};
 ghost use Rattle.outcome.specs.Numbers.{factor_numbers, inertia_numbers, panel_numbers};
 
-use model::{Applied, Counted, Factored, Mode, Tally};
+use model::{Mode, Refusal, Report, Tally};
 use refusal::NumberAndPlace;
 
 // What a call answers. Number 0 is acceptance: a factor call has the rounds of all block lifts and the inertia, an
 // inertia call the inertia, an assembly, an update or a solve neither. Any other is the refusal's, with its place a, b.
 // What a call does not have is 0.
 #[repr(C)]
-#[derive(Clone, Copy)]
+#[derive(Clone, Copy, PartialEq, Eq)]
 pub struct Outcome {
     pub number: usize,
     pub a: usize,
@@ -57,43 +57,49 @@ fn reported_as(rounds: usize, t: Tally) -> Outcome
 }
 
 // Of a factor call.
-pub fn of_factor(answer: Factored) -> Outcome
-    ensures { result ≡ factor_numbers (factored_says answer) }
-{
-    match answer {
-        Factored::Accepted(report) => reported_as(report.rounds, report.inertia),
-        Factored::Refused(why) => refused_as(refusal::numbered(why)),
+impl From<Result<Report, Refusal>> for Outcome {
+    ghost from_gives = { λ answer r. r ≡ factor_numbers (factored_says answer) };
+
+    fn from(answer: Result<Report, Refusal>) -> Outcome {
+        match answer {
+            Ok(report) => reported_as(report.rounds, report.inertia),
+            Err(why) => refused_as(why.into()),
+        }
     }
 }
 
 // Of an inertia call.
-pub fn of_inertia(answer: Counted) -> Outcome
-    ensures { result ≡ inertia_numbers (counted_says answer) }
-{
-    match answer {
-        Counted::Counts(t) => reported_as(0, t),
-        Counted::Refused(why) => refused_as(refusal::numbered(why)),
+impl From<Result<Tally, Refusal>> for Outcome {
+    ghost from_gives = { λ answer r. r ≡ inertia_numbers (counted_says answer) };
+
+    fn from(answer: Result<Tally, Refusal>) -> Outcome {
+        match answer {
+            Ok(t) => reported_as(0, t),
+            Err(why) => refused_as(why.into()),
+        }
     }
 }
 
 // Of an assembly, an update or a solve.
-pub fn of_panel(answer: Applied) -> Outcome
-    ensures { result ≡ panel_numbers (applied_says answer) }
-{
-    match answer {
-        Applied::Done => reported_as(
-            0,
-            Tally {
-                positive: 0,
-                negative: 0,
-                zero: 0,
-            },
-        ),
-        Applied::Refused(why) => refused_as(refusal::numbered(why)),
+impl From<Result<(), Refusal>> for Outcome {
+    ghost from_gives = { λ answer r. r ≡ panel_numbers (applied_says answer) };
+
+    fn from(answer: Result<(), Refusal>) -> Outcome {
+        match answer {
+            Ok(()) => reported_as(
+                0,
+                Tally {
+                    positive: 0,
+                    negative: 0,
+                    zero: 0,
+                },
+            ),
+            Err(why) => refused_as(why.into()),
+        }
     }
 }
 
-// Lift with the floor where the flag is set, else Fail.
+// Lift with the floor where the flag is set, else Fail. (A flag and a floor, and no From: so the C interface has them.)
 pub fn mode_of(lift: bool, floor: f64) -> Mode
     ensures { result ≡ mode_of lift floor }
 {

@@ -19,6 +19,7 @@ use Rattle.grid.specs.Grid.{In}
 use Rattle.grid.specs.Rules.{column_of, LaterPre, RowsPre, ExchangePre}
 use Rattle.swept.specs.Swept.{PairPre}
 use Rattle.swept.specs.declared.Part.{Part}
+use Rattle.swept.specs.declared.Pair.{Pair}
 use Rattle.swept.proofs.Sweeps.{placed, multiplier-in, later-in, exchange-in, own_in}
 use Rattle.pairs.specs.Pairs.{own_by, SweepPre, StepPre}
 
@@ -71,15 +72,14 @@ module _ (kind block : Bool) (at : Part) (kp last len len_m : ℕ) (pre : StepPr
 
 -- ---- two pivots: the exchanges, the first pivot's sweep and the own columns, whatever has been written since
 
-module _ {block1 block2 : Bool} {at : Part} {l f kq len len_m : ℕ} (pre : PairPre block1 block2 at l f kq len len_m) (len' : ℕ)
-    (same : len' ≡ len) where
-  pub first-exchange : (kp : ℕ) → kp < at.columns → ExchangePre at.nrow (l - 1) kp 0 at.rows len'
-  first-exchange kp h = let p = placed pre in exchange-in pre.frame (l - 1) kp len' (omega arith) h same
+module _ {pair : Pair} {len len_m : ℕ} (pre : PairPre pair len len_m) (len' : ℕ) (same : len' ≡ len) where
+  pub first-exchange : (kp : ℕ) → kp < pair.at.columns → ExchangePre pair.at.nrow (pair.l - 1) kp 0 pair.at.rows len'
+  first-exchange kp h = let p = placed pre in exchange-in pre.frame (pair.l - 1) kp len' (omega arith) h same
 
-  pub second-exchange : ExchangePre at.nrow f kq 0 at.rows len'
-  second-exchange = exchange-in pre.frame f kq len' (placed pre).last pre.row same
+  pub second-exchange : ExchangePre pair.at.nrow pair.f pair.kq 0 pair.at.rows len'
+  second-exchange = exchange-in pre.frame pair.f pair.kq len' (placed pre).last pre.row same
 
-  pub first-sweep : (block : Bool) → block ≡ block1 → SweepPre block at l (f + 1) f kq len' len_m
+  pub first-sweep : (block : Bool) → block ≡ pair.block1 → SweepPre block pair.at pair.l (pair.f + 1) pair.f pair.kq len' len_m
   first-sweep block b =
       let p = placed pre in
       record {
@@ -91,15 +91,15 @@ module _ {block1 block2 : Bool} {at : Part} {l f kq len len_m : ℕ} (pre : Pair
         other = pre.row;
       }
 
-  -- by the kinds that were read
-  pub both-sweep : (first second : Bool) → first ≡ block1 → second ≡ block2 → PairPre first second at l f kq len' len_m
+  -- the pair with the kinds that were read
+  pub both-sweep : (first second : Bool) → first ≡ pair.block1 → second ≡ pair.block2 → PairPre (record pair { block1 = first; block2 = second }) len' len_m
   both-sweep first second b1 b2 = rw (same, b1, b2) pre
 
-  pub first-own : RowsPre at.nrow (last_of 0 block1) 0 at.rows len'
-  first-own = let p = placed pre in own_in pre.frame (last_of 0 block1) len' (omega (arith, pre.next)) same
+  pub first-own : RowsPre pair.at.nrow (last_of 0 pair.block1) 0 pair.at.rows len'
+  first-own = let p = placed pre in own_in pre.frame (last_of 0 pair.block1) len' (omega (arith, pre.next)) same
 
-  pub second-own : RowsPre at.nrow (last_of l block2) 0 at.rows len'
-  second-own = let p = placed pre in own_in pre.frame (last_of l block2) len' (omega (arith, pre.last)) same
+  pub second-own : RowsPre pair.at.nrow (last_of pair.l pair.block2) 0 pair.at.rows len'
+  second-own = let p = placed pre in own_in pre.frame (last_of pair.l pair.block2) len' (omega (arith, pre.last)) same
 
 -- ---- a pivot's own columns
 

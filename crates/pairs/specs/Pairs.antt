@@ -4,7 +4,7 @@
 use Rattle.std.specs.Prelude.{ℕ, ◌+◌, ◌<◌, ◌≤◌, Bool}
 use Rattle.model.specs.Scalar.{reciprocal_of}
 use Rattle.model.specs.Matrix.{Row, Mat, with_column}
-use Rattle.model.specs.Step.{Step, one, two, row_after_step}
+use Rattle.model.specs.Step.{Step, one, two, is_block, row_after_step}
 use Rattle.model.specs.Head.{last_of}
 use Rattle.model.specs.declared.Diagonal.{Diagonal}
 use Rattle.model.specs.declared.Diagonal.TheVariants.{One, Two}
@@ -12,11 +12,18 @@ use Rattle.kernels.specs.Rules.{times, combined}
 use Rattle.grid.specs.Rules.{column_of}
 use Rattle.swept.specs.Swept.{PartPre}
 use Rattle.swept.specs.declared.Part.{Part}
+use Rattle.swept.specs.declared.Pair.{Pair}
+use Rattle.pairs.specs.declared.Taken.{Taken}
 
 -- the step of the pivot x at k; of a 1x1 the second multipliers are not read
 abbrev pub step_of : ℕ → ℕ → Diagonal → Row → Row → Step
 step_of k kp (One d) m1 m2 = one k kp d m1
 step_of k kp (Two b) m1 m2 = two k kp b m1 m2
+
+-- two pivots as they were taken, in column 0 and in columns l to f
+abbrev pub pair_of : Part → ℕ → ℕ → Taken → Taken → Pair
+pair_of at l f first second =
+    record { at = at; block1 = is_block first.pivot; block2 = is_block second.pivot; l = l; f = f; kq = second.row }
 
 -- a row after both, the first first
 unfoldable pub row_after_both : ℕ → Step → Step → Row → Row

@@ -13,15 +13,21 @@ ghost use Rattle.model.specs.Head.{last_of};
 ghost use Rattle.grid.specs.Rules.{column_of, RowsPre};
 ghost use Rattle.whole.specs.Whole.{below};
 ghost use Rattle.less.specs.Less.{stepped, stepped_twice};
-ghost use Rattle.swept.specs.Swept.{swept_first, swept_both, PairPre};
-ghost use Rattle.pairs.specs.Pairs.{step_of, row_after_both, own_by, SweepPre, StepPre};
+ghost use Rattle.swept.specs.Swept.{swept_first, swept_pair, PairPre};
+ghost use Rattle.pairs.specs.Pairs.{step_of, pair_of, row_after_both, own_by, SweepPre, StepPre};
 
 use diagonal::is_block;
 use grid::columns;
-use kernels::{FourMultipliers, TwoMultipliers};
 use model::Diagonal;
 use scalar::reciprocal;
-use swept::{Part, multiplier_before, several_next};
+use swept::{Pair, Part, multiplier_before, several_next};
+
+// A pivot as it was taken: its numbers, and the column that its last column was exchanged with.
+#[derive(Clone, Copy)]
+pub struct Taken {
+    pub pivot: Diagonal,
+    pub row: usize,
+}
 
 // Column j less the first pivot's part.
 fn column_first(
@@ -42,7 +48,7 @@ fn column_first(
 {
     let m1 = multiplier_before(mult, at.nb, f, kq, j, 0);
     let m2 = multiplier_before(mult, at.nb, f, kq, j, 1);
-    less::less_step(part, block, at.nrow, at.rows, j, TwoMultipliers(m1, m2));
+    less::less_step(part, block, at.nrow, at.rows, j, [m1, m2]);
 }
 
 // Columns c up to e less the first pivot's part.
@@ -67,80 +73,59 @@ fn sweep_first(
 }
 
 // Column j less the first pivot's part and then the second's.
-fn column_both(
-    part: &mut [f64],
-    mult: &[f64],
-    block1: bool,
-    block2: bool,
-    at: Part,
-    l: usize,
-    f: usize,
-    kq: usize,
-    j: usize,
-)
-    requires pair_pre { PairPre block1 block2 at l f kq (length part.old) (length mult.now) }
-    requires f_lt_j { (f < j) × (j < at.columns) }
-    ensures { view at.nrow part.new
-        ≡ with_column (view at.nrow part.old) j 0 at.rows
-        (stepped_twice block1 block2 (view at.nrow part.old) 0 l j
-        (view at.nb mult.now (exchanged_place f kq j) 0)
-        (view at.nb mult.now (exchanged_place f kq j) 1)
-        (view at.nb mult.now j l) (view at.nb mult.now j (l + 1))) }
+fn column_both(part: &mut [f64], mult: &[f64], pair: Pair, j: usize)
+    requires pair_pre { PairPre pair (length part.old) (length mult.now) }
+    requires f_lt_j { (pair.f < j) × (j < pair.at.columns) }
+    ensures { view pair.at.nrow part.new
+        ≡ with_column (view pair.at.nrow part.old) j 0 pair.at.rows
+        (stepped_twice pair.block1 pair.block2 (view pair.at.nrow part.old) 0 pair.l j
+        (view pair.at.nb mult.now (exchanged_place pair.f pair.kq j) 0)
+        (view pair.at.nb mult.now (exchanged_place pair.f pair.kq j) 1)
+        (view pair.at.nb mult.now j pair.l) (view pair.at.nb mult.now j (pair.l + 1))) }
 {
-    let m1 = multiplier_before(mult, at.nb, f, kq, j, 0);
-    let m2 = multiplier_before(mult, at.nb, f, kq, j, 1);
-    let m3 = grid::get(mult, at.nb, j, l);
-    let m4 = grid::get(mult, at.nb, j, l + 1);
-    let m = FourMultipliers(m1, m2, m3, m4);
-    less::less_both(part, block1, block2, at.nrow, at.rows, l, j, m);
+    let nb = pair.at.nb;
+    let m1 = multiplier_before(mult, nb, pair.f, pair.kq, j, 0);
+    let m2 = multiplier_before(mult, nb, pair.f, pair.kq, j, 1);
+    let m3 = grid::get(mult, nb, j, pair.l);
+    let m4 = grid::get(mult, nb, j, pair.l + 1);
+    let m = [m1, m2, m3, m4];
+    less::less_both(
+        part,
+        pair.block1,
+        pair.block2,
+        pair.at.nrow,
+        pair.at.rows,
+        pair.l,
+        j,
+        m,
+    );
 }
 
 // One turn: several columns from j on, or else column j. The answer is the first column left.
-fn sweep_next(
-    part: &mut [f64],
-    mult: &[f64],
-    block1: bool,
-    block2: bool,
-    at: Part,
-    l: usize,
-    f: usize,
-    kq: usize,
-    j: usize,
-) -> usize
-    requires pair_pre { PairPre block1 block2 at l f kq (length part.old) (length mult.now) }
-    requires f_lt_j { (f < j) × (j < at.columns) }
-    ensures part_after { view at.nrow part.new
-        ≡ swept_both block1 block2 (view at.nrow part.old) (view at.nb mult.now) f kq 0 l
-        j result 0 at.rows }
-    ensures lower_bound { (j < result) × (result ≤ at.columns) }
+fn sweep_next(part: &mut [f64], mult: &[f64], pair: Pair, j: usize) -> usize
+    requires pair_pre { PairPre pair (length part.old) (length mult.now) }
+    requires f_lt_j { (pair.f < j) × (j < pair.at.columns) }
+    ensures part_after { view pair.at.nrow part.new
+        ≡ swept_pair pair (view pair.at.nrow part.old) (view pair.at.nb mult.now) j result }
+    ensures lower_bound { (j < result) × (result ≤ pair.at.columns) }
 {
-    let next = several_next(part, mult, block1, block2, at, l, f, kq, j);
-    if j < next {
+    if let Some(next) = several_next(part, mult, pair, j) {
         return next;
     }
-    column_both(part, mult, block1, block2, at, l, f, kq, j);
+    column_both(part, mult, pair, j);
     j + 1
 }
 
-// The columns after both pivots, less their parts.
-fn sweep_both(
-    part: &mut [f64],
-    mult: &[f64],
-    block1: bool,
-    block2: bool,
-    at: Part,
-    l: usize,
-    f: usize,
-    kq: usize,
-)
-    requires { PairPre block1 block2 at l f kq (length part.old) (length mult.now) }
-    ensures { view at.nrow part.new
-        ≡ swept_both block1 block2 (view at.nrow part.old) (view at.nb mult.now) f kq 0 l
-        (f + 1) at.columns 0 at.rows }
+// The columns after both pivots, less their parts. A turn takes as many columns as the multipliers allow, so the loop
+// has no step that a range could count.
+fn sweep_both(part: &mut [f64], mult: &[f64], pair: Pair)
+    requires { PairPre pair (length part.old) (length mult.now) }
+    ensures { view pair.at.nrow part.new
+        ≡ swept_pair pair (view pair.at.nrow part.old) (view pair.at.nb mult.now) (pair.f + 1) pair.at.columns }
 {
-    let mut j = f + 1;
-    while j < at.columns {
-        j = sweep_next(part, mult, block1, block2, at, l, f, kq, j);
+    let mut j = pair.f + 1;
+    while j < pair.at.columns {
+        j = sweep_next(part, mult, pair, j);
     }
 }
 
@@ -163,32 +148,28 @@ fn own_columns(part: &mut [f64], nrow: usize, rows: usize, k: usize, x: Diagonal
 fn last_column(block: bool) -> usize
     ensures { result ≡ last_of 0 block }
 {
-    if block {
-        return 1;
-    }
-    0
+    usize::from(block)
 }
 
-// The rows below after the step of the pivot x in the part's first columns, which exchanged its last column with kp.
-// in: mult, x / in and out: part
+// The rows below after the step of a pivot in the part's first columns.
+// in: mult, first / in and out: part
 // origin: src/numeric/ldlt/bunch_kaufman.rs, fn apply_bk_panel_trailing
-pub fn below_step(part: &mut [f64], mult: &[f64], at: Part, kp: usize, x: Diagonal)
-    requires { StepPre (is_block x) at kp (length part.old) (length mult.now) }
+pub fn below_step(part: &mut [f64], mult: &[f64], at: Part, first: Taken)
+    requires { StepPre (is_block first.pivot) at first.row (length part.old) (length mult.now) }
     ensures { view at.nrow part.new
         ≡ below 0 at.rows (row_after_step at.columns
-        (step_of 0 kp x (column_of (view at.nb mult.now) 0)
+        (step_of 0 first.row first.pivot (column_of (view at.nb mult.now) 0)
         (column_of (view at.nb mult.now) 1))) (view at.nrow part.old) }
 {
-    let block = is_block(x);
+    let block = is_block(first.pivot);
     let last = last_column(block);
-    columns::exchange(part, at.nrow, last, kp, 0, at.rows);
+    columns::exchange(part, at.nrow, last, first.row, 0, at.rows);
     sweep_first(part, mult, block, at, last + 1, at.columns, last, last);
-    own_columns(part, at.nrow, at.rows, 0, x);
+    own_columns(part, at.nrow, at.rows, 0, first.pivot);
 }
 
-// The rows below after the steps of the pivot x in the part's first columns and, right after it, of the pivot y in
-// columns l to f, which exchanged their last columns with kp and kq.
-// in: mult, x, y / in and out: part
+// The rows below after the steps of a pivot in the part's first columns and, right after it, of one in columns l to f.
+// in: mult, first, second / in and out: part
 // origin: src/numeric/ldlt/bunch_kaufman.rs, fn apply_bk_panel_trailing
 pub fn below_pair(
     part: &mut [f64],
@@ -196,26 +177,30 @@ pub fn below_pair(
     at: Part,
     l: usize,
     f: usize,
-    kp: usize,
-    kq: usize,
-    x: Diagonal,
-    y: Diagonal,
+    first: Taken,
+    second: Taken,
 )
-    requires pair_pre { PairPre (is_block x) (is_block y) at l f kq (length part.old) (length mult.now) }
-    requires kp_lt_columns { kp < at.columns }
+    requires pair_pre { PairPre (pair_of at l f first second) (length part.old) (length mult.now) }
+    requires kp_lt_columns { first.row < at.columns }
     ensures { view at.nrow part.new
         ≡ below 0 at.rows (row_after_both at.columns
-        (step_of 0 kp x (column_of (view at.nb mult.now) 0)
+        (step_of 0 first.row first.pivot (column_of (view at.nb mult.now) 0)
         (column_of (view at.nb mult.now) 1))
-        (step_of l kq y (column_of (view at.nb mult.now) l)
+        (step_of l second.row second.pivot (column_of (view at.nb mult.now) l)
         (column_of (view at.nb mult.now) (l + 1)))) (view at.nrow part.old) }
 {
-    let block1 = is_block(x);
-    let block2 = is_block(y);
-    columns::exchange(part, at.nrow, l - 1, kp, 0, at.rows);
-    columns::exchange(part, at.nrow, f, kq, 0, at.rows);
-    sweep_first(part, mult, block1, at, l, f + 1, f, kq);
-    sweep_both(part, mult, block1, block2, at, l, f, kq);
-    own_columns(part, at.nrow, at.rows, 0, x);
-    own_columns(part, at.nrow, at.rows, l, y);
+    let pair = Pair {
+        at,
+        block1: is_block(first.pivot),
+        block2: is_block(second.pivot),
+        l,
+        f,
+        kq: second.row,
+    };
+    columns::exchange(part, at.nrow, l - 1, first.row, 0, at.rows);
+    columns::exchange(part, at.nrow, f, second.row, 0, at.rows);
+    sweep_first(part, mult, pair.block1, at, l, f + 1, f, second.row);
+    sweep_both(part, mult, pair);
+    own_columns(part, at.nrow, at.rows, 0, first.pivot);
+    own_columns(part, at.nrow, at.rows, l, second.pivot);
 }

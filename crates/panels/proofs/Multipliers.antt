@@ -20,9 +20,10 @@ use Rattle.model.specs.declared.Mode.TheVariants.{Fail, Lift}
 use Rattle.model.specs.declared.Choice.{Choice}
 use Rattle.model.specs.declared.Choice.TheVariants as choice
 use Rattle.model.specs.declared.OneSettled.{OneSettled}
-use Rattle.model.specs.declared.OneSettled.TheVariants.{Zero, Number}
 use Rattle.model.specs.declared.TwoSettled.{TwoSettled}
-use Rattle.model.specs.declared.TwoSettled.TheVariants.{Low, OutOfRounds, Numbers}
+use Rattle.model.specs.declared.Unfit.{Unfit}
+use Rattle.model.specs.declared.Unfit.TheVariants.{Low, OutOfRounds}
+use Rattle.std.specs.Prelude.{Option, Some, None, Result, Ok, Err}
 use Rattle.model.proofs.Cases.{test, cmp}
 use Rattle.model.proofs.Recorded.{last-from}
 use Rattle.whole.specs.Whole.{below, whole_closed, deferred_rows, whole_passed}
@@ -144,16 +145,16 @@ module _ (nrow ncol kb ke : ℕ) where
     abbrev Alike : Mat → Tried → Tried → Type 0
     Alike s t u = onward nrow ncol kb ke (after t (at s m p r) k f) ≡ onward nrow ncol kb ke (after u (at s n p r) k f)
 
-    one_alike : (s a : Mat) (kp : ℕ) (d : OneSettled) → Alike s (after_one ke a m k kp d) (after_one ke a n k kp d)
+    one_alike : (s a : Mat) (kp : ℕ) (d : Option OneSettled) → Alike s (after_one ke a m k kp d) (after_one ke a n k kp d)
     unfolding noted last_of
-    one_alike s a kp Zero = refl
-    one_alike s a kp (Number d l x) = more false _ _ _ _ _ (kept-one kb ke k p.diagonals.blocks m n (exchanged k kp ke a) kept d)
+    one_alike s a kp None = refl
+    one_alike s a kp (Some o) = more false _ _ _ _ _ (kept-one kb ke k p.diagonals.blocks m n (exchanged k kp ke a) kept o.d)
 
-    two-alike : (s a : Mat) (q kp : ℕ) (d : TwoSettled) → Alike s (after_two ke a m k q kp d) (after_two ke a n k q kp d)
+    two-alike : (s a : Mat) (q kp : ℕ) (d : Result TwoSettled Unfit) → Alike s (after_two ke a m k q kp d) (after_two ke a n k q kp d)
     unfolding noted last_of
-    two-alike s a q kp Low = refl
-    two-alike s a q kp OutOfRounds = refl
-    two-alike s a q kp (Numbers b l x z) = more true _ _ _ _ _ (kept-two kb ke k p.diagonals.blocks m n (exchanged (k + 1) kp ke a) kept b)
+    two-alike s a q kp (Err Low) = refl
+    two-alike s a q kp (Err OutOfRounds) = refl
+    two-alike s a q kp (Ok o) = more true _ _ _ _ _ (kept-two kb ke k p.diagonals.blocks m n (exchanged (k + 1) kp ke a) kept o.block)
 
     by_alike : (a : Mat) (mode : Mode) (limit : ℕ) (c : Choice) → Alike a (try_by ke a m mode limit k c) (try_by ke a n mode limit k c)
     by_alike a Fail limit choice.ZeroColumn = refl

@@ -1,9 +1,10 @@
 -- The loop over panels: a turn taken off the front of the run, and what the loop has at its end. Assumes nothing.
-use mathlib.Core.Path.{◌≡◌, refl, sym, ◌∙◌, ap, subst}
+use mathlib.Core.Path.{◌≡◌, refl, sym, ◌∙◌, ap}
 use Prim.Native.Nat.{ℕ, zero, suc, ◌+◌, ◌-◌, ◌≤◌, ◌<◌, min}
 use native.Mathlib.Omega.{arith}
 use borrow.Author.Tests.{lt-ltb, le-ltb, ltb-true}
 use lib.Dec.{ltb}
+use Rattle.model.specs.Step.{Pivots}
 use Rattle.model.specs.Head.{State, Progress, stopped, going, panel_of}
 use Rattle.model.specs.declared.Pivoting.{Pivoting}
 use Rattle.model.specs.declared.Settings.{Settings}
@@ -12,10 +13,9 @@ use Rattle.model.proofs.Cases.{test}
 use Rattle.whole.specs.Whole.{WholeRun, ended, whole_continued, whole_closed, whole_passed, whole_panels_of}
 use Rattle.panels.specs.Turn.{onward, turn_of}
 use Rattle.bunch_kaufman.specs.Answers.{progress}
-use Rattle.bunch_kaufman.specs.Terms.{NotedTo, RanTo}
-use Rattle.panels.specs.Run.{run_of, RunPre, TurnPre, TurnHolds}
-use Rattle.bunch_kaufman.specs.declared.Ran.{Ran}
-use Rattle.bunch_kaufman.specs.declared.Ran.TheVariants.{Stopped, Done}
+use Rattle.bunch_kaufman.specs.Terms.{NotedTo, PanelNoted}
+use Rattle.panels.specs.Run.{run_of, RunPre, TurnPre}
+use Rattle.std.specs.Prelude.{Ok, Err}
 
 module _ (how : Pivoting) (nrow ncol nb : ℕ) (some : 1 ≤ nb) where
   -- the run from kb on, with just the panels that are left
@@ -64,22 +64,15 @@ module _ (how : Pivoting) (nrow ncol nb : ℕ) (some : 1 ≤ nb) where
       ∙ ap (λ (z : ℕ). whole_continued (onward nrow ncol kb z (panel_of z how (z - kb) kb s)) (λ t. run_from z t)) (sym e))
 
   -- the loop goes on, stops, or is done
-  pub run_more : (kb ke n : ℕ) (s : State) (f : ℕ → State) (ran : Ran) (r : WholeRun)
-      → run_from kb s ≡ r → kb < ncol → ke ≡ min (kb + nb) ncol
-      → progress ran ke f ≡ turn_of how nrow ncol kb ke s → ran ≡ Done n → run_from ke (f n) ≡ r
+  pub run_more : (kb ke n : ℕ) (s : State) (f : ℕ → State) (r : WholeRun) → run_from kb s ≡ r → kb < ncol → ke ≡ min (kb + nb) ncol
+      → progress (Ok n) ke f ≡ turn_of how nrow ncol kb ke s → run_from ke (f n) ≡ r
   unfolding progress
-  run_more kb ke n s f ran r e h w u v =
-      sym (ap (λ (p : Progress). whole_continued p (λ x. run_from ke x)) (sym u ∙ ap (λ (x : Ran). progress x ke f) v))
-      ∙ sym (run-open kb ke s h w) ∙ e
+  run_more kb ke n s f r e h w u = sym (ap (λ (p : Progress). whole_continued p (λ x. run_from ke x)) (sym u)) ∙ sym (run-open kb ke s h w) ∙ e
 
-  pub run-stop : (kb ke : ℕ) (s : State) (f g : ℕ → State) (ran : Ran) (x : Refusal) (r : WholeRun)
-      → run_from kb s ≡ r → kb < ncol → ke ≡ min (kb + nb) ncol
-      → progress ran ke f ≡ turn_of how nrow ncol kb ke s → ran ≡ Stopped x → run_of ran g ≡ r
+  pub run-stop : (kb ke : ℕ) (s : State) (f g : ℕ → State) (x : Refusal) (r : WholeRun) → run_from kb s ≡ r → kb < ncol → ke ≡ min (kb + nb) ncol
+      → progress (Err x) ke f ≡ turn_of how nrow ncol kb ke s → run_of (Err x) g ≡ r
   unfolding progress
-  run-stop kb ke s f g ran x r e h w u v =
-      ap (λ (y : Ran). run_of y g) v
-      ∙ sym (ap (λ (q : Progress). whole_continued q (λ y. run_from ke y)) (sym u ∙ ap (λ (y : Ran). progress y ke f) v))
-      ∙ sym (run-open kb ke s h w) ∙ e
+  run-stop kb ke s f g x r e h w u = sym (ap (λ (p : Progress). whole_continued p (λ y. run_from ke y)) (sym u)) ∙ sym (run-open kb ke s h w) ∙ e
 
   pub run-done : (kb : ℕ) (s : State) (r : WholeRun) → run_from kb s ≡ r → ncol ≤ kb → ended s ≡ r
   unfolding whole_panels_of
@@ -108,27 +101,13 @@ turn-pre c kb ke len len_w len₀ len_w₀ r e f h w =
       work = omega (arith, r.work);
     }
 
-pub holds_same : (nrow ncol ld ls lb lp ll la lo ld₀ ls₀ lb₀ lp₀ ll₀ la₀ lo₀ : ℕ) → TurnHolds nrow ncol ld₀ ls₀ lb₀ lp₀ ll₀ la₀ lo₀
-    → ld ≡ ld₀ → ls ≡ ls₀ → lb ≡ lb₀ → lp ≡ lp₀ → ll ≡ ll₀ → la ≡ la₀ → lo ≡ lo₀ → TurnHolds nrow ncol ld ls lb lp ll la lo
-holds_same nrow ncol ld ls lb lp ll la lo ld₀ ls₀ lb₀ lp₀ ll₀ la₀ lo₀ h e1 e2 e3 e4 e5 e6 e7 = rw (e1, e2, e3, e4, e5, e6, e7) h
-
 -- the notes of a panel, as the next one begins with them
-pub noted_more : (k ke ke' rounds : ℕ) (blocks partners : ℕ → ℕ) → NotedTo k ke rounds blocks partners → ke ≤ ke'
-    → NotedTo k ke' rounds blocks partners
-noted_more k ke ke' rounds blocks partners w h =
+pub noted_more : (k ke ke' rounds : ℕ) (p : Pivots) → NotedTo k ke rounds p → ke ≤ ke' → NotedTo k ke' rounds p
+noted_more k ke ke' rounds p w h =
     record { few = w.few; pair = λ c e. omega (arith, w.pair c e); partner = λ c. omega (arith, w.partner c); recorded = w.recorded }
 
-pub done-leaves : (kb ke rounds : ℕ) (r : Ran) (blocks partners : ℕ → ℕ) → RanTo kb ke r blocks partners → r ≡ Done rounds
-    → NotedTo ke (ke + 1) rounds blocks partners
-done-leaves kb ke rounds r blocks partners w e =
-    let v = subst (λ (x : Ran). RanTo kb ke x blocks partners) e w in
-    noted_more ke ke (ke + 1) rounds blocks partners v.noted (omega arith)
+pub done-leaves : (kb ke rounds : ℕ) (p : Pivots) → PanelNoted kb ke rounds p → NotedTo ke (ke + 1) rounds p
+done-leaves kb ke rounds p w = noted_more ke ke (ke + 1) rounds p w.noted (omega arith)
 
 pub begun : (ncol nb kb ke : ℕ) → 1 ≤ nb → kb < ncol → ke ≡ min (kb + nb) ncol → kb + 1 ≤ ke
 begun ncol nb kb ke some h e = omega arith
-
-pub further : (ncol nb kb ke : ℕ) → 1 ≤ nb → kb < ncol → ke ≡ min (kb + nb) ncol → ncol - ke < ncol - kb
-further ncol nb kb ke some h e = omega arith
-
-pub inside : (ncol nb kb ke : ℕ) → ke ≡ min (kb + nb) ncol → ke ≤ ncol
-inside ncol nb kb ke e = omega arith

@@ -1,7 +1,7 @@
 -- One panel's turn: the working buffer's first part as the multipliers, the rows below, the later columns. Assumes nothing.
 use mathlib.Core.Path.{◌≡◌, sym, ◌∙◌, ap, subst, fun_ext}
 use mathlib.Core.List.{List}
-use Prim.Native.Nat.{ℕ, ◌+◌, ◌-◌, ◌*◌, ◌≤◌, min}
+use Prim.Native.Nat.{ℕ, ◌+◌, ◌-◌, ◌*◌, ◌<◌, ◌≤◌, min}
 use native.Mathlib.Omega.{arith}
 use native.Mathlib.Nat.{mul-le-mul_right, mul-le-mul_left, mul_comm}
 use borrow.Author.Tests.{le-ltb, leb-true}
@@ -11,7 +11,8 @@ use lib.ListN.{length, take, drop}
 use lib.Seq.{length-take-le, take_at}
 use lib.Ieee.{Float}
 use Rattle.model.specs.Matrix.{Mat, view, naturals, within}
-use Rattle.model.specs.Step.{Diagonals, Pivots, row_after_steps}
+use Rattle.model.specs.Sizes.{most_columns}
+use Rattle.model.specs.Step.{Diagonals, Pivots, SameRecord, row_after_steps}
 use Rattle.model.specs.Panel.{row_deferred}
 use Rattle.model.specs.Head.{State, going, panel_of, blank}
 use Rattle.model.specs.Factor.{work_length}
@@ -24,13 +25,14 @@ use Rattle.eliminate.specs.Eliminate.{in_panel}
 use Rattle.tail.specs.Tail.{TailPre, StepsPre}
 use Rattle.deferred.specs.Deferred.{DeferredPre}
 use Rattle.bunch_kaufman.specs.Slices.{state}
-use Rattle.bunch_kaufman.specs.Answers.{progress}
+use Rattle.bunch_kaufman.specs.Answers.{Ran, progress}
 use Rattle.step.specs.Terms.{PanelPre}
-use Rattle.bunch_kaufman.specs.Terms.{NotesPre, PanelNoted, RanTo}
+use Rattle.bunch_kaufman.specs.Terms.{NotesPre, PanelNoted}
 use Rattle.panels.specs.Turn.{between, onward, turn_of}
 use Rattle.panels.specs.Run.{TurnPre, DiagonalsHold, TurnHolds}
-use Rattle.bunch_kaufman.specs.declared.Ran.{Ran}
-use Rattle.bunch_kaufman.specs.declared.Ran.TheVariants.{Stopped, Done}
+use Rattle.model.specs.declared.DiagonalLists.{DiagonalLists}
+use Rattle.model.specs.declared.PivotRecord.{PivotRecord}
+use Rattle.std.specs.Prelude.{Ok, Err}
 
 -- ---- the first n numbers of the working buffer, lent
 
@@ -65,26 +67,25 @@ panel-pre at len ws t =
       width = t.width;
     }
 
-pub holds-ke : (at : Frame) (len len_w ld ls lb lp ll la lo : ℕ) → TurnPre at len len_w → TurnHolds at.nrow at.ncol ld ls lb lp ll la lo
-    → NotesPre at.ke ld ls lb lp ll la lo
-holds-ke at len len_w ld ls lb lp ll la lo t h =
+pub holds-ke : (at : Frame) (len len_w : ℕ) (r : PivotRecord) → TurnPre at len len_w → TurnHolds at.nrow at.ncol r → NotesPre at.ke r
+holds-ke at len len_w r t h =
     let cols = t.cols in
     let head = t.head in
     let few = t.few_columns in
-    let D = h.diagonals in
     record {
-      d = omega (arith, D.d);
-      sub = omega (arith, D.sub);
-      blocks = omega (arith, D.blocks);
-      partners = omega (arith, D.partners);
+      d = omega (arith, h.d);
+      sub = omega (arith, h.sub);
+      blocks = omega (arith, h.blocks);
+      partners = omega (arith, h.partners);
       lifts = omega (arith, h.lifts);
       amounts = omega (arith, h.amounts);
       order = omega (arith, h.order);
     }
 
-pub tail-pre : (at : Frame) (len ld ls lb lp : ℕ) (ws : List Float) → TurnPre at len (length ws) → DiagonalsHold at.ncol ld ls lb lp
-    → TailPre at.nrow at.ncol at.nb at.kb at.ke len (length (mid_of 0 (at.nb * at.nb - 0) ws)) ld ls lb lp
-tail-pre at len ld ls lb lp ws t D =
+pub tail-pre : (at : Frame) (len lp : ℕ) (x : DiagonalLists) (ws : List Float) → TurnPre at len (length ws) → DiagonalsHold at.ncol x → lp ≡ most_columns
+    → TailPre at.nrow at.ncol at.nb at.kb at.ke len (length (mid_of 0 (at.nb * at.nb - 0) ws))
+    (length x.d.now) (length x.sub.now) (length x.blocks.now) lp
+tail-pre at len lp x ws t D e =
     let cols = t.cols in
     let few = t.few_columns in
     record {
@@ -96,7 +97,7 @@ tail-pre at len ld ls lb lp ws t D =
       in_d = omega (arith, D.d);
       in_sub = omega (arith, D.sub);
       in_blocks = omega (arith, D.blocks);
-      in_partners = omega (arith, D.partners);
+      in_partners = omega arith;
     }
 
 wide_fits : (nrow nb len : ℕ) → work_length nrow nb ≤ len → nb * nrow ≤ len
@@ -105,10 +106,10 @@ wide_fits nrow nb len h =
     let b : nrow * (nb + 1) ≤ 3 * nrow * (nb + 1) = mul-le-mul_right (nb + 1) (omega arith) in
     omega (arith, mul_comm nb nrow)
 
-pub deferred-pre : (at : Frame) (len ld ls lp : ℕ) (ws : List Float) (blocks partners : List ℕ) → TurnPre at len (length ws)
-    → DiagonalsHold at.ncol ld ls (length blocks) lp → StepsPre at.kb at.ke (naturals blocks) (naturals partners)
-    → DeferredPre at.nrow at.ncol at.kb at.ke (length (mid_of 0 (at.nb * at.nrow - 0) ws)) len ld ls blocks
-deferred-pre at len ld ls lp ws blocks partners t D s =
+pub deferred-pre : (at : Frame) (len : ℕ) (x : DiagonalLists) (ws : List Float) → TurnPre at len (length ws)
+    → DiagonalsHold at.ncol x → (naturals x.blocks.now (at.ke - 1) ≡ 1 → ⊥)
+    → DeferredPre at.nrow at.ncol at.kb at.ke (length (mid_of 0 (at.nb * at.nrow - 0) ws)) len (length x.d.now) (length x.sub.now) x.blocks.now
+deferred-pre at len x ws t D s =
     let cols = t.cols in
     let here = t.here in
     let width = t.width in
@@ -121,7 +122,7 @@ deferred-pre at len ld ls lp ws blocks partners t D s =
       pivots = omega (arith, D.d);
       subs = omega (arith, D.sub);
       flags = omega (arith, D.blocks);
-      closed = λ h. omega (arith, s.pair (at.ke - 1) (omega arith) h);
+      closed = s;
     }
   where
     out : (at.ke - at.kb) * at.nrow ≤ length (mid_of 0 (at.nb * at.nrow - 0) ws)
@@ -158,25 +159,23 @@ deferred-none nrow ncol D kb ke a e =
     (λ t. rw t (fun_ext λ c. test (leb ke c) (λ u. rw (u, le-ltb c (min (i + 1) ncol) (omega (arith, leb-true ke c u)))) (λ u. rw u)))
     (λ t. rw t)
 
-pub turn_stopped : (how : Pivoting) (nrow ncol kb ke : ℕ) (r : Ran) (x : Refusal) (f g : ℕ → State) (s : State)
-    → progress r ke f ≡ panel_of ke how (ke - kb) kb s → r ≡ Stopped x
-    → progress r ke g ≡ turn_of how nrow ncol kb ke s
+pub turn_stopped : (how : Pivoting) (nrow ncol kb ke : ℕ) (x : Refusal) (f g : ℕ → State) (s : State)
+    → progress (Err x) ke f ≡ panel_of ke how (ke - kb) kb s → progress (Err x) ke g ≡ turn_of how nrow ncol kb ke s
 unfolding turn_of progress
-turn_stopped how nrow ncol kb ke r x f g s h e =
-    ap (λ (y : Ran). progress y ke g) e ∙ ap (onward nrow ncol kb ke) (sym (ap (λ (y : Ran). progress y ke f) e) ∙ h)
+turn_stopped how nrow ncol kb ke x f g s h = ap (onward nrow ncol kb ke) h
 
-pub turn-done : (how : Pivoting) (at : Frame) (rounds : ℕ) (r : Ran) (a a₂ a₃ w : List Float) (p : Pivots) (t : State)
-    → progress r at.ke (state at a w p) ≡ panel_of at.ke how (at.ke - at.kb) at.kb t → r ≡ Done rounds
+pub turn-done : (how : Pivoting) (at : Frame) (rounds : ℕ) (a a₂ a₃ w : List Float) (p : Pivots) (t : State)
+    → progress (Ok rounds) at.ke (state at a w p) ≡ panel_of at.ke how (at.ke - at.kb) at.kb t
     → view at.nrow a₂
     ≡ below at.ke at.nrow (row_after_steps p.diagonals p.partners (in_panel at.kb at.ke (view at.nb w)) at.ke (at.ke - at.kb) at.kb)
     (view at.nrow a)
     → view at.nrow a₃ ≡ deferred_rows at.nrow at.ncol p.diagonals at.kb at.ke (view at.nrow a₂)
-    → progress (Done rounds) at.ke (between at.nrow a₃ p) ≡ turn_of how at.nrow at.ncol at.kb at.ke t
+    → progress (Ok rounds) at.ke (between at.nrow a₃ p) ≡ turn_of how at.nrow at.ncol at.kb at.ke t
 unfolding turn_of whole_passed whole_closed progress
-turn-done how at rounds r a a₂ a₃ w p t h e e₂ e₃ =
+turn-done how at rounds a a₂ a₃ w p t h e₂ e₃ =
     ap (λ (x : Mat). going at.ke (record { a = x; mult = blank; pivots = p; rounds = rounds }))
     (e₃ ∙ ap (deferred_rows at.nrow at.ncol p.diagonals at.kb at.ke) e₂)
-    ∙ ap (onward at.nrow at.ncol at.kb at.ke) (sym (ap (λ (y : Ran). progress y at.ke (state at a w p)) e) ∙ h)
+    ∙ ap (onward at.nrow at.ncol at.kb at.ke) h
 
 -- ---- between the calls of a turn
 
@@ -184,16 +183,22 @@ turn-done how at rounds r a a₂ a₃ w p t h e e₂ e₃ =
 pub sizes-kept : (at : Frame) (len len_w len' len_w' : ℕ) → TurnPre at len len_w → len' ≡ len → len_w' ≡ len_w → TurnPre at len' len_w'
 sizes-kept at len len_w len' len_w' t e ew = rw (e, ew) t
 
-pub diagonals-kept : (ncol ld ls lb lp ld' ls' lb' lp' : ℕ) → DiagonalsHold ncol ld ls lb lp → ld' ≡ ld → ls' ≡ ls → lb' ≡ lb → lp' ≡ lp
-    → DiagonalsHold ncol ld' ls' lb' lp'
-diagonals-kept ncol ld ls lb lp ld' ls' lb' lp' D ed es eb ep = rw (ed, es, eb, ep) D
+pub holds-kept : (nrow ncol : ℕ) (x y : PivotRecord) → TurnHolds nrow ncol x → SameRecord x y → TurnHolds nrow ncol y
+holds-kept nrow ncol x y h s = record {
+  d = s.d.count ∙ h.d;
+  sub = s.sub.count ∙ h.sub;
+  blocks = s.blocks.count ∙ h.blocks;
+  partners = s.partners.count ∙ h.partners;
+  lifts = s.lifts.count ∙ h.lifts;
+  amounts = s.amounts.count ∙ h.amounts;
+  order = s.order.count ∙ h.order;
+}
 
-pub leaves-done : (kb ke rounds : ℕ) (r : Ran) (blocks partners : ℕ → ℕ) → RanTo kb ke r blocks partners → r ≡ Done rounds
-    → PanelNoted kb ke rounds blocks partners
-leaves-done kb ke rounds r blocks partners w e = subst (λ (x : Ran). RanTo kb ke x blocks partners) e w
+-- what the rows below and the later columns ask of the steps before them
+pub steps-pre : (kb ke rounds : ℕ) (p : Pivots) → PanelNoted kb ke rounds p → StepsPre kb ke p.diagonals.blocks p.partners
+steps-pre kb ke rounds p w =
+    let n = w.noted in
+    record { pair = λ k h f. n.pair k f; partner = λ k h. n.partner k; recorded = n.recorded; start = w.start }
 
-pub steps-pre : (kb ke rounds : ℕ) (r : Ran) (blocks partners : ℕ → ℕ) → RanTo kb ke r blocks partners → r ≡ Done rounds → StepsPre kb ke blocks partners
-steps-pre kb ke rounds r blocks partners w e =
-    let p = leaves-done kb ke rounds r blocks partners w e in
-    let n = p.noted in
-    record { pair = λ k h f. n.pair k f; partner = λ k h. n.partner k; recorded = n.recorded; start = p.start }
+pub closed-pre : (kb ke rounds : ℕ) (p : Pivots) → PanelNoted kb ke rounds p → kb < ke → p.diagonals.blocks (ke - 1) ≡ 1 → ⊥
+closed-pre kb ke rounds p w h e = omega (arith, w.noted.pair (ke - 1) e)

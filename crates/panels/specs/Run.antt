@@ -1,19 +1,20 @@
--- What the functions ask of their callers, and a run's declared answer in the whole panel's words. Definitions only. Assumes nothing.
-use Rattle.std.specs.Prelude.{◌≡◌, ℕ, ◌+◌, ◌*◌, ◌≤◌, ◌<◌}
+-- What the functions ask of their callers, and a run's answer in the whole panel's words. Definitions only. Assumes nothing.
+use Rattle.std.specs.Prelude.{◌≡◌, ℕ, ◌+◌, ◌*◌, ◌≤◌, ◌<◌, length, Ok, Err}
 use Rattle.model.specs.Sizes.{most_columns, most_rows, widest_panel}
 use Rattle.model.specs.Head.{State}
 use Rattle.model.specs.Factor.{work_length}
 use Rattle.model.specs.declared.Frame.{Frame}
 use Rattle.model.specs.declared.Settings.{Settings}
+use Rattle.model.specs.declared.DiagonalLists.{DiagonalLists}
+use Rattle.model.specs.declared.PivotRecord.{PivotRecord}
 use Rattle.whole.specs.Whole.{WholeRun, stopped_by, ended}
 use Rattle.step.specs.Terms.{LimitPre}
-use Rattle.bunch_kaufman.specs.declared.Ran.{Ran}
-use Rattle.bunch_kaufman.specs.declared.Ran.TheVariants.{Stopped, Done}
+use Rattle.bunch_kaufman.specs.Answers.{Ran}
 
 -- the state that the run leaves, by its rounds
 abbrev pub run_of : Ran → (ℕ → State) → WholeRun
-run_of (Stopped r) s = stopped_by r
-run_of (Done rounds) s = ended (s rounds)
+run_of (Err r) s = stopped_by r
+run_of (Ok rounds) s = ended (s rounds)
 
 -- shape, width and limit past the entry checks; the width is the one that is used
 pub record RunPre (c : Settings) (len len_w : ℕ) : Type 0 where
@@ -38,16 +39,18 @@ pub record TurnPre (at : Frame) (len len_w : ℕ) : Type 0 where
   pub width : at.ke ≤ at.kb + at.nb
   pub work : work_length at.nrow at.nb ≤ len_w
 
--- the buffers of D and of the exchanges
-pub record DiagonalsHold (ncol ld ls lb lp : ℕ) : Type 0 where
-  pub d : ld ≡ ncol
-  pub sub : ls ≡ ncol
-  pub blocks : lb ≡ ncol
-  pub partners : lp ≡ most_columns
+-- the lists of D
+pub record DiagonalsHold (ncol : ℕ) (x : DiagonalLists) : Type 0 where
+  pub d : length x.d.now ≡ ncol
+  pub sub : length x.sub.now ≡ ncol
+  pub blocks : length x.blocks.now ≡ ncol
 
--- and those of the notes
-pub record TurnHolds (nrow ncol ld ls lb lp ll la lo : ℕ) : Type 0 where
-  pub diagonals : DiagonalsHold ncol ld ls lb lp
-  pub lifts : ll ≡ ncol
-  pub amounts : la ≡ ncol
-  pub order : lo ≡ nrow
+-- the buffers of the record of pivots
+pub record TurnHolds (nrow ncol : ℕ) (r : PivotRecord) : Type 0 where
+  pub d : length r.d.now ≡ ncol
+  pub sub : length r.sub.now ≡ ncol
+  pub blocks : length r.blocks.now ≡ ncol
+  pub partners : length r.partners.now ≡ most_columns
+  pub lifts : length r.lifts.now ≡ ncol
+  pub amounts : length r.amounts.now ≡ ncol
+  pub order : length r.order.now ≡ nrow

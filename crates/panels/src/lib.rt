@@ -1,12 +1,12 @@
 // The panels of a node in turn: of each its steps, the rows below it, the later columns. A reader may rely on the
 // contract of `panels`: what it leaves in the lent buffers is `whole_panels_of` of crates/whole/specs/Whole.antt, the
-// model's run over all rows, or the refusal that stopped it. Each function passes the buffers on by one or two calls.
+// model's run over all rows, or the refusal that stopped it.
 #![tactic(auto)]
 
 ghost use Rattle.std.specs.Prelude.{◌≡◌, ◌+◌, ◌-◌, ◌*◌, ◌≤◌, min, length, take};
 ghost use Rattle.model.specs.Sizes.{most_columns, widest_panel};
 ghost use Rattle.model.specs.Matrix.{view, naturals};
-ghost use Rattle.model.specs.Step.{diagonals_of, pivots_of, row_after_steps};
+ghost use Rattle.model.specs.Step.{diagonals_in, recorded_in, SameRecord, row_after_steps};
 ghost use Rattle.model.specs.Head.{panel_of};
 ghost use Rattle.model.specs.Factor.{pivoting_of};
 ghost use Rattle.whole.specs.Whole.{below, deferred_rows, whole_panels_of};
@@ -19,19 +19,15 @@ ghost use Rattle.step.specs.Terms.{LimitPre};
 ghost use Rattle.panels.specs.Turn.{between, turn_of};
 ghost use Rattle.panels.specs.Run.{run_of, RunPre, TurnPre, DiagonalsHold, TurnHolds};
 
-use bunch_kaufman::Ran;
-use model::{Frame, Pivoting, Settings};
+use model::{DiagonalLists, Frame, PivotRecord, Pivoting, Refusal, Settings};
+use tail::Steps;
 
 // Where the panel that begins at kb ends.
 fn panel_end(kb: usize, nb: usize, ncol: usize) -> usize
     requires { (kb ≤ most_columns) × (nb ≤ widest_panel) }
     ensures { result ≡ min (kb + nb) ncol }
 {
-    let end = kb + nb;
-    if end < ncol {
-        return end;
-    }
-    ncol
+    ncol.min(kb + nb)
 }
 
 // The panel's steps. The working buffer begins with the multipliers: any may stand there before; those that the rows
@@ -39,195 +35,127 @@ fn panel_end(kb: usize, nb: usize, ncol: usize) -> usize
 fn steps(
     panel: &mut [f64],
     work: &mut [f64],
-    d: &mut [f64],
-    sub: &mut [f64],
-    blocks: &mut [u8],
-    partners: &mut [u16],
-    lifts: &mut [u8],
-    amounts: &mut [f64],
-    order: &mut [usize],
+    r: &mut PivotRecord,
     at: Frame,
     how: Pivoting,
     before: usize,
-) -> Ran
+) -> Result<usize, Refusal>
     requires turn_pre { TurnPre at (length panel.old) (length work.old) }
-    requires turn_holds { TurnHolds at.nrow at.ncol (length d.old) (length sub.old) (length blocks.old)
-        (length partners.old) (length lifts.old) (length amounts.old) (length order.old) }
+    requires turn_holds { TurnHolds at.nrow at.ncol r.old }
     requires limit_pre { LimitPre how.mode how.limit }
-    requires noted_to { NotedTo at.kb at.ke before (naturals blocks.old) (naturals partners.old) }
-    ensures order_after { progress result at.ke (state at panel.new (take (at.nb * at.nb) work.new)
-        (pivots_of d.new sub.new blocks.new partners.new lifts.new
-        amounts.new order.new))
+    requires noted_to { NotedTo at.kb at.ke before (recorded_in r.old) }
+    ensures same { SameRecord r.old r.new }
+    ensures run { progress result at.ke (state at panel.new (take (at.nb * at.nb) work.new) (recorded_in r.new))
         ≡ panel_of at.ke how (at.ke - at.kb) at.kb (state at panel.old
-        (take (at.nb * at.nb) work.old)
-        (pivots_of d.old sub.old blocks.old partners.old
-        lifts.old amounts.old order.old) before) }
-    ensures ran_to { RanTo at.kb at.ke result (naturals blocks.new) (naturals partners.new) }
+        (take (at.nb * at.nb) work.old) (recorded_in r.old) before) }
+    ensures ran_to { RanTo at.kb at.ke result (recorded_in r.new) }
 {
-    let nb = at.nb;
-    let square = nb * nb;
-    bunch_kaufman::ll_bk_panel_step(
-        panel,
-        &mut work[0..square],
-        d,
-        sub,
-        blocks,
-        partners,
-        lifts,
-        amounts,
-        order,
-        at,
-        how,
-        before,
-    )
+    let square = at.nb * at.nb;
+    bunch_kaufman::ll_bk_panel_step(panel, &mut work[0..square], r, at, how, before)
 }
 
 // The rows below the panel, by its steps.
-fn rows_below(
-    panel: &mut [f64],
-    work: &[f64],
-    d: &[f64],
-    sub: &[f64],
-    blocks: &[u8],
-    partners: &[u16],
-    at: Frame,
-)
+fn rows_below(panel: &mut [f64], work: &[f64], diagonal: DiagonalLists, partners: &[u16], at: Frame)
     requires turn_pre { TurnPre at (length panel.old) (length work.now) }
-    requires diagonals_hold { DiagonalsHold at.ncol (length d.now) (length sub.now) (length blocks.now)
-        (length partners.now) }
-    requires steps_pre { StepsPre at.kb at.ke (naturals blocks.now) (naturals partners.now) }
+    requires diagonals_hold { DiagonalsHold at.ncol diagonal }
+    requires partners_hold { length partners.now ≡ most_columns }
+    requires steps_pre { StepsPre at.kb at.ke (naturals diagonal.blocks.now) (naturals partners.now) }
     ensures { view at.nrow panel.new ≡ below at.ke at.nrow (row_after_steps
-        (diagonals_of d.now sub.now blocks.now) (naturals partners.now)
+        (diagonals_in diagonal.entry) (naturals partners.now)
         (in_panel at.kb at.ke (view at.nb (take (at.nb * at.nb) work.now)))
         at.ke (at.ke - at.kb) at.kb) (view at.nrow panel.old) }
 {
-    let nb = at.nb;
-    let square = nb * nb;
-    tail::apply_bk_panel_trailing(panel, &work[0..square], d, sub, blocks, partners, at);
+    let square = at.nb * at.nb;
+    let mult = &work[0..square];
+    tail::apply_bk_panel_trailing(
+        panel,
+        Steps {
+            mult,
+            diagonal,
+            partners,
+        },
+        at,
+    );
 }
 
 // The later columns, by the panel's L and D. The working buffer holds L.D.
-fn later_columns(
-    panel: &mut [f64],
-    work: &mut [f64],
-    d: &[f64],
-    sub: &[f64],
-    blocks: &[u8],
-    partners: &[u16],
-    at: Frame,
-)
+fn later_columns(panel: &mut [f64], work: &mut [f64], diagonal: DiagonalLists, at: Frame)
     requires turn_pre { TurnPre at (length panel.old) (length work.old) }
-    requires diagonals_hold { DiagonalsHold at.ncol (length d.now) (length sub.now) (length blocks.now)
-        (length partners.now) }
-    requires steps_pre { StepsPre at.kb at.ke (naturals blocks.now) (naturals partners.now) }
+    requires diagonals_hold { DiagonalsHold at.ncol diagonal }
+    requires closed { naturals diagonal.blocks.now (at.ke - 1) ≡ 1 → ⊥ }
     ensures { view at.nrow panel.new ≡ deferred_rows at.nrow at.ncol
-        (diagonals_of d.now sub.now blocks.now) at.kb at.ke
-        (view at.nrow panel.old) }
+        (diagonals_in diagonal.entry) at.kb at.ke (view at.nrow panel.old) }
 {
-    let ke = at.ke;
-    let ncol = at.ncol;
-    if ke == ncol {
+    if at.ke == at.ncol {
         return;
     }
-    let nrow = at.nrow;
-    let nb = at.nb;
-    let size = nb * nrow;
-    deferred::deferred_update(panel, d, sub, blocks, &mut work[0..size], at);
+    let size = at.nb * at.nrow;
+    deferred::deferred_update(panel, diagonal, &mut work[0..size], at);
 }
 
 // One panel: its steps, the rows below it, the later columns.
 fn one_panel(
     panel: &mut [f64],
     work: &mut [f64],
-    d: &mut [f64],
-    sub: &mut [f64],
-    blocks: &mut [u8],
-    partners: &mut [u16],
-    lifts: &mut [u8],
-    amounts: &mut [f64],
-    order: &mut [usize],
+    r: &mut PivotRecord,
     at: Frame,
     how: Pivoting,
     before: usize,
-) -> Ran
+) -> Result<usize, Refusal>
     requires turn_pre { TurnPre at (length panel.old) (length work.old) }
-    requires turn_holds { TurnHolds at.nrow at.ncol (length d.old) (length sub.old) (length blocks.old)
-        (length partners.old) (length lifts.old) (length amounts.old) (length order.old) }
+    requires turn_holds { TurnHolds at.nrow at.ncol r.old }
     requires limit_pre { LimitPre how.mode how.limit }
-    requires noted_to { NotedTo at.kb at.ke before (naturals blocks.old) (naturals partners.old) }
-    ensures order_after { progress result at.ke (between at.nrow panel.new
-        (pivots_of d.new sub.new blocks.new partners.new lifts.new
-        amounts.new order.new))
-        ≡ turn_of how at.nrow at.ncol at.kb at.ke (between at.nrow panel.old
-        (pivots_of d.old sub.old blocks.old partners.old
-        lifts.old amounts.old order.old) before) }
-    ensures ran_to { RanTo at.kb at.ke result (naturals blocks.new) (naturals partners.new) }
+    requires noted_to { NotedTo at.kb at.ke before (recorded_in r.old) }
+    ensures same { SameRecord r.old r.new }
+    ensures turn { progress result at.ke (between at.nrow panel.new (recorded_in r.new))
+        ≡ turn_of how at.nrow at.ncol at.kb at.ke (between at.nrow panel.old (recorded_in r.old)
+        before) }
+    ensures ran_to { RanTo at.kb at.ke result (recorded_in r.new) }
 {
-    let ran = steps(
-        panel, work, d, sub, blocks, partners, lifts, amounts, order, at, how, before,
-    );
-    let Ran::Done(rounds) = ran else {
-        return ran;
-    };
-    rows_below(panel, work, d, sub, blocks, partners, at);
-    later_columns(panel, work, d, sub, blocks, partners, at);
-    Ran::Done(rounds)
+    let rounds = steps(panel, work, r, at, how, before)?;
+    let d = &mut *r.d;
+    let sub = &mut *r.sub;
+    let blocks = &mut *r.blocks;
+    let partners = &mut *r.partners;
+    let diagonal = DiagonalLists { d, sub, blocks };
+    rows_below(panel, work, diagonal, partners, at);
+    later_columns(panel, work, diagonal, at);
+    Ok(rounds)
 }
 
-// The panels in turn.
+// The panels in turn, and the rounds of all block lifts.
 // in: the settings past the entry checks, with the width that is used / in and out: the buffers as buffers::begin
 // leaves them; work, any
 // origin: src/numeric/ldlt/bunch_kaufman.rs, fn ll_cdiv_emit
 pub fn panels(
     panel: &mut [f64],
     work: &mut [f64],
-    d: &mut [f64],
-    sub: &mut [f64],
-    blocks: &mut [u8],
-    partners: &mut [u16],
-    lifts: &mut [u8],
-    amounts: &mut [f64],
-    order: &mut [usize],
+    r: &mut PivotRecord,
     c: Settings,
-) -> Ran
+) -> Result<usize, Refusal>
     requires run_pre { RunPre c (length panel.old) (length work.old) }
-    requires turn_holds { TurnHolds c.nrow c.ncol (length d.old) (length sub.old) (length blocks.old)
-        (length partners.old) (length lifts.old) (length amounts.old) (length order.old) }
-    requires noted_to { NotedTo 0 1 0 (naturals blocks.old) (naturals partners.old) }
-    ensures { run_of result (between c.nrow panel.new
-        (pivots_of d.new sub.new blocks.new partners.new lifts.new
-        amounts.new order.new))
-        ≡ whole_panels_of (pivoting_of c) c.nrow c.ncol c.nb c.ncol 0 (between c.nrow
-        panel.old (pivots_of d.old sub.old blocks.old
-        partners.old lifts.old amounts.old order.old) 0) }
+    requires turn_holds { TurnHolds c.nrow c.ncol r.old }
+    requires noted_to { NotedTo 0 1 0 (recorded_in r.old) }
+    ensures same { SameRecord r.old r.new }
+    ensures run { run_of result (between c.nrow panel.new (recorded_in r.new))
+        ≡ whole_panels_of (pivoting_of c) c.nrow c.ncol c.nb c.ncol 0
+        (between c.nrow panel.old (recorded_in r.old) 0) }
 {
-    let nrow = c.nrow;
-    let ncol = c.ncol;
-    let nb = c.nb;
-    let mode = c.mode;
     let how = Pivoting {
-        mode,
+        mode: c.mode,
         limit: c.limit,
     };
-    let mut kb = 0;
     let mut rounds = 0;
-    while kb < ncol {
-        let ke = panel_end(kb, nb, ncol);
+    for kb in (0..c.ncol).step_by(c.nb) {
+        let ke = panel_end(kb, c.nb, c.ncol);
         let at = Frame {
-            nrow,
-            ncol,
-            nb,
+            nrow: c.nrow,
+            ncol: c.ncol,
+            nb: c.nb,
             kb,
             ke,
         };
-        let ran = one_panel(
-            panel, work, d, sub, blocks, partners, lifts, amounts, order, at, how, rounds,
-        );
-        let Ran::Done(n) = ran else {
-            return ran;
-        };
-        rounds = n;
-        kb = ke;
+        rounds = one_panel(panel, work, r, at, how, rounds)?;
     }
-    Ran::Done(rounds)
+    Ok(rounds)
 }

@@ -1,23 +1,22 @@
 -- Laws of L-as-D: a column of g lent, the three cases of a column, one column more. Assumes nothing.
 use Prim.Native.Nat.{ℕ, ◌+◌, ◌-◌, ◌*◌, ◌<◌, ◌≤◌}
 use mathlib.Core.Path.{◌≡◌, refl, sym, ◌∙◌, ap, fun_ext}
-use mathlib.Core.Bool.{Bool, true, false, false≢true}
+use mathlib.Core.Bool.{Bool, true, false}
 use mathlib.Core.List.{List}
-use lib.Dec.{ltb}
 use lib.ListN.{length, get_or}
 use lib.Ieee.{Float, nan}
-use native.Mathlib.Nat.{add-mul, mul-le-mul_right, le_antisymm}
+use native.Mathlib.Nat.{add-mul, mul-le-mul_right}
 use native.Mathlib.Omega.{arith}
-use borrow.Author.Tests.{lt-ltb, le-ltb, eq-eqb, ne_eqb, ltb-true}
+use borrow.Author.Tests.{lt-ltb, le-ltb, eq-eqb, ne_eqb}
 use borrow.Rule.Slice.PartMut.{mid_of, put_mid}
 use Rattle.model.specs.Matrix.{Row, Mat, column_start, view, vec, naturals, with_column, with_part}
 use Rattle.model.specs.Step.{Diagonals, diagonals_of, ends_block}
 use Rattle.model.specs.Panel.{times_d}
-use Rattle.model.proofs.Cases.{test, cmp}
+use Rattle.model.proofs.Cases.{cmp}
 use Rattle.grid.specs.Rules.{column_of}
 use Rattle.kernels.specs.Rules.{times, blended}
 use Rattle.grid.proofs.Parts.{column-at, column-lent}
-use Rattle.products.specs.Products.{column_product, with_products, BlendPre, ProductPre, ProductsPre}
+use Rattle.products.specs.Products.{column_product, with_products, ProductPre, ProductsPre}
 
 -- ---- a column of g, lent
 
@@ -42,11 +41,6 @@ blend-lent n gs hs xs t k j lo s u v p q own source other h out l e =
 
 -- ---- L-as-D of one column
 
--- a block that ends at k began before it
-pub ends-after : (f : ℕ → ℕ) (k : ℕ) (b : Bool) → b ≡ ends_block f k → b ≡ true → 1 ≤ k
-ends-after f k b e h =
-    test (ltb 0 k) (λ p. omega (arith, ltb-true 0 k p)) (λ p. let z : false ≡ true = sym (e ∙ rw p) ∙ h in absurd (false≢true z))
-
 module _ (G P a : Mat) (ds ss : List Float) (bs : List ℕ) (t lo n k : ℕ) where
   pub product-first : get_or bs k 0 ≡ 1 → P ≡ with_column G t lo n (blended (column_of a k) (column_of a (k + 1)) (get_or ds k nan) (get_or ss k nan))
       → P ≡ with_column G t lo n (column_product (diagonals_of ds ss bs) a k)
@@ -63,16 +57,6 @@ module _ (G P a : Mat) (ds ss : List Float) (bs : List ℕ) (t lo n k : ℕ) whe
       → P ≡ with_column G t lo n (times (column_of a k) (get_or ds k nan)) → P ≡ with_column G t lo n (column_product (diagonals_of ds ss bs) a k)
   unfolding column_product times_d times column_of vec naturals
   product-plain b h f g e = e ∙ ap (λ (N : Row). with_column G t lo n N) (fun_ext λ i. rw (ne_eqb (get_or bs k 0) 1 h, sym f ∙ g))
-
-pub first-pre : (n t k lo glen len dlen slen : ℕ) (bs : List ℕ) → ProductPre n t k lo glen len dlen slen bs → get_or bs k 0 ≡ 1
-    → BlendPre n t k (k + 1) lo glen len
-first-pre n t k lo glen len dlen slen bs h e =
-    record { rows = h.rows; out = h.out; column = h.column; other = omega (arith, h.block e, add-mul k 1 n) }
-
-pub second-pre : (n t k lo glen len : ℕ) → lo ≤ n → n + t * n ≤ glen → n + k * n ≤ len → BlendPre n t (k - 1) k lo glen len
-second-pre n t k lo glen len r o l =
-    let before : (k - 1) * n ≤ k * n = mul-le-mul_right n (omega arith) in
-    record { rows = r; out = o; column = omega arith; other = l }
 
 -- ---- L-as-D of all columns
 
@@ -96,10 +80,6 @@ products-step G P Q D a kb lo hi k h p q =
     let x : kb + (k - kb) ≡ k = omega arith in
     let y : k - kb + 1 ≡ k + 1 - kb = omega arith in
     q ∙ rw (p, ← y) (rw x at (products-more G D a kb lo hi (k - kb)))
-
-pub products-end : (G P : Mat) (D : Diagonals) (a : Mat) (kb lo hi k ke : ℕ) → k ≤ ke → ke ≤ k → P ≡ with_products G D a kb lo hi (k - kb)
-    → P ≡ with_products G D a kb lo hi (ke - kb)
-products-end G P D a kb lo hi k ke h l p = p ∙ ap (λ (x : ℕ). with_products G D a kb lo hi (x - kb)) (le_antisymm h l)
 
 pub products-pre : (n kb ke k glen glen' len dlen slen : ℕ) (bs : List ℕ) → ProductsPre n kb ke glen len dlen slen bs → kb ≤ k → k < ke → glen' ≡ glen
     → ProductPre n (k - kb) k ke glen' len dlen slen bs

@@ -4,14 +4,14 @@
 
 ghost use Rattle.std.specs.Prelude.{◌≡◌, ◌+◌, ◌-◌, length};
 ghost use Rattle.model.specs.Matrix.{view, with_column};
-ghost use Rattle.model.specs.Step.{diagonals_of};
+ghost use Rattle.model.specs.Step.{diagonals_in};
 ghost use Rattle.grid.specs.Rules.{column_of};
 ghost use Rattle.kernels.specs.Rules.{times, blended};
 ghost use Rattle.products.specs.Products.{column_product, with_products};
 ghost use Rattle.products.specs.Products.{ScalePre, BlendPre, ProductPre, ProductsPre};
 
 use grid::column_start;
-use model::Elim;
+use model::{DiagonalLists, Elim};
 
 // Rows from lo on of g's column t become those of the panel's column k times r.
 fn scale_column(g: &mut [f64], panel: &[f64], nrow: usize, t: usize, k: usize, lo: usize, r: f64)
@@ -62,26 +62,25 @@ fn blend_columns(
 fn product_column(
     g: &mut [f64],
     panel: &[f64],
-    d: &[f64],
-    sub: &[f64],
-    blocks: &[u8],
+    x: DiagonalLists,
     nrow: usize,
     t: usize,
     k: usize,
     lo: usize,
 )
-    requires { ProductPre nrow t k lo (length g.old) (length panel.now) (length d.now)
-        (length sub.now) blocks.now }
+    requires { ProductPre nrow t k lo (length g.old) (length panel.now) (length x.d.now)
+        (length x.sub.now) x.blocks.now }
     ensures { view nrow g.new
         ≡ with_column (view nrow g.old) t lo nrow
-        (column_product (diagonals_of d.now sub.now blocks.now)
-        (view nrow panel.now) k) }
+        (column_product (diagonals_in x.entry) (view nrow panel.now) k) }
 {
-    if blocks[k] == 1 {
+    let d = x.d;
+    let sub = x.sub;
+    if x.blocks[k] == 1 {
         blend_columns(g, panel, nrow, t, k, k + 1, lo, d[k], sub[k]);
         return;
     }
-    if diagonal::ends_block(blocks, Elim(k)) {
+    if diagonal::ends_block(x.blocks, Elim(k)) {
         blend_columns(g, panel, nrow, t, k - 1, k, lo, sub[k - 1], d[k]);
         return;
     }
@@ -89,24 +88,13 @@ fn product_column(
 }
 
 // The first columns of g become L.D of the panel's columns kb to ke, rows from ke on.
-pub fn products(
-    g: &mut [f64],
-    panel: &[f64],
-    d: &[f64],
-    sub: &[f64],
-    blocks: &[u8],
-    nrow: usize,
-    kb: usize,
-    ke: usize,
-)
-    requires { ProductsPre nrow kb ke (length g.old) (length panel.now) (length d.now)
-        (length sub.now) blocks.now }
+pub fn products(g: &mut [f64], panel: &[f64], x: DiagonalLists, nrow: usize, kb: usize, ke: usize)
+    requires { ProductsPre nrow kb ke (length g.old) (length panel.now) (length x.d.now)
+        (length x.sub.now) x.blocks.now }
     ensures { view nrow g.new
-        ≡ with_products (view nrow g.old)
-        (diagonals_of d.now sub.now blocks.now) (view nrow panel.now)
-        kb ke nrow (ke - kb) }
+        ≡ with_products (view nrow g.old) (diagonals_in x.entry) (view nrow panel.now) kb ke nrow (ke - kb) }
 {
     for k in kb..ke {
-        product_column(g, panel, d, sub, blocks, nrow, k - kb, k, ke);
+        product_column(g, panel, x, nrow, k - kb, k, ke);
     }
 }

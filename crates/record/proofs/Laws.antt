@@ -13,16 +13,16 @@ use lib.Seq.{length-take-le, take_all, get_or-take}
 use Rattle.model.specs.declared.Settings.{Settings}
 use Rattle.model.proofs.Cases.{test, no, and_left, and_right}
 use Rattle.little_endian.specs.LittleEndian.{le16, le32, le64}
-use Rattle.record.specs.Record.{record_at, settings_of, first_sound, sizes_sound, second_sound, panel_length, asked_of, longest}
-use Rattle.record.specs.declared.Asked.{Asked}
-use Rattle.record.specs.declared.Asked.TheVariants.{Factor, Refused}
+use Rattle.record.specs.Record.{record_at, settings_of, first_sound, sizes_sound, second_sound, panel_length, asked_of, longest, Asked}
+use Rattle.record.specs.declared.Fault as fault
+use Rattle.std.specs.Prelude.{Ok, Err}
 
 -- ---- records
 
 -- a record stands whole within the stream
-pub record-whole : (s : List ℕ) (at len kind : ℕ) (b : Bool) → b ≡ record_at s at len kind → not b ≡ false → at + 4 + len ≤ length s
+pub record-whole : (s : List ℕ) (at len kind : ℕ) (b : Bool) → b ≡ record_at s at len kind → b ≡ true → at + 4 + len ≤ length s
 unfolding record_at
-record-whole s at len kind b e x = leb-true _ _ (and_left _ (eqb (le32 s at) len && eqb (le16 s (at + 4)) kind) (sym e ∙ not-false b x))
+record-whole s at len kind b e x = leb-true _ _ (and_left _ (eqb (le32 s at) len && eqb (le16 s (at + 4)) kind) (sym e ∙ x))
 
 -- what the program's sizes are
 pub record Sizes (c : Settings) : Type 0 where
@@ -46,7 +46,7 @@ numbers-few c d e x = (sizes c (sym e ∙ not-false d x)).numbers
 -- ---- the answer by its tests
 
 module _ (s : List ℕ) (b : Bool) (first : b ≡ first_sound s) where
-  pub first-refuses : not b ≡ true → Refused 20 ≡ asked_of s
+  pub first-refuses : not b ≡ true → Err fault.TheVariants.Settings ≡ asked_of s
   unfolding asked_of
   first-refuses x = rw (← first, x)
 
@@ -56,44 +56,44 @@ module _ (s : List ℕ) (b : Bool) (first : b ≡ first_sound s) where
     first-whole = record-whole s 0 20 1 (record_at s 0 20 1) refl (rw (and_left (record_at s 0 20 1) _ (sym first ∙ not-false b x)))
 
     module _ (c : Settings) (read : c ≡ settings_of s) (d : Bool) (small : d ≡ sizes_sound c) where
-      pub sizes-refuse : not d ≡ true → Refused 21 ≡ asked_of s
+      pub sizes-refuse : not d ≡ true → Err fault.TheVariants.Sizes ≡ asked_of s
       unfolding asked_of
       sizes-refuse y = rw (← first, x, ← read, ← small, y)
 
       module _ (y : not d ≡ false) (e : Bool) (second : e ≡ second_sound s (panel_length c)) where
-        pub second-refuses : not e ≡ true → Refused 22 ≡ asked_of s
+        pub second-refuses : not e ≡ true → Err fault.TheVariants.Panel ≡ asked_of s
         unfolding asked_of
         second-refuses z = rw (← first, x, ← read, ← small, y, ← second, z)
 
-        pub none-refuses : not e ≡ false → Factor c ≡ asked_of s
+        pub none-refuses : not e ≡ false → Ok c ≡ asked_of s
         unfolding asked_of
         none-refuses z = rw (← first, x, ← read, ← small, y, ← second, z)
 
 -- ---- a stream that asks for a factor
 
-apart : {P : Type 0} (n : ℕ) (c : Settings) (a : Asked) → Refused n ≡ a → a ≡ Factor c → P
-apart n c a e f = absurd (let z : ◌≡◌ {A = ℕ} 0 1 = cc in omega arith)
+apart : {P : Type 0} (f : fault.Fault) (c : Settings) (a : Asked) → Err f ≡ a → a ≡ Ok c → P
+apart f c a e h = absurd (cc)
 
-asked-sound : (s : List ℕ) (c : Settings) → asked_of s ≡ Factor c → (sizes_sound c ≡ true) × (second_sound s (panel_length c) ≡ true)
+asked-sound : (s : List ℕ) (c : Settings) → asked_of s ≡ Ok c → (sizes_sound c ≡ true) × (second_sound s (panel_length c) ≡ true)
 asked-sound s c e =
     let read = settings_of s in
     test (first_sound s)
     (λ x. test (sizes_sound read)
     (λ y. test (second_sound s (panel_length read))
     (λ z. rw (same (none-refuses s true (sym x) refl read refl true (sym y) refl true (sym z) refl)) (y, z))
-    (λ z. apart 22 c _ (second-refuses s true (sym x) refl read refl true (sym y) refl false (sym z) refl) e))
-    (λ y. apart 21 c _ (sizes-refuse s true (sym x) refl read refl false (sym y) refl) e))
-    (λ x. apart 20 c _ (first-refuses s false (sym x) refl) e)
+    (λ z. apart fault.TheVariants.Panel c _ (second-refuses s true (sym x) refl read refl true (sym y) refl false (sym z) refl) e))
+    (λ y. apart fault.TheVariants.Sizes c _ (sizes-refuse s true (sym x) refl read refl false (sym y) refl) e))
+    (λ x. apart fault.TheVariants.Settings c _ (first-refuses s false (sym x) refl) e)
   where
-    same : Factor (settings_of s) ≡ asked_of s → c ≡ settings_of s
+    same : Ok (settings_of s) ≡ asked_of s → c ≡ settings_of s
     same f = cc
 
 -- its sizes are the program's
-pub asked-sizes : (s : List ℕ) (c : Settings) → asked_of s ≡ Factor c → Sizes c
+pub asked-sizes : (s : List ℕ) (c : Settings) → asked_of s ≡ Ok c → Sizes c
 asked-sizes s c e = sizes c (asked-sound s c e).0
 
 -- it ends with its panel
-pub asked-length : (s : List ℕ) (c : Settings) → asked_of s ≡ Factor c → length s ≡ 30 + 8 * panel_length c
+pub asked-length : (s : List ℕ) (c : Settings) → asked_of s ≡ Ok c → length s ≡ 30 + 8 * panel_length c
 unfolding second_sound
 asked-length s c e =
     let n = panel_length c in

@@ -1,14 +1,13 @@
 -- What a stream of bytes asks of the program. From docs/SCOPE.md, "The program node", and refusals 20 to 22.
 -- A stream is a list of bytes: the first record takes bytes 0 to 23, the second the rest. Definitions only. Assumes nothing.
-use Rattle.std.specs.Prelude.{Bool, cond, not, ◌&&◌, List, ℕ, ◌+◌, ◌*◌, ◌≤◌, ◌<◌, ◌^◌, leb, eqb, length, Float}
+use Rattle.std.specs.Prelude.{Bool, cond, not, ◌&&◌, List, ℕ, ◌+◌, ◌*◌, ◌≤◌, ◌<◌, ◌^◌, leb, eqb, length, Float, Result, Ok, Err}
 use Rattle.std.specs.Float.{binary64}
 use Rattle.std.specs.Float.Ieee.{of_bits}
 use Rattle.model.specs.declared.Mode.{Mode}
 use Rattle.model.specs.declared.Mode.TheVariants.{Fail, Lift}
 use Rattle.model.specs.declared.Settings.{Settings}
 use Rattle.little_endian.specs.LittleEndian.{le16, le32, le64, numbers_of}
-use Rattle.record.specs.declared.Asked.{Asked}
-use Rattle.record.specs.declared.Asked.TheVariants.{Factor, Refused}
+use Rattle.record.specs.declared.Fault as fault
 
 -- ---- records
 
@@ -52,12 +51,22 @@ sizes_sound c = leb c.ncol 16 && (leb c.nrow 64 && leb c.nb 16)
 unfoldable pub second_sound : List ℕ → ℕ → Bool
 second_sound s n = record_at s 24 (2 + 8 * n) 2 && leb (length s) (30 + 8 * n)
 
--- what a stream asks: the first refusal that is met, by its number, its place 0, 0; or the settings to factor with
+-- the number of each fault's refusal, whose place is 0, 0
+abbrev pub fault_number : fault.Fault → ℕ
+fault_number fault.TheVariants.Settings = 20
+fault_number fault.TheVariants.Sizes = 21
+fault_number fault.TheVariants.Panel = 22
+
+-- the settings to factor with, or the fault that turns a stream away
+abbrev pub Asked : Type 0
+Asked = Result Settings fault.Fault
+
+-- what a stream asks: the first fault that is met, or the settings to factor with
 unfoldable pub asked_of : List ℕ → Asked
 asked_of s =
     let c = settings_of s in
-    cond (not (first_sound s)) (Refused 20)
-    (cond (not (sizes_sound c)) (Refused 21) (cond (not (second_sound s (panel_length c))) (Refused 22) (Factor c)))
+    cond (not (first_sound s)) (Err fault.TheVariants.Settings)
+    (cond (not (sizes_sound c)) (Err fault.TheVariants.Sizes) (cond (not (second_sound s (panel_length c))) (Err fault.TheVariants.Panel) (Ok c)))
 
 -- the bytes of the longest stream that asks for a factor: 64 rows of 16 columns
 abbrev pub longest : ℕ

@@ -1,5 +1,5 @@
 -- A refusal has one number and one place, whatever its call accepts with. Assumes nothing.
-use mathlib.Core.Path.{◌≡◌, sym, ap, ◌∙◌}
+use mathlib.Core.Path.{◌≡◌, ap}
 use Prim.Native.Nat.{ℕ}
 use Rattle.model.specs.Answer.{Said, refused, accepted, turned_away}
 use Rattle.model.specs.declared.Refusal.{Refusal}
@@ -9,13 +9,8 @@ abbrev other : {A : Type 0} → Said (Unit {0}) → Said A
 other (refused n a b) = refused n a b
 other (accepted x) = refused 0 0 0
 
--- what `numbered` ensures holds of the answers of every call
+-- what `NumberAndPlace::from` ensures holds of the answers of every call
 pub turned-away :
     {A : Type 0} {n a b : ℕ} (why : Refusal) → ◌≡◌ {A = Said (Unit {0})} (refused n a b) (turned_away why)
     → ◌≡◌ {A = Said A} (refused n a b) (turned_away why)
 turned-away {A = A} why e = ap (λ (x : Said (Unit {0})). other {A = A} x) e
-
--- the case that a refusal is has its number and place
-pub refusal_is :
-    {said : Said (Unit {0})} {why v : Refusal} → why ≡ v → said ≡ turned_away v → said ≡ turned_away why
-refusal_is p e = e ∙ sym (ap (λ (x : Refusal). turned_away {A = Unit {0}} x) p)

@@ -4,51 +4,44 @@
 ghost use Rattle.std.specs.Prelude.{◌≡◌, length};
 
 use crate::file;
-use crate::file::Left;
-use model::{Applied, Lengths, Settings};
+use crate::file::{Answers, Left, Lent};
+use assembly::Entries;
+use landing::{Descendant, Target};
+use model::{GlobalRow, Lengths, LentBuffers, Refusal, Settings};
 use outcome::Outcome;
-use std::fs::File;
 
-// Room for the lists of a case: of pivots or entries; of rows; of the numbers of a panel or a working buffer.
+// Room for the lists of a case: of pivots or entries; of rows; of global rows; of the numbers of a panel or a working
+// buffer.
 const COLUMNS: usize = 130;
 
 const ROWS: usize = 1026;
 
-fn room(x: f64) -> [f64; 30000]
-    ensures { 30000 ≡ length result }
-{
-    [x; 30000]
-}
+const GLOBAL_ROWS: usize = 1024;
+
+const NUMBERS: usize = 30000;
 
 // The recorded answer, with which every case begins.
-fn read_answer(answers: &mut File) -> Outcome {
+fn read_answer(answers: &mut Answers) -> Outcome {
     Outcome {
-        number: file::count(answers),
-        a: file::count(answers),
-        b: file::count(answers),
-        rounds: file::count(answers),
-        positive: file::count(answers),
-        negative: file::count(answers),
-        zero: file::count(answers),
+        number: answers.count(),
+        a: answers.count(),
+        b: answers.count(),
+        rounds: answers.count(),
+        positive: answers.count(),
+        negative: answers.count(),
+        zero: answers.count(),
     }
-}
-
-// Whether two outcomes are the same in every number.
-fn same(x: Outcome, y: Outcome) -> bool {
-    let place = (x.number == y.number) & ((x.a == y.a) & (x.b == y.b));
-    let counts = (x.positive == y.positive) & ((x.negative == y.negative) & (x.zero == y.zero));
-    place & ((x.rounds == y.rounds) & counts)
 }
 
 // ---- factor
 
-fn read_settings(answers: &mut File) -> Settings {
-    let ncol = file::count(answers);
-    let nrow = file::count(answers);
-    let nb = file::count(answers);
-    let limit = file::count(answers);
-    let lift = file::count(answers) == 1;
-    let mode = outcome::mode_of(lift, file::number(answers));
+fn read_settings(answers: &mut Answers) -> Settings {
+    let ncol = answers.count();
+    let nrow = answers.count();
+    let nb = answers.count();
+    let limit = answers.count();
+    let lift = answers.count() == 1;
+    let mode = outcome::mode_of(lift, answers.number());
     Settings {
         ncol,
         nrow,
@@ -75,90 +68,63 @@ fn work_after(number: usize) -> Left {
     }
 }
 
-fn read_lengths(answers: &mut File) -> Lengths {
+fn read_lengths(answers: &mut Answers) -> Lengths {
     Lengths {
-        input: file::count(answers),
-        panel: file::count(answers),
-        d: file::count(answers),
-        sub: file::count(answers),
-        blocks: file::count(answers),
-        lifts: file::count(answers),
-        amounts: file::count(answers),
-        order: file::count(answers),
-        marks: file::count(answers),
-        work: file::count(answers),
+        input: answers.count(),
+        panel: answers.count(),
+        d: answers.count(),
+        sub: answers.count(),
+        blocks: answers.count(),
+        lifts: answers.count(),
+        amounts: answers.count(),
+        order: answers.count(),
+        marks: answers.count(),
+        work: answers.count(),
     }
 }
 
-fn factor_left(
-    answers: &mut File,
-    number: usize,
-    n: Lengths,
-    panel: &[f64],
-    d: &[f64],
-    sub: &[f64],
-    blocks: &[u8],
-    lifts: &[u8],
-    amounts: &[f64],
-    order: &[usize],
-    marks: &[u8],
-    work: &[f64],
-) -> bool {
+fn factor_left(answers: &mut Answers, number: usize, lent: &LentBuffers) -> bool {
     let left = outputs_after(number);
-    let mut same = file::numbers_left(answers, left, n.panel, panel);
-    same = file::numbers_left(answers, left, n.d, d) & same;
-    same = file::numbers_left(answers, left, n.sub, sub) & same;
-    same = file::bytes_left(answers, left, n.blocks, blocks) & same;
-    same = file::bytes_left(answers, left, n.lifts, lifts) & same;
-    same = file::numbers_left(answers, left, n.amounts, amounts) & same;
-    same = file::counts_left(answers, left, n.order, order) & same;
-    same = file::bytes_left(answers, left, n.marks, marks) & same;
-    file::numbers_left(answers, work_after(number), n.work, work) & same
+    let mut same = file::holds(answers, left, lent.panel);
+    same &= file::holds(answers, left, lent.d);
+    same &= file::holds(answers, left, lent.sub);
+    same &= file::holds(answers, left, lent.blocks);
+    same &= file::holds(answers, left, lent.lifts);
+    same &= file::holds(answers, left, lent.amounts);
+    same &= file::holds(answers, left, lent.order);
+    same &= file::holds(answers, left, lent.marks);
+    same & file::holds(answers, work_after(number), lent.work)
 }
 
-fn factor_same(answers: &mut File, recorded: Outcome, c: Settings, n: Lengths) -> bool {
-    let mut of_input = room(0.0);
-    let mut of_panel = room(file::HELD);
-    let mut of_d = [file::HELD; COLUMNS];
-    let mut of_sub = [file::HELD; COLUMNS];
-    let mut of_blocks = [file::HELD_BYTE; COLUMNS];
-    let mut of_lifts = [file::HELD_BYTE; COLUMNS];
-    let mut of_amounts = [file::HELD; COLUMNS];
-    let mut of_order = [file::HELD_COUNT; ROWS];
-    let mut of_marks = [file::HELD_BYTE; ROWS];
-    let mut of_work = room(file::HELD);
-    let input = file::numbers(answers, n.input, &mut of_input);
-    let factored = factor::factor(
-        c,
-        input,
-        file::first_numbers(n.panel, &mut of_panel),
-        file::first_numbers(n.d, &mut of_d),
-        file::first_numbers(n.sub, &mut of_sub),
-        file::first_bytes(n.blocks, &mut of_blocks),
-        file::first_bytes(n.lifts, &mut of_lifts),
-        file::first_numbers(n.amounts, &mut of_amounts),
-        file::first_counts(n.order, &mut of_order),
-        file::first_bytes(n.marks, &mut of_marks),
-        file::first_numbers(n.work, &mut of_work),
-    );
-    let left = factor_left(
-        answers,
-        recorded.number,
-        n,
-        &of_panel,
-        &of_d,
-        &of_sub,
-        &of_blocks,
-        &of_lifts,
-        &of_amounts,
-        &of_order,
-        &of_marks,
-        &of_work,
-    );
-    same(outcome::of_factor(factored), recorded) & left
+fn factor_same(answers: &mut Answers, recorded: Outcome, c: Settings, n: Lengths) -> bool {
+    let mut of_input = [0.0; NUMBERS];
+    let mut of_panel = [f64::HELD; NUMBERS];
+    let mut of_d = [f64::HELD; COLUMNS];
+    let mut of_sub = [f64::HELD; COLUMNS];
+    let mut of_blocks = [u8::HELD; COLUMNS];
+    let mut of_lifts = [u8::HELD; COLUMNS];
+    let mut of_amounts = [f64::HELD; COLUMNS];
+    let mut of_order = [usize::HELD; ROWS];
+    let mut of_marks = [u8::HELD; ROWS];
+    let mut of_work = [f64::HELD; NUMBERS];
+    let input = file::list(answers, n.input, &mut of_input, Answers::number);
+    let mut lent = LentBuffers {
+        panel: file::first_of(n.panel, &mut of_panel),
+        d: file::first_of(n.d, &mut of_d),
+        sub: file::first_of(n.sub, &mut of_sub),
+        blocks: file::first_of(n.blocks, &mut of_blocks),
+        lifts: file::first_of(n.lifts, &mut of_lifts),
+        amounts: file::first_of(n.amounts, &mut of_amounts),
+        order: file::first_of(n.order, &mut of_order),
+        marks: file::first_of(n.marks, &mut of_marks),
+        work: file::first_of(n.work, &mut of_work),
+    };
+    let answer = factor::factor(c, input, &mut lent);
+    let left = factor_left(answers, recorded.number, &lent);
+    (Outcome::from(answer) == recorded) & left
 }
 
-pub(crate) fn factor_case(answers: &mut File) -> bool {
+pub(crate) fn factor_case(answers: &mut Answers) -> bool {
     let recorded = read_answer(answers);
     let c = read_settings(answers);
     let n = read_lengths(answers);
@@ -167,89 +133,79 @@ pub(crate) fn factor_case(answers: &mut File) -> bool {
 
 // ---- inertia
 
-// The lengths of its lists.
-#[derive(Clone, Copy)]
-struct Pivots {
-    d: usize,
-    sub: usize,
-    blocks: usize,
-}
-
-fn read_pivots(answers: &mut File) -> Pivots {
-    Pivots {
-        d: file::count(answers),
-        sub: file::count(answers),
-        blocks: file::count(answers),
-    }
-}
-
-pub(crate) fn inertia_case(answers: &mut File) -> bool {
+pub(crate) fn inertia_case(answers: &mut Answers) -> bool {
     let recorded = read_answer(answers);
-    let n = read_pivots(answers);
+    let length_d = answers.count();
+    let length_sub = answers.count();
+    let length_blocks = answers.count();
     let mut of_d = [0.0; COLUMNS];
     let mut of_sub = [0.0; COLUMNS];
     let mut of_blocks = [0u8; COLUMNS];
-    let d = file::numbers(answers, n.d, &mut of_d);
-    let sub = file::numbers(answers, n.sub, &mut of_sub);
-    let blocks = file::bytes(answers, n.blocks, &mut of_blocks);
-    same(
-        outcome::of_inertia(inertia::inertia(d, sub, blocks)),
-        recorded,
-    )
+    let d = file::list(answers, length_d, &mut of_d, Answers::number);
+    let sub = file::list(answers, length_sub, &mut of_sub, Answers::number);
+    let blocks = file::list(answers, length_blocks, &mut of_blocks, Answers::byte);
+    Outcome::from(inertia::inertia(d, sub, blocks)) == recorded
 }
 
 // ---- assembly and update
 
-fn panel_same(answers: &mut File, recorded: Outcome, applied: Applied, panel: &[f64]) -> bool {
-    let left = file::numbers_left(answers, Left::Recorded, panel.len(), panel);
-    same(outcome::of_panel(applied), recorded) & left
+fn panel_same(
+    answers: &mut Answers,
+    recorded: Outcome,
+    answer: Result<(), Refusal>,
+    panel: &[f64],
+) -> bool {
+    let left = file::holds(answers, Left::Recorded, panel);
+    (Outcome::from(answer) == recorded) & left
 }
 
 // A target's shape, and the lengths of the lists of entries and of its panel.
 #[derive(Clone, Copy)]
-struct Entries {
+struct AssemblyCounts {
     ncol: usize,
     nrow: usize,
     rows: usize,
-    cols: usize,
+    columns: usize,
     numbers: usize,
     panel: usize,
 }
 
-fn read_entries(answers: &mut File) -> Entries {
-    Entries {
-        ncol: file::count(answers),
-        nrow: file::count(answers),
-        rows: file::count(answers),
-        cols: file::count(answers),
-        numbers: file::count(answers),
-        panel: file::count(answers),
+fn read_assembly(answers: &mut Answers) -> AssemblyCounts {
+    AssemblyCounts {
+        ncol: answers.count(),
+        nrow: answers.count(),
+        rows: answers.count(),
+        columns: answers.count(),
+        numbers: answers.count(),
+        panel: answers.count(),
     }
 }
 
-pub(crate) fn assembly_case(answers: &mut File) -> bool {
+pub(crate) fn assembly_case(answers: &mut Answers) -> bool {
     let recorded = read_answer(answers);
-    let n = read_entries(answers);
+    let n = read_assembly(answers);
     let mut of_rows = [0usize; COLUMNS];
-    let mut of_cols = [0usize; COLUMNS];
+    let mut of_columns = [0usize; COLUMNS];
     let mut of_numbers = [0.0; COLUMNS];
-    let mut of_panel = room(0.0);
-    let rows = file::counts(answers, n.rows, &mut of_rows);
-    let cols = file::counts(answers, n.cols, &mut of_cols);
-    let numbers = file::numbers(answers, n.numbers, &mut of_numbers);
-    let panel = file::numbers(answers, n.panel, &mut of_panel);
-    let applied = assembly::assemble(n.ncol, n.nrow, rows, cols, numbers, panel);
-    panel_same(answers, recorded, applied, panel)
+    let mut of_panel = [0.0; NUMBERS];
+    let entries = Entries {
+        rows: file::list(answers, n.rows, &mut of_rows, Answers::count),
+        columns: file::list(answers, n.columns, &mut of_columns, Answers::count),
+        numbers: file::list(answers, n.numbers, &mut of_numbers, Answers::number),
+    };
+    let panel = file::list(answers, n.panel, &mut of_panel, Answers::number);
+    let answer = assembly::assemble(n.ncol, n.nrow, entries, panel);
+    panel_same(answers, recorded, answer, panel)
 }
 
 // The shapes of a target and a descendant, the row of the target's first column, and the lengths of their lists.
 #[derive(Clone, Copy)]
-struct Nodes {
+struct UpdateCounts {
     ncol: usize,
     nrow: usize,
     nk: usize,
     mk: usize,
-    first: u32,
+    first: GlobalRow,
     rows: usize,
     panel: usize,
     kpanel: usize,
@@ -259,42 +215,49 @@ struct Nodes {
     krows: usize,
 }
 
-fn read_nodes(answers: &mut File) -> Nodes {
-    Nodes {
-        ncol: file::count(answers),
-        nrow: file::count(answers),
-        nk: file::count(answers),
-        mk: file::count(answers),
-        first: file::global_row(answers),
-        rows: file::count(answers),
-        panel: file::count(answers),
-        kpanel: file::count(answers),
-        kd: file::count(answers),
-        ksub: file::count(answers),
-        kblocks: file::count(answers),
-        krows: file::count(answers),
+fn read_update(answers: &mut Answers) -> UpdateCounts {
+    UpdateCounts {
+        ncol: answers.count(),
+        nrow: answers.count(),
+        nk: answers.count(),
+        mk: answers.count(),
+        first: GlobalRow(answers.global_row()),
+        rows: answers.count(),
+        panel: answers.count(),
+        kpanel: answers.count(),
+        kd: answers.count(),
+        ksub: answers.count(),
+        kblocks: answers.count(),
+        krows: answers.count(),
     }
 }
 
-pub(crate) fn update_case(answers: &mut File) -> bool {
+pub(crate) fn update_case(answers: &mut Answers) -> bool {
     let recorded = read_answer(answers);
-    let n = read_nodes(answers);
-    let mut of_rows = [0u32; file::GLOBAL_ROWS];
-    let mut of_panel = room(0.0);
-    let mut of_kpanel = room(0.0);
+    let n = read_update(answers);
+    let mut of_rows = [0u32; GLOBAL_ROWS];
+    let mut of_panel = [0.0; NUMBERS];
+    let mut of_kpanel = [0.0; NUMBERS];
     let mut of_kd = [0.0; COLUMNS];
     let mut of_ksub = [0.0; COLUMNS];
     let mut of_kblocks = [0u8; COLUMNS];
-    let mut of_krows = [0u32; file::GLOBAL_ROWS];
-    let rows = file::global_rows(answers, n.rows, &mut of_rows);
-    let panel = file::numbers(answers, n.panel, &mut of_panel);
-    let kpanel = file::numbers(answers, n.kpanel, &mut of_kpanel);
-    let kd = file::numbers(answers, n.kd, &mut of_kd);
-    let ksub = file::numbers(answers, n.ksub, &mut of_ksub);
-    let kblocks = file::bytes(answers, n.kblocks, &mut of_kblocks);
-    let krows = file::global_rows(answers, n.krows, &mut of_krows);
-    let applied = update::update(
-        n.ncol, n.nrow, n.first, rows, panel, n.nk, n.mk, kpanel, kd, ksub, kblocks, krows,
-    );
-    panel_same(answers, recorded, applied, panel)
+    let mut of_krows = [0u32; GLOBAL_ROWS];
+    let target = Target {
+        ncol: n.ncol,
+        nrow: n.nrow,
+        first: n.first,
+        rows: file::list(answers, n.rows, &mut of_rows, Answers::global_row),
+    };
+    let panel = file::list(answers, n.panel, &mut of_panel, Answers::number);
+    let descendant = Descendant {
+        nk: n.nk,
+        mk: n.mk,
+        panel: file::list(answers, n.kpanel, &mut of_kpanel, Answers::number),
+        d: file::list(answers, n.kd, &mut of_kd, Answers::number),
+        sub: file::list(answers, n.ksub, &mut of_ksub, Answers::number),
+        blocks: file::list(answers, n.kblocks, &mut of_kblocks, Answers::byte),
+        rows: file::list(answers, n.krows, &mut of_krows, Answers::global_row),
+    };
+    let answer = update::update(target, panel, descendant);
+    panel_same(answers, recorded, answer, panel)
 }

@@ -11,26 +11,8 @@ mod calls;
 mod file;
 mod sum;
 
+use file::Answers;
 use std::fs;
-use std::fs::File;
-
-#[derive(Clone, Copy)]
-enum Call {
-    Factor,
-    Inertia,
-    Assembly,
-    Update,
-}
-
-// Whether the next case, of this call, is answered as recorded.
-fn same(answers: &mut File, call: Call) -> bool {
-    match call {
-        Call::Factor => calls::factor_case(answers),
-        Call::Inertia => calls::inertia_case(answers),
-        Call::Assembly => calls::assembly_case(answers),
-        Call::Update => calls::update_case(answers),
-    }
-}
 
 fn say<P: Print>(out: &P, name: &[u8], number: usize, what: &[u8]) {
     let _ = out.write_all(name);
@@ -39,11 +21,19 @@ fn say<P: Print>(out: &P, name: &[u8], number: usize, what: &[u8]) {
     let _ = out.write_all(what);
 }
 
-// So many cases of a call.
-fn replay<P: Print>(out: &P, answers: &mut File, call: Call, name: &[u8], cases: usize) {
+// So many cases of a call. `same` says whether the next one is answered as recorded.
+fn replay<P: Print, F: Fn(&mut Answers) -> bool>(
+    out: &P,
+    answers: &mut Answers,
+    name: &[u8],
+    cases: usize,
+    same: F,
+)
+    requires { F.IsAlwaysCallable same }
+{
     let mut differ: usize = 0;
     for i in 0..cases {
-        if !same(answers, call) {
+        if !same(answers) {
             say(out, name, i, b" differs\n");
             differ += 1;
         }
@@ -53,27 +43,27 @@ fn replay<P: Print>(out: &P, answers: &mut File, call: Call, name: &[u8], cases:
 }
 
 // All cases of the file, from its head on.
-fn replay_all<P: Print>(out: &P, answers: &mut File) {
-    let mut head = [0u8; 12];
-    file::bytes(answers, 12, &mut head);
-    let factors = file::count(answers);
-    let inertias = file::count(answers);
-    let assemblies = file::count(answers);
-    let updates = file::count(answers);
-    replay(out, answers, Call::Factor, b"factor", factors);
-    replay(out, answers, Call::Inertia, b"inertia", inertias);
-    replay(out, answers, Call::Assembly, b"assembly", assemblies);
-    replay(out, answers, Call::Update, b"update", updates);
+fn replay_all<P: Print>(out: &P, answers: &mut Answers) {
+    // the head, which sum.rt looks at
+    answers.bytes::<12>();
+    let factors = answers.count();
+    let inertias = answers.count();
+    let assemblies = answers.count();
+    let updates = answers.count();
+    replay(out, answers, b"factor", factors, calls::factor_case);
+    replay(out, answers, b"inertia", inertias, calls::inertia_case);
+    replay(out, answers, b"assembly", assemblies, calls::assembly_case);
+    replay(out, answers, b"update", updates, calls::update_case);
 }
 
 fn main(rt: HostRuntime) {
     let path = "answers";
     match fs::open(&rt, path) {
-        Ok(mut answers) => {
+        Ok(answers) => {
             if !sum::intact(&rt, path) {
                 let _ = println!(rt; "the answers are damaged");
             }
-            replay_all(&rt, &mut answers);
+            replay_all(&rt, &mut Answers::new(answers));
         }
         Err(error) => {
             let _ = eprintln!(rt; "{path}: {error}");

@@ -6,68 +6,73 @@ use std::fs;
 use std::fs::File;
 use std::rt::Files;
 
-const MODULUS: u64 = 65521;
+const MODULUS: u32 = 65521;
 
 // The two running sums.
 #[derive(Clone, Copy)]
 struct Sums {
-    a: u64,
-    b: u64,
+    a: u32,
+    b: u32,
+    ghost below: { (a < 65521) × (b < 65521) },
 }
 
-// The sums with what one read brought, and whether it brought anything.
-#[derive(Clone, Copy)]
-struct Some {
-    sums: Sums,
-    more: bool,
-}
-
-fn byte_value(byte: u8) -> u64
-    ensures { result < 256 }
-{
-    byte as u64
-}
-
-fn summed(sums: Sums, bytes: &[u8]) -> Sums {
-    let mut a = sums.a % MODULUS;
-    let mut b = sums.b % MODULUS;
-    for i in 0..bytes.len() {
-        a = (a + byte_value(bytes[i])) % MODULUS;
-        b = (b + a) % MODULUS;
+impl Sums {
+    // Those of no bytes.
+    fn of_none() -> Sums {
+        Sums { a: 1, b: 0 }
     }
-    Sums { a, b }
+
+    // The sums with one more byte.
+    fn with(self, byte: u8) -> Sums {
+        let a = (self.a + u32::from(byte)) % MODULUS;
+        Sums {
+            a,
+            b: (self.b + a) % MODULUS,
+        }
+    }
+
+    fn with_all(self, bytes: &[u8]) -> Sums {
+        let mut sums = self;
+        for byte in bytes {
+            sums = sums.with(*byte);
+        }
+        sums
+    }
+
+    fn checksum(self) -> u32 {
+        self.b * 65536 + self.a
+    }
 }
 
-fn sum_some(answers: &mut File, sums: Sums) -> Some {
+// The sums with what one more read brought, if it brought anything.
+fn read_more(answers: &mut File, sums: Sums) -> Option<Sums> {
     let mut chunk = [0u8; 65536];
-    let n = file::read_full(answers, &mut chunk);
-    Some {
-        sums: summed(sums, &chunk[..n]),
-        more: n > 0,
+    match file::read_full(answers, &mut chunk) {
+        0 => None,
+        n => Some(sums.with_all(&chunk[..n])),
     }
 }
 
 // The sum of the rest of a file. Nothing says that a file ends, and a proved loop has to: its turns run out after 4 GB.
-fn sum_rest(answers: &mut File) -> u64 {
-    let mut sums = Sums { a: 1, b: 0 };
-    let mut turns: u64 = 65536;
-    while turns > 0 {
-        let some = sum_some(answers, sums);
-        sums = some.sums;
-        if !some.more {
-            return sums.b % MODULUS * 65536 + sums.a % MODULUS;
+fn sum_rest(answers: &mut File) -> Option<u32> {
+    let mut sums = Sums::of_none();
+    for _ in 0..65536 {
+        match read_more(answers, sums) {
+            Some(more) => sums = more,
+            None => return Some(sums.checksum()),
         }
-        turns -= 1;
     }
-    0
+    None
 }
 
 // Whether the file that was opened is so, from its first byte on.
 fn recorded(answers: &mut File) -> bool {
-    let mut head = [0u8; 12];
-    file::bytes(answers, 12, &mut head);
-    let sum = sum_rest(answers);
-    file::same_bytes(&head, b"replay 1") & (little_endian::u32_at(&head, 8) == sum)
+    let mut head = [0u8; 8];
+    let mut sum = [0u8; 4];
+    file::read_full(answers, &mut head);
+    file::read_full(answers, &mut sum);
+    let rest = sum_rest(answers);
+    (head == *b"replay 1") & (rest == Some(u32::from_le_bytes(sum)))
 }
 
 // Whether the file of that name is so; one that cannot be opened is not.

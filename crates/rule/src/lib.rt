@@ -12,7 +12,7 @@ ghost use Rattle.greatest.specs.Greatest.{ColumnPre, Within, SquareOf};
 ghost use Rattle.rule.specs.Chosen.{by_row, ChosenWithin};
 ghost use Rattle.rule.specs.Reach.{Reaches, ReachPre};
 
-use model::{Block, Choice, Elim, LocalRow};
+use model::{Block, Choice, Elim, Frame, LocalRow};
 
 // Bunch and Kaufman's rule: a name for its two constants and its tests.
 #[derive(Clone, Copy)]
@@ -74,24 +74,22 @@ impl PivotRule {
     // origin: src/numeric/ldlt/bunch_kaufman.rs, fn ll_bk_panel_step
     fn choose_by_row(
         panel: &[f64],
-        nrow: usize,
-        ncol: usize,
+        at: Frame,
         k: Elim,
-        ke: usize,
         own: f64,
         colmax: f64,
         imax: LocalRow,
     ) -> Choice
-        requires column_pre { ColumnPre nrow ncol k.0 ke (length panel.now) }
-        requires within { Within k.0 ke imax.0 }
-        ensures { result ≡ by_row (view nrow panel.now) k.0 ke own colmax imax }
+        requires column_pre { ColumnPre at.nrow at.ncol k.0 at.ke (length panel.now) }
+        requires within { Within k.0 at.ke imax.0 }
+        ensures { result ≡ by_row (view at.nrow panel.now) k.0 at.ke own colmax imax }
     {
-        let row = greatest::row_greatest(panel, nrow, ncol, k, ke, imax);
-        let rowmax = PivotRule::root_of(row.square, greatest::across(panel, nrow, imax, row.at));
+        let row = greatest::row_greatest(panel, at, k, imax);
+        let rowmax = PivotRule::root_of(row.square, greatest::across(panel, at.nrow, imax, row.at));
         if own >= PivotRule::threshold(colmax) * (colmax / rowmax) {
             return Choice::Single(LocalRow(k.0));
         }
-        if scalar::magnitude(grid::get(panel, nrow, imax.0, imax.0))
+        if scalar::magnitude(grid::get(panel, at.nrow, imax.0, imax.0))
             >= PivotRule::threshold(rowmax)
         {
             Choice::Single(imax)
@@ -100,26 +98,26 @@ impl PivotRule {
         }
     }
 
-    // The pivot at k of a panel that ends at ke. Squares are compared: an entry whose square underflows is not seen.
+    // The pivot at k of a panel. Squares are compared: an entry whose square underflows is not seen.
     // origin: src/numeric/ldlt/bunch_kaufman.rs, fn ll_bk_panel_step
-    pub fn choose(panel: &[f64], nrow: usize, ncol: usize, k: Elim, ke: usize) -> Choice
-        requires { ColumnPre nrow ncol k.0 ke (length panel.now) }
-        ensures value { result ≡ choose_of (view nrow panel.now) k.0 ke }
-        ensures chosen_within { ChosenWithin k.0 ke result }
+    pub fn choose(panel: &[f64], at: Frame, k: Elim) -> Choice
+        requires { ColumnPre at.nrow at.ncol k.0 at.ke (length panel.now) }
+        ensures value { result ≡ choose_of (view at.nrow panel.now) k.0 at.ke }
+        ensures chosen_within { ChosenWithin k.0 at.ke result }
     {
-        let own = scalar::magnitude(grid::get(panel, nrow, k.0, k.0));
-        let column = greatest::column_greatest(panel, nrow, ncol, k, ke);
+        let own = scalar::magnitude(grid::get(panel, at.nrow, k.0, k.0));
+        let column = greatest::column_greatest(panel, at, k);
         if PivotRule::reaches(own, column.square) {
             return Choice::Single(LocalRow(k.0));
         }
-        let colmax = PivotRule::root_of(column.square, grid::get(panel, nrow, column.at.0, k.0));
+        let colmax = PivotRule::root_of(column.square, grid::get(panel, at.nrow, column.at.0, k.0));
         if scalar::maximum(own, colmax) == 0.0 {
             return Choice::ZeroColumn;
         }
         if own >= PivotRule::threshold(colmax) {
             return Choice::Single(LocalRow(k.0));
         }
-        PivotRule::choose_by_row(panel, nrow, ncol, k, ke, own, colmax, column.at)
+        PivotRule::choose_by_row(panel, at, k, own, colmax, column.at)
     }
 
     // What a block's determinant must pass.

@@ -1,24 +1,23 @@
 -- Laws of numbers that are finite: a mark, a list, a column, the lower positions, a turn of the scan's rows and of its columns. Assumes nothing.
-use Prim.Native.Nat.{ℕ, zero, suc, ◌+◌, ◌-◌, ◌<◌, ◌≤◌}
+use Prim.Native.Nat.{ℕ, zero, suc, ◌+◌, ◌-◌, ◌*◌, ◌<◌, ◌≤◌}
 use mathlib.Core.Path.{◌≡◌, refl, sym, ◌∙◌, ap}
-use mathlib.Core.Bool.{Bool, true, false, not, cond, ◌&&◌}
+use mathlib.Core.Bool.{Bool, true, false, cond, ◌&&◌}
 use mathlib.Core.List.{List}
 use native.Mathlib.Nat.{le_antisymm}
 use native.Mathlib.Omega.{arith}
-use borrow.Author.Tests.{not-true, not-false}
 use borrow.Rule.Slice.PartMut.{mid_of}
 use lib.Dec.{eqb}
-use lib.ListN.{get_or}
+use lib.ListN.{length, get_or}
 use lib.Ieee.{Float, nan}
+use Rattle.std.specs.Prelude.{Ok, Err}
 use Rattle.model.specs.Scalar.{is_finite}
 use Rattle.model.specs.Matrix.{Row, Mat, column_start, view, vec}
-use Rattle.model.specs.Answer.{or_else}
+use Rattle.model.specs.Answer.{or_else, Check}
 use Rattle.model.specs.Factor.{every_from, column_check, columns_check, mark_of}
 use Rattle.model.specs.declared.Refusal.TheVariants.{Input}
-use Rattle.model.specs.declared.Check.{Check}
-use Rattle.model.specs.declared.Check.TheVariants.{Sound, Refused}
 use Rattle.model.proofs.Cases.{test, one_left, none_left, and_left, and_right}
 use Rattle.model.proofs.Every.{every_of, every-last, every-same, every-at}
+use Rattle.kernels.proofs.Parts.{mid-count}
 use Rattle.grid.proofs.Parts.{column-at}
 use Rattle.total.specs.Finite.{sum_finite, column_finite, lower_finite, KnownFinite}
 use Rattle.total.proofs.Finite.{sum-known}
@@ -54,12 +53,14 @@ pub all_end : (f : Row) (i n m : ℕ) → i ≤ n → n ≤ i → m ≡ mark_of 
 unfolding mark_of finite_from
 all_end f i n m h l e = rw (e, le_antisymm h l) (none-marked (every_from (λ k. is_finite (f k)) n 0))
 
-pub column-lent : (xs : List Float) (n j s lo hi : ℕ) (b : Bool) → s ≡ column_start n j → lo ≤ hi → hi ≤ n
-    → b ≡ finite_from (vec (mid_of (lo + s) (hi + s - (lo + s)) xs)) 0 (hi - lo) → b ≡ column_finite (view n xs) j lo hi
+pub column-lent : (xs : List Float) (n j s lo hi : ℕ) (b : Bool) → s ≡ column_start n j → lo ≤ hi → hi ≤ n → n + j * n ≤ length xs
+    → b ≡ finite_from (vec (mid_of (lo + s) (hi + s - (lo + s)) xs)) 0 (length (mid_of (lo + s) (hi + s - (lo + s)) xs))
+    → b ≡ column_finite (view n xs) j lo hi
 unfolding finite_from column_finite
-column-lent xs n j s lo hi b at u h e =
+column-lent xs n j s lo hi b at u h r e =
     let part : Row = vec (mid_of (lo + s) (hi + s - (lo + s)) xs) in
-    e ∙ every-same (λ k. is_finite (part k)) (λ i. is_finite (view n xs i j)) (hi - lo) 0 lo
+    let count : length (mid_of (lo + s) (hi + s - (lo + s)) xs) ≡ hi - lo = mid-count (lo + s) (hi + s) xs (omega arith) (omega arith) ∙ omega arith in
+    e ∙ ap (λ (k : ℕ). every_from (λ i. is_finite (part i)) k 0) count ∙ every-same (λ k. is_finite (part k)) (λ i. is_finite (view n xs i j)) (hi - lo) 0 lo
     (λ k g. ap is_finite (ap part (omega arith) ∙ column-at n xs j s lo hi k at h g))
 
 -- ---- the lower positions
@@ -76,7 +77,7 @@ known-column a b n c j lo hi w e g l h =
 -- ---- the scan of the panel
 
 -- a column that is finite has nothing to stop at
-column-sound : (a : Mat) (j n i : ℕ) → every_from (λ k. is_finite (a k j)) n i ≡ true → column_check a j n i ≡ Sound
+column-sound : (a : Mat) (j n i : ℕ) → every_from (λ k. is_finite (a k j)) n i ≡ true → column_check a j n i ≡ Ok tt
 unfolding every_from column_check
 column-sound a j zero i e = refl
 column-sound a j (suc n) i e =
@@ -94,18 +95,14 @@ pub first-low : (a : Mat) (n c j r : ℕ) → j < c → c ≤ n → r ≡ first_
 unfolding first_row
 first-low a n c j r h l e = rw e (test (column_finite a j j n) (λ p. rw p (omega arith)) (λ p. rw p (omega arith)))
 
-pub first-high : (a : Mat) (n c j r : ℕ) → j < c → c ≤ n → r ≡ first_row a n j → r ≤ n
-unfolding first_row
-first-high a n c j r h l e = rw e (test (column_finite a j j n) (λ p. rw p (omega arith)) (λ p. rw p (omega arith)))
-
 -- columns that are finite have nothing to stop at
-columns-sound : (a : Mat) (n k j : ℕ) → every_from (λ i. column_finite a i i n) k j ≡ true → columns_check a n k j ≡ Sound
+columns-sound : (a : Mat) (n k j : ℕ) → every_from (λ i. column_finite a i i n) k j ≡ true → columns_check a n k j ≡ Ok tt
 unfolding every_from columns_check column_finite
 columns-sound a n zero j e = refl
 columns-sound a n (suc k) j e =
     rw (column-sound a j (n - j) j (and_left (column_finite a j j n) _ e)) (columns-sound a n k (j + 1) (and_right (column_finite a j j n) _ e))
 
-pub panel-sound : (a : Mat) (n c : ℕ) (b : Bool) → b ≡ sum_finite a n c → b ≡ true → Sound ≡ columns_check a n c 0
+pub panel-sound : (a : Mat) (n c : ℕ) (b : Bool) → b ≡ sum_finite a n c → b ≡ true → Ok tt ≡ columns_check a n c 0
 unfolding lower_finite
 panel-sound a n c b e t = sym (columns-sound a n c 0 ((sum-known a n c b e).all t))
 
@@ -118,13 +115,13 @@ module _ (a : Mat) (n c j i : ℕ) (x : Float) (b : Bool) (C : Check) (h : i < n
   at = e ∙ ap is_finite r
 
   -- a turn of the rows, and the end of them all
-  pub row_step : not b ≡ false → C ≡ from_here a n c j (i + 1)
+  pub row_step : b ≡ true → C ≡ from_here a n c j (i + 1)
   unfolding column_check
-  row_step f = let t : is_finite (a i j) ≡ true = sym at ∙ not-false b f in p ∙ rw (one_left n i h, t)
+  row_step f = let t : is_finite (a i j) ≡ true = sym at ∙ f in p ∙ rw (one_left n i h, t)
 
-  pub row-stop : not b ≡ true → Refused (Input (record { 0 = j }) (record { 0 = i })) ≡ C
+  pub row-stop : b ≡ false → Err (Input (record { 0 = j }) (record { 0 = i })) ≡ C
   unfolding column_check
-  row-stop f = let t : is_finite (a i j) ≡ false = sym at ∙ not-true b f in sym (p ∙ rw (one_left n i h, t))
+  row-stop f = let t : is_finite (a i j) ≡ false = sym at ∙ f in sym (p ∙ rw (one_left n i h, t))
 
 pub row-none : (a : Mat) (n c j r : ℕ) (C : Check) → j < c → C ≡ columns_check a n (c - j) j → r ≡ first_row a n j → C ≡ from_here a n c j r
 unfolding columns_check
@@ -137,6 +134,6 @@ row-end a n c j i C h p = p ∙ rw (none_left n i h)
 pub column-none : (a : Mat) (n c : ℕ) → columns_check a n c 0 ≡ columns_check a n (c - 0) 0
 column-none a n c = ap (λ (k : ℕ). columns_check a n k 0) (omega arith)
 
-pub column-end : (a : Mat) (n c j : ℕ) (C : Check) → c ≤ j → C ≡ columns_check a n (c - j) j → Sound ≡ C
+pub column-end : (a : Mat) (n c j : ℕ) (C : Check) → c ≤ j → C ≡ columns_check a n (c - j) j → Ok tt ≡ C
 unfolding columns_check
 column-end a n c j C h p = sym (p ∙ rw (none_left c j h))

@@ -22,9 +22,3 @@ pub record TailColumnPre (n c j len marks : ℕ) : Type 0 where
   pub rows : c ≤ n
   pub there : n + j * n ≤ len
   pub tail : marks ≡ n - c
-
--- a panel of n rows and c columns, and a mark for each row below the head
-pub record MarksPre (n c len marks : ℕ) : Type 0 where
-  pub rows : c ≤ n
-  pub panel : len ≡ n * c
-  pub tail : marks ≡ n - c

@@ -3,16 +3,17 @@
 // an upper position (row < column): tests/upper.c sees to it, since no contract can say what is not read.
 #![tactic(auto)]
 
-ghost use Rattle.std.specs.Prelude.{◌≡◌, ◌≤◌, length};
+ghost use Rattle.std.specs.Prelude.{◌≡◌, ◌-◌, length};
 ghost use Rattle.model.specs.Matrix.{view, vec};
 ghost use Rattle.model.specs.Factor.{columns_check};
 ghost use Rattle.kernels.specs.Rules.{TwoPre};
 ghost use Rattle.grid.specs.Grid.{DownPre};
-ghost use Rattle.total.specs.Finite.{column_finite, KnownFinite, PanelPre};
+ghost use Rattle.total.specs.Finite.{column_finite, PanelPre};
 ghost use Rattle.scan.specs.Finite.{marked_by, finite_from, first_row};
-ghost use Rattle.scan.specs.Marks.{part_marked, marked, tail_marks, TailColumnPre, MarksPre};
+ghost use Rattle.scan.specs.Marks.{part_marked, marked, tail_marks, TailColumnPre};
 
-use model::{Check, Elim, LocalRow, Refusal};
+use model::{Elim, LocalRow, Refusal};
+use total::Summed;
 
 // A mark, 1 from the first number on that is not finite.
 fn mark(before: u8, x: f64) -> u8
@@ -21,14 +22,14 @@ fn mark(before: u8, x: f64) -> u8
     if scalar::is_finite(x) { before } else { 1 }
 }
 
-// Whether the first n numbers are finite. It is never left early, so that the machine tests several at a time.
-fn all_finite(xs: &[f64], n: usize) -> bool
-    requires { n ≤ length xs.now }
-    ensures { result ≡ finite_from (vec xs.now) 0 n }
+// Whether all numbers are finite. It is never left early, as `all` would be, so that the machine tests several at a
+// time. (What was found is a byte, as a mark is: one law serves both.)
+fn all_finite(xs: &[f64]) -> bool
+    ensures { result ≡ finite_from (vec xs.now) 0 (length xs.now) }
 {
     let mut found = 0;
-    for i in 0..n {
-        found = mark(found, xs[i]);
+    for x in xs {
+        found = mark(found, *x);
     }
     found == 0
 }
@@ -41,7 +42,7 @@ pub fn column_finite(panel: &[f64], nrow: usize, j: usize, lo: usize, hi: usize)
     let start = grid::column_start(nrow, j);
     let from = lo + start;
     let end = hi + start;
-    all_finite(&panel[from..end], hi - lo)
+    all_finite(&panel[from..end])
 }
 
 // The row from which column j is looked at: its diagonal, or past its end where all of it is finite.
@@ -57,41 +58,36 @@ fn first_row(input: &[f64], nrow: usize, j: usize) -> usize
 }
 
 // The first number of the lower panel that is not finite, each column looked at in turn.
-fn first_by_columns(input: &[f64], ncol: usize, nrow: usize) -> Check
+fn first_by_columns(input: &[f64], ncol: usize, nrow: usize) -> Result<(), Refusal>
     requires { PanelPre nrow ncol (length input.now) }
     ensures { result ≡ columns_check (view nrow input.now) nrow ncol 0 }
 {
-    let mut column = 0;
-    let mut row = 0;
-    'columns: while column < ncol {
-        row = first_row(input, nrow, column);
-        while row < nrow {
+    let mut found = Ok(());
+    'columns: for column in 0..ncol {
+        for row in first_row(input, nrow, column)..nrow {
             if !scalar::is_finite(grid::get(input, nrow, row, column)) {
+                found = Err(Refusal::Input(Elim(column), LocalRow(row)));
                 break 'columns;
             }
-            row += 1;
         }
-        column += 1;
     }
-    if column < ncol {
-        return Check::Refused(Refusal::Input(Elim(column), LocalRow(row)));
-    }
-    Check::Sound
+    found
 }
 
 // The first number of the lower panel that is not finite, by column and then by row: refusal 6. One pass over its
 // numbers comes first: where they are known to be finite, there is none.
-pub fn first_not_finite(input: &[f64], ncol: usize, nrow: usize) -> Check
+pub fn first_not_finite(input: &[f64], ncol: usize, nrow: usize) -> Result<(), Refusal>
     requires { PanelPre nrow ncol (length input.now) }
     ensures { result ≡ columns_check (view nrow input.now) nrow ncol 0 }
 {
     if total::known_finite(input, ncol, nrow) {
-        return Check::Sound;
+        return Ok(());
     }
     first_by_columns(input, ncol, nrow)
 }
 
-// The first n marks after one more column of their rows.
+// The first n marks after one more column of their rows. (One index for both slices: after a `zip` of an `iter_mut`
+// nothing is known of the marks.)
 fn mark_column(marks: &mut [u8], column: &[f64], n: usize)
     requires { TwoPre n (length marks.old) (length column.now) }
     ensures { marks.new ≡ part_marked marks.old column.now n }
@@ -116,18 +112,18 @@ fn mark_tail(marks: &mut [u8], panel: &[f64], ncol: usize, nrow: usize, j: usize
 }
 
 // The marks of the tail, by columns: 1 if a row holds a number not finite, else 0.
-// in: panel; finite, whether its lower positions are known to be, the tail among them: then zeros stay / out: marks
+// in: the panel, and whether its lower positions are known to be finite, the tail among them: then zeros stay
+// out: marks
 // origin: src/numeric/ldlt/bunch_kaufman.rs, fn ll_cdiv_emit
-pub fn marks_of(panel: &[f64], marks: &mut [u8], ncol: usize, nrow: usize, finite: bool)
-    requires marks_pre { MarksPre nrow ncol (length panel.now) (length marks.old) }
-    requires known_finite { KnownFinite finite (view nrow panel.now) nrow ncol }
-    ensures { marks.new ≡ tail_marks (view nrow panel.now) ncol nrow ncol }
+pub fn marks_of(s: Summed, marks: &mut [u8])
+    requires { length marks.old ≡ s.nrow - s.ncol }
+    ensures { marks.new ≡ tail_marks (view s.entry.nrow s.entry.panel.now) s.entry.ncol s.entry.nrow s.entry.ncol }
 {
-    kernels::zero_bytes(marks);
-    if finite {
+    marks.fill(0);
+    if s.finite {
         return;
     }
-    for j in 0..ncol {
-        mark_tail(marks, panel, ncol, nrow, j);
+    for j in 0..s.ncol {
+        mark_tail(marks, s.panel, s.ncol, s.nrow, j);
     }
 }

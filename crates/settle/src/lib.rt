@@ -5,7 +5,7 @@
 ghost use Rattle.std.specs.Prelude.{◌≡◌};
 ghost use Rattle.model.specs.Head.{settled_one, settled_two, raised_from, bar_of, lift_step_of};
 
-use model::{Block, Mode, OneSettled, TwoSettled};
+use model::{Block, Mode, OneSettled, TwoSettled, Unfit};
 use rule::PivotRule;
 
 // What a block's determinant must reach in Lift.
@@ -27,67 +27,59 @@ fn lift_step(floor: f64, b: Block) -> f64
 
 // A block whose diagonals are raised, a step a round, until its determinant is not below the bar. The Rust has no
 // limit on the rounds.
-fn raised(b: Block, bar: f64, step: f64, limit: usize) -> TwoSettled
+fn raised(b: Block, bar: f64, step: f64, limit: usize) -> Result<TwoSettled, Unfit>
     ensures { result ≡ raised_from b bar step limit 1 step }
 {
     let mut sum = step;
-    let mut done = 0;
-    while done < limit {
+    for done in 0..limit {
         let block = diagonal::block_of(b.d11 + sum, b.d21, b.d22 + sum);
         if scalar::magnitude(block.det) < bar {
             sum = sum + step;
-            done += 1;
         } else {
-            return TwoSettled::Numbers {
+            return Ok(TwoSettled {
                 block,
-                lifted: 1,
-                amount: sum,
+                lift: Some(sum),
                 rounds: done + 1,
-            };
+            });
         }
     }
-    TwoSettled::OutOfRounds
+    Err(Unfit::OutOfRounds)
 }
 
-// The number of a 1x1 pivot d, lifted only where it is strictly below the floor.
+// The number of a 1x1 pivot d, lifted only where it is strictly below the floor; none where the mode refuses a zero.
 // origin: src/numeric/ldlt/bunch_kaufman.rs, fn ll_bk_panel_step
-pub fn settle_one(mode: Mode, d: f64) -> OneSettled
+pub fn settle_one(mode: Mode, d: f64) -> Option<OneSettled>
     ensures { result ≡ settled_one mode d }
 {
     match mode {
         Mode::Fail => {
             if d == 0.0 {
-                return OneSettled::Zero;
+                return None;
             }
         }
         Mode::Lift(floor) => {
             if scalar::magnitude(d) < floor {
                 let new = scalar::lift(floor, d);
-                return OneSettled::Number {
+                return Some(OneSettled {
                     d: new,
-                    lifted: 1,
-                    amount: new - d,
-                };
+                    lift: Some(new - d),
+                });
             }
         }
     }
-    OneSettled::Number {
-        d,
-        lifted: 0,
-        amount: 0.0,
-    }
+    Some(OneSettled { d, lift: None })
 }
 
 // The numbers of a block b, lifted in Lift where its determinant is below the bar.
 // origin: src/numeric/ldlt/bunch_kaufman.rs, fn ll_bk_panel_step
-pub fn settle_two(mode: Mode, limit: usize, b: Block) -> TwoSettled
+pub fn settle_two(mode: Mode, limit: usize, b: Block) -> Result<TwoSettled, Unfit>
     ensures { result ≡ settled_two mode limit b }
 {
     let size = scalar::magnitude(b.det);
     match mode {
         Mode::Fail => {
             if size <= PivotRule::growth_floor(b) {
-                return TwoSettled::Low;
+                return Err(Unfit::Low);
             }
         }
         Mode::Lift(floor) => {
@@ -97,10 +89,9 @@ pub fn settle_two(mode: Mode, limit: usize, b: Block) -> TwoSettled
             }
         }
     }
-    TwoSettled::Numbers {
+    Ok(TwoSettled {
         block: b,
-        lifted: 0,
-        amount: 0.0,
+        lift: None,
         rounds: 0,
-    }
+    })
 }

@@ -1,19 +1,31 @@
--- Laws of several runs of one slice: what is read of them, and a turn of the kernels, which adds one place to each run. Assumes nothing.
+-- Laws of several runs of one slice: what is read of them, and a turn of the kernel, which adds one place to each run. Assumes nothing.
 use Prim.Native.Nat.{ℕ, zero, suc, ◌+◌, ◌-◌, ◌<◌, ◌≤◌}
 use mathlib.Core.Path.{◌≡◌, refl, sym, ◌∙◌, ap}
 use mathlib.Core.List.{List}
 use native.Mathlib.Omega.{arith}
 use native.Mathlib.Nat.{le_antisymm}
-use borrow.Author.Tests.{ltb-true, ltb-false, ne_eqb}
-use lib.Dec.{ltb}
-use lib.ListN.{length, get_or, set, length-set}
-use lib.Ieee.{Float, nan, binary64, sub, mul}
-use Rattle.model.specs.Matrix.{Row, vec, put, with_part}
-use Rattle.kernels.specs.Rules.{pick, less_all, less_runs}
+use native.Mathlib.Numerals.{add-one}
+use borrow.Author.Tests.{ltb-true, ltb-false, eqb-true, eqb-false, ne_eqb}
+use lib.Dec.{ltb, eqb}
+use lib.ListN.{length, get_or, set}
+use lib.Seq.{get_or-set_same, get_or-set_other}
+use lib.Ieee.{Float, nan}
+use Rattle.model.specs.Matrix.{Row, vec, naturals, put, with_part}
+use Rattle.kernels.specs.Rules.{less_all, less_runs}
 use Rattle.kernels.proofs.Laws.{vec-set, with_part-none, with_part-before, with_part-past, with_part-more}
 use Rattle.model.proofs.Cases.{test, cmp}
-use Rattle.kernels.proofs.Rules.{put-before, all_same, pick-each}
-use Rattle.several.specs.Several.{runs_by, four_less_two, two_less_three, FourRunsPre, TwoRunsPre}
+use Rattle.kernels.proofs.Rules.{put-before, all_same}
+use Rattle.several.specs.Several.{runs_by, runs_less, RunsPre}
+
+-- ---- numbers read in turn
+
+pub numbers-step : (xs s : List Float) (from : List ℕ) (i v : ℕ) → v < length s → ((w : ℕ) → w < v → vec s w ≡ vec xs (naturals from w + i))
+    → (w : ℕ) → w < v + 1 → vec (set s v (get_or xs (get_or from v 0 + i) nan)) w ≡ vec xs (naturals from w + i)
+unfolding vec naturals
+numbers-step xs s from i v h e w l =
+    test (eqb w v)
+    (λ p. let q : w ≡ v = eqb-true w v p in rw q (get_or-set_same s v _ nan h))
+    (λ p. get_or-set_other s v w _ nan (eqb-false w v p) ∙ e w (omega (arith, eqb-false w v p)))
 
 -- ---- runs that do not overlap: each of c ends before a later one begins
 
@@ -28,25 +40,13 @@ apart to n c h u (suc v) l m =
     (λ b. omega (arith, apart to n c h u v (ltb-true u v b) (omega arith), h v m))
     (λ b. let e : u ≡ v = omega (arith, ltb-false u v b) in rw e (h v m))
 
-four-apart : (n q y z w : ℕ) → q + n ≤ y → y + n ≤ z → z + n ≤ w → (u : ℕ) → suc u < 4 → pick q y z w u + n ≤ pick q y z w (suc u)
-unfolding pick
-four-apart n q y z w a b c zero l = a
-four-apart n q y z w a b c (suc zero) l = b
-four-apart n q y z w a b c (suc (suc zero)) l = c
-four-apart n q y z w a b c (suc (suc (suc u))) l = omega arith
-
-two-apart : (n q y : ℕ) → q + n ≤ y → (u : ℕ) → suc u < 2 → pick q y y y u + n ≤ pick q y y y (suc u)
-unfolding pick
-two-apart n q y a zero l = a
-two-apart n q y a (suc u) l = omega arith
-
 -- ---- places that are not written
 
 -- before all runs
-runs-before : (f : Row) (to : ℕ → ℕ) (i : ℕ) (R : ℕ → Row) (c t : ℕ) → ((u : ℕ) → t < to u) → runs_by f to i R c t ≡ f t
+runs-before : (f : Row) (to : ℕ → ℕ) (i : ℕ) (R : ℕ → Row) (c t : ℕ) → ((u : ℕ) → u < c → t < to u) → runs_by f to i R c t ≡ f t
 unfolding runs_by
 runs-before f to i R zero t h = refl
-runs-before f to i R (suc c) t h = with_part-before _ (to c) (to c + i) (R c) t (h c) ∙ runs-before f to i R c t h
+runs-before f to i R (suc c) t h = with_part-before _ (to c) (to c + i) (R c) t (h c (omega arith)) ∙ runs-before f to i R c t (λ u l. h u (omega arith))
 
 -- right after a run
 runs-next : (f : Row) (to : ℕ → ℕ) (n i : ℕ) (R : ℕ → Row) (d c u : ℕ) → Apart to n d → i < n → c ≤ d → u < d → runs_by f to i R c (to u + i) ≡ f (to u + i)
@@ -62,7 +62,7 @@ runs-next f to n i R d (suc c) u h l g o =
 -- ---- one place more in each run
 
 -- the place i of each of c runs, the u-th by Y u
-unfoldable puts_by : Row → (ℕ → ℕ) → ℕ → (ℕ → Float) → ℕ → Row
+unfoldable pub puts_by : Row → (ℕ → ℕ) → ℕ → (ℕ → Float) → ℕ → Row
 puts_by f to i Y zero = f
 puts_by f to i Y (suc c) = put (puts_by f to i Y c) (to c + i) (Y c)
 
@@ -103,80 +103,36 @@ pub runs-end : (f : Row) (xs : List Float) (to : ℕ → ℕ) (i n : ℕ) (R : �
     → vec xs ≡ runs_by f to n R c
 runs-end f xs to i n R c h l e = e ∙ ap (λ (m : ℕ). runs_by f to m R c) (le_antisymm h l)
 
--- ---- a turn: d numbers are read at its beginning, of xs, and c are stored, each less its multiples of those
+-- ---- a turn: d numbers are read at its beginning, and c are stored, each less its multiples of those
 
-module _ (f : Row) (xs : List Float) (to from at : ℕ → ℕ) (i n len : ℕ) (m : ℕ → ℕ → Float) (d c : ℕ) (l : i < n) (h : Apart to n c)
-    (before : (u v : ℕ) → from v + n ≤ to u) (there : (u : ℕ) → to u + n ≤ len) (reads : (v : ℕ) → at v ≡ from v + i)
-    (e : vec xs ≡ runs_by f to i (λ u. less_runs d f (to u) from (m u)) c) where
-  -- after v stores
-  abbrev stored : ℕ → Row
-  stored v = puts_by (runs_by f to i (λ u. less_runs d f (to u) from (m u)) c) to i (λ u. less_runs d f (to u) from (m u) (to u + i)) v
+module _ (f : Row) (from to : ℕ → ℕ) (m : ℕ → Row) (d c : ℕ) where
+  -- e places of each run are done
+  abbrev pub done : ℕ → Row
+  done e = runs_by f to e (runs_less d f from to m) c
 
-  store-next : (v : ℕ) (zs : List Float) → v < c → length zs ≡ len → vec zs ≡ stored v
-      → vec (set zs (to v + i) (less_all d (get_or zs (to v + i) nan) (λ u. get_or xs (at u) nan) (m v))) ≡ stored (suc v)
-  unfolding puts_by less_runs vec
-  store-next v zs o s w =
+  -- and v numbers at place e are stored
+  abbrev pub stored : ℕ → ℕ → Row
+  stored e v = puts_by (done e) to e (λ u. runs_less d f from to m u (to u + e)) v
+
+module _ (f : Row) (from to : ℕ → ℕ) (m : ℕ → Row) (d c i n len : ℕ) (l : i < n) (pre : RunsPre d c n len from to) where
+  disjoint : Apart to n c
+  disjoint = apart to n c pre.apart
+
+  pub store-next : (v : ℕ) (xs zs : List Float) (s : Row) → v < c → length zs ≡ len → vec xs ≡ done f from to m d c i
+      → ((u : ℕ) → u < d → s u ≡ vec xs (from u + i)) → vec zs ≡ stored f from to m d c i v
+      → vec (set zs (to v + i) (less_all d (get_or zs (to v + i) nan) s (m v))) ≡ stored f from to m d c i (v + 1)
+  unfolding puts_by runs_less less_runs vec
+  store-next v xs zs s o long e reads w =
       let own : get_or zs (to v + i) nan ≡ f (to v + i) =
-      ap (λ (r : Row). r (to v + i)) w ∙ puts-past _ to i _ v (to v + i) (λ u g. omega (arith, h u v g o))
-      ∙ runs-next f to n i _ c c v h l (omega arith) o in
-      let source : (u : ℕ) → get_or xs (at u) nan ≡ f (from u + (to v + i - to v)) =
-      λ u. ap (λ (r : Row). r (at u)) e ∙ runs-before f to i _ c (at u) (λ g. omega (arith, before g u, reads u)) ∙ ap f (omega (arith, reads u)) in
-      vec-set zs (to v + i) _ (omega (arith, there v))
-      ∙ ap (λ (r : Row). put r (to v + i) (less_all d (get_or zs (to v + i) nan) (λ u. get_or xs (at u) nan) (m v))) w
-      ∙ ap (put (stored v) (to v + i)) (all_same d _ _ _ _ (m v) own (λ u g. source u))
+      ap (λ (r : Row). r (to v + i)) w ∙ puts-past _ to i _ v (to v + i) (λ u g. omega (arith, disjoint u v g o))
+      ∙ runs-next f to n i _ c c v disjoint l (omega arith) o in
+      let source : (u : ℕ) → u < d → s u ≡ f (from u + (to v + i - to v)) =
+      λ u g. reads u g ∙ ap (λ (r : Row). r (from u + i)) e ∙ runs-before f to i _ c (from u + i) (λ w h. omega (arith, pre.read u w g h))
+      ∙ ap f (omega arith) in
+      rw (add-one v) (vec-set zs (to v + i) _ (omega (arith, pre.out v o))
+      ∙ ap (λ (r : Row). put r (to v + i) (less_all d (get_or zs (to v + i) nan) s (m v))) w
+      ∙ ap (put (stored f from to m d c i v) (to v + i)) (all_same d _ _ _ _ (m v) own source))
 
--- ---- the kernels
-
-pub four-step : (f : Row) (xs : List Float) (p q y z w i n len : ℕ) (a1 a2 b1 b2 c1 c2 d1 d2 : Float) → i < n → FourRunsPre n p q y z w len
-    → length xs ≡ len → vec xs ≡ runs_by f (pick q y z w) i (four_less_two f p (pick q y z w) a1 a2 b1 b2 c1 c2 d1 d2) 4
-    → (ys zs ws : List Float)
-    → ys ≡ set xs (q + i) (sub binary64 (sub binary64 (get_or xs (q + i) nan) (mul binary64 (get_or xs i nan) a1)) (mul binary64 (get_or xs (p + i) nan) a2))
-    → zs ≡ set ys (y + i) (sub binary64 (sub binary64 (get_or ys (y + i) nan) (mul binary64 (get_or xs i nan) b1)) (mul binary64 (get_or xs (p + i) nan) b2))
-    → ws ≡ set zs (z + i) (sub binary64 (sub binary64 (get_or zs (z + i) nan) (mul binary64 (get_or xs i nan) c1)) (mul binary64 (get_or xs (p + i) nan) c2))
-    → vec (set ws (w + i) (sub binary64 (sub binary64 (get_or ws (w + i) nan) (mul binary64 (get_or xs i nan) d1)) (mul binary64 (get_or xs (p + i) nan) d2)))
-    ≡ runs_by f (pick q y z w) (i + 1) (four_less_two f p (pick q y z w) a1 a2 b1 b2 c1 c2 d1 d2) 4
-unfolding four_less_two less_all pick puts_by
-four-step f xs p q y z w i n len a1 a2 b1 b2 c1 c2 d1 d2 l pre s e ys zs ws ey ez ew =
-    let to : ℕ → ℕ = pick q y z w in
-    let from : ℕ → ℕ = pick 0 p p p in
-    let m : ℕ → ℕ → Float = λ u. pick (pick a1 b1 c1 d1 u) (pick a2 b2 c2 d2 u) (pick a2 b2 c2 d2 u) (pick a2 b2 c2 d2 u) in
-    let h : Apart to n 4 = apart to n 4 (four-apart n q y z w pre.second pre.third pre.fourth) in
-    let low : (v : ℕ) → from v + n ≤ q = pick-each (λ t o. t + n ≤ q) 0 p p p 0 p p p (omega (arith, pre.read)) pre.read pre.read pre.read in
-    let high : (u : ℕ) → (q ≤ to u) × (to u + n ≤ len) =
-    pick-each (λ t o. (q ≤ t) × (t + n ≤ len)) q y z w q y z w
-    (omega arith, omega arith) (omega arith, omega arith) (omega arith, omega arith) (omega arith, omega arith) in
-    let store =
-    store-next f xs to from (pick i (p + i) (p + i) (p + i)) i n len m 2 4 l h (λ u v. omega (arith, low v, (high u).0)) (λ u. (high u).1)
-    (pick-each (λ t o. t ≡ o + i) _ _ _ _ 0 p p p (omega arith) refl refl refl) e in
-    let ly : length ys ≡ len = ap length ey ∙ length-set xs _ _ ∙ s in
-    let lz : length zs ≡ len = ap length ez ∙ length-set ys _ _ ∙ ly in
-    let lw : length ws ≡ len = ap length ew ∙ length-set zs _ _ ∙ lz in
-    store 3 ws (omega arith) lw
-    (ap vec ew ∙ store 2 zs (omega arith) lz (ap vec ez ∙ store 1 ys (omega arith) ly (ap vec ey ∙ store 0 xs (omega arith) s e)))
-    ∙ runs-more f to n i _ 4 4 h l (omega arith)
-
-pub two-step : (f : Row) (xs : List Float) (p r q y i n len : ℕ) (a1 a2 a3 b1 b2 b3 : Float) → i < n → TwoRunsPre n p r q y len
-    → length xs ≡ len → vec xs ≡ runs_by f (pick q y y y) i (two_less_three f p r (pick q y y y) a1 a2 a3 b1 b2 b3) 2
-    → (ys : List Float)
-    → ys ≡ set xs (q + i) (sub binary64
-    (sub binary64 (sub binary64 (get_or xs (q + i) nan) (mul binary64 (get_or xs i nan) a1)) (mul binary64 (get_or xs (p + i) nan) a2))
-    (mul binary64 (get_or xs (r + i) nan) a3))
-    → vec (set ys (y + i) (sub binary64
-    (sub binary64 (sub binary64 (get_or ys (y + i) nan) (mul binary64 (get_or xs i nan) b1)) (mul binary64 (get_or xs (p + i) nan) b2))
-    (mul binary64 (get_or xs (r + i) nan) b3)))
-    ≡ runs_by f (pick q y y y) (i + 1) (two_less_three f p r (pick q y y y) a1 a2 a3 b1 b2 b3) 2
-unfolding two_less_three less_all pick puts_by
-two-step f xs p r q y i n len a1 a2 a3 b1 b2 b3 l pre s e ys ey =
-    let to : ℕ → ℕ = pick q y y y in
-    let from : ℕ → ℕ = pick 0 p r r in
-    let m : ℕ → ℕ → Float = λ u. pick (pick a1 b1 b1 b1 u) (pick a2 b2 b2 b2 u) (pick a3 b3 b3 b3 u) (pick a3 b3 b3 b3 u) in
-    let h : Apart to n 2 = apart to n 2 (two-apart n q y pre.second) in
-    let low : (v : ℕ) → from v + n ≤ q = pick-each (λ t o. t + n ≤ q) 0 p r r 0 p r r (omega (arith, pre.read)) pre.read pre.last pre.last in
-    let high : (u : ℕ) → (q ≤ to u) × (to u + n ≤ len) =
-    pick-each (λ t o. (q ≤ t) × (t + n ≤ len)) q y y y q y y y
-    (omega arith, omega arith) (omega arith, omega arith) (omega arith, omega arith) (omega arith, omega arith) in
-    let store =
-    store-next f xs to from (pick i (p + i) (r + i) (r + i)) i n len m 3 2 l h (λ u v. omega (arith, low v, (high u).0)) (λ u. (high u).1)
-    (pick-each (λ t o. t ≡ o + i) _ _ _ _ 0 p r r (omega arith) refl refl refl) e in
-    let ly : length ys ≡ len = ap length ey ∙ length-set xs _ _ ∙ s in
-    store 1 ys (omega arith) ly (ap vec ey ∙ store 0 xs (omega arith) s e) ∙ runs-more f to n i _ 2 2 h l (omega arith)
+  pub store-all : (v : ℕ) (x : Row) → v ≤ c → c ≤ v → x ≡ stored f from to m d c i v → x ≡ done f from to m d c (i + 1)
+  store-all v x h g e =
+      e ∙ ap (stored f from to m d c i) (le_antisymm h g) ∙ runs-more f to n i (runs_less d f from to m) c c disjoint l (omega arith)

@@ -1,9 +1,13 @@
--- Several later columns, each less its own multiples of the same columns, in one pass. The u-th of them goes by the u-th of each four multipliers.
+-- Several later columns, each less its own multiples of the same columns, in one pass. The u-th of them goes by the u-th list of multipliers.
 -- Definitions only. Assumes nothing.
-use Rattle.std.specs.Prelude.{ℕ, zero, suc, ◌+◌, ◌*◌, ◌<◌, ◌≤◌, Float}
-use Rattle.model.specs.Matrix.{Row, Mat, with_part, with_column}
-use Rattle.kernels.specs.Rules.{pick, less_runs}
-use Rattle.grid.specs.Rules.{column_of, less_two, less_three}
+use Rattle.std.specs.Prelude.{ℕ, zero, suc, ◌+◌, ◌*◌, ◌<◌, ◌≤◌, List, [], get_or, Float}
+use Rattle.model.specs.Matrix.{Row, Mat, vec, with_part, with_column}
+use Rattle.kernels.specs.Rules.{less_runs}
+use Rattle.grid.specs.Rules.{less_columns}
+
+-- the u-th of several lists by its index
+unfoldable pub list_at : List (List Float) → ℕ → Row
+list_at m u = vec (get_or m u [])
 
 -- ---- numbers of one slice
 
@@ -12,16 +16,9 @@ unfoldable pub runs_by : Row → (ℕ → ℕ) → ℕ → (ℕ → Row) → ℕ
 runs_by f to n R zero = f
 runs_by f to n R (suc c) = with_part (runs_by f to n R c) (to c) (to c + n) (R c)
 
--- four runs less two, the slice's first numbers and those from p on; and two runs less three, those from r on too
-unfoldable pub four_less_two : Row → ℕ → (ℕ → ℕ) → Float → Float → Float → Float → Float → Float → Float → Float → ℕ → Row
-four_less_two f p to a1 a2 b1 b2 c1 c2 d1 d2 u =
-    let m2 = pick a2 b2 c2 d2 u in
-    less_runs 2 f (to u) (pick 0 p p p) (pick (pick a1 b1 c1 d1 u) m2 m2 m2)
-
-unfoldable pub two_less_three : Row → ℕ → ℕ → (ℕ → ℕ) → Float → Float → Float → Float → Float → Float → ℕ → Row
-two_less_three f p r to a1 a2 a3 b1 b2 b3 u =
-    let m3 = pick a3 b3 b3 b3 u in
-    less_runs 3 f (to u) (pick 0 p r r) (pick (pick a1 b1 b1 b1 u) (pick a2 b2 b2 b2 u) m3 m3)
+-- the u-th run, which begins at `to u`, less r runs, of which the v-th begins at `from v`, by the multipliers m u
+unfoldable pub runs_less : ℕ → Row → (ℕ → ℕ) → (ℕ → ℕ) → (ℕ → Row) → ℕ → Row
+runs_less r f from to m u = less_runs r f (to u) from (m u)
 
 -- ---- columns of a part
 
@@ -30,30 +27,19 @@ unfoldable pub columns_by : Mat → ℕ → ℕ → ℕ → (ℕ → Row) → �
 columns_by M j lo hi R zero = M
 columns_by M j lo hi R (suc c) = with_column (columns_by M j lo hi R c) (j + c) lo hi (R c)
 
--- four columns less columns 0 and 1, and two columns less columns 0 to 2
-unfoldable pub four_columns : Mat → ℕ → Float → Float → Float → Float → Float → Float → Float → Float → ℕ → Row
-four_columns M j a1 a2 b1 b2 c1 c2 d1 d2 u = less_two (column_of M (j + u)) (column_of M 0) (column_of M 1) (pick a1 b1 c1 d1 u) (pick a2 b2 c2 d2 u)
-
-unfoldable pub two_columns : Mat → ℕ → Float → Float → Float → Float → Float → Float → ℕ → Row
-two_columns M j a1 a2 a3 b1 b2 b3 u =
-    less_three (column_of M (j + u)) (column_of M 0) (column_of M 1) (column_of M 2) (pick a1 b1 b1 b1 u) (pick a2 b2 b2 b2 u) (pick a3 b3 b3 b3 u)
+-- column j + u less columns 0 to r - 1 in turn, by the multipliers m u
+unfoldable pub less_of : ℕ → Mat → ℕ → (ℕ → Row) → ℕ → Row
+less_of r M j m u = less_columns r M 0 (j + u) (m u)
 
 -- ---- what the functions ask
 
--- four runs of n numbers of one slice, from q, y, z and w on, each past the one before it and all past what is read: the slice's first n and the n from p on
-pub record FourRunsPre (n p q y z w x : ℕ) : Type 0 where
-  pub read : p + n ≤ q
-  pub second : q + n ≤ y
-  pub third : y + n ≤ z
-  pub fourth : z + n ≤ w
-  pub out : w + n ≤ x
-
--- two runs, from q and y on, past the slice's first n, the n from p on and the n from r on
-pub record TwoRunsPre (n p r q y x : ℕ) : Type 0 where
-  pub read : p + n ≤ q
-  pub last : r + n ≤ q
-  pub second : q + n ≤ y
-  pub out : y + n ≤ x
+-- r runs of n numbers of one slice, of which the v-th begins at `from v`, are read; w more, of which the u-th begins at `to u`, stand past all of them, each
+-- past the one before it
+pub record RunsPre (r w n x : ℕ) (from to : ℕ → ℕ) : Type 0 where
+  pub there : (v : ℕ) → v < r → from v + n ≤ x
+  pub read : (v u : ℕ) → v < r → u < w → from v + n ≤ to u
+  pub apart : (u : ℕ) → suc u < w → to u + n ≤ to (suc u)
+  pub out : (u : ℕ) → u < w → to u + n ≤ x
 
 -- rows 0 up to `rows` of columns 0 to c and, past them, of j up to the last, e
 pub record ColumnsPre (n rows c j e len : ℕ) : Type 0 where

@@ -19,15 +19,12 @@ use Rattle.model.specs.Inertia.{check_bytes}
 use Rattle.model.specs.Solve.{Factor, square_sound, solve_lengths, order_sound, order_at, check_order, right_side_at, solve_check, solution_of, solve_of}
 use Rattle.model.specs.declared.Refusal.{Refusal}
 use Rattle.model.specs.declared.Refusal.TheVariants.{Shape, SolveLength}
-use Rattle.model.specs.declared.Check.{Check}
-use Rattle.model.specs.declared.Check.TheVariants.{Sound, Refused}
-use Rattle.model.specs.declared.Applied.{Applied}
-use Rattle.model.specs.declared.Applied.TheVariants.{Done}
+use Rattle.model.specs.Answer.{Check}
+use Rattle.std.specs.Prelude.{Ok, Err}
 use Rattle.model.proofs.Cases.{and_left, and_right}
 use Rattle.model.proofs.Entry.{first-sound, second-sound, not-refused}
 use Rattle.model.proofs.Tabulated.{is-tabulate}
 use Rattle.kernels.proofs.Parts.{mid-count}
-use Rattle.checks.specs.Answers.{answer_of}
 use Rattle.checks.specs.Finite.{finite_at}
 use Rattle.checks.proofs.Answers.{first-refuses, second-decides}
 use Rattle.checks.proofs.Bytes.{bytes-paired}
@@ -71,7 +68,7 @@ lengths ncol nrow f vector h = record {
 -- ---- the checks in turn: b and t are the answers of the tests of refusals 1 and 25, k of refusal 26's scan, j of refusal 16's, i of refusal 27's
 
 module _ (ncol nrow : ℕ) (f : Factor) (vector : List Float) (b : Bool) (h : b ≡ square_sound ncol nrow) where
-  pub check-shape : not b ≡ true → Refused Shape ≡ solve_check ncol nrow f vector
+  pub check-shape : not b ≡ true → Err Shape ≡ solve_check ncol nrow f vector
   unfolding solve_check
   check-shape x = rw (← h, x)
 
@@ -79,7 +76,7 @@ module _ (ncol nrow : ℕ) (f : Factor) (vector : List Float) (b : Bool) (h : b 
   shape-passed x = sym h ∙ not-false b x
 
   module _ (x : not b ≡ false) (t : Bool) (g : t ≡ solve_lengths ncol nrow f vector) where
-    pub check-lengths : not t ≡ true → Refused SolveLength ≡ solve_check ncol nrow f vector
+    pub check-lengths : not t ≡ true → Err SolveLength ≡ solve_check ncol nrow f vector
     unfolding solve_check
     check-lengths y = rw (← h, x, ← g, y)
 
@@ -93,16 +90,16 @@ module _ (ncol nrow : ℕ) (f : Factor) (vector : List Float) (b : Bool) (h : b 
       own-order : k ≡ check_order ncol (naturals f.order)
       own-order = e ∙ ap (λ (n : ℕ). check_order n (naturals f.order)) (lengths-passed y).order
 
-      pub check-order : (r : Refusal) → k ≡ Refused r → k ≡ solve_check ncol nrow f vector
+      pub check-order : (r : Refusal) → k ≡ Err r → k ≡ solve_check ncol nrow f vector
       unfolding solve_check
       check-order r z = rw (← h, x, ← g, y) (first-refuses k r _ _ z own-order)
 
-      module _ (z : k ≡ Sound) (j : Check) (c : j ≡ check_bytes f.blocks) where
-        pub check-bytes : (r : Refusal) → j ≡ Refused r → j ≡ solve_check ncol nrow f vector
+      module _ (z : k ≡ Ok tt) (j : Check) (c : j ≡ check_bytes f.blocks) where
+        pub check-bytes : (r : Refusal) → j ≡ Err r → j ≡ solve_check ncol nrow f vector
         unfolding solve_check
         check-bytes r q = rw (← h, x, ← g, y) (second-decides k j _ _ z own-order (first-refuses j r _ _ q c))
 
-        pub check-numbers : (i : Check) → j ≡ Sound → i ≡ first_not (finite_at vector) right_side_at (length vector) 0 → i ≡ solve_check ncol nrow f vector
+        pub check-numbers : (i : Check) → j ≡ Ok tt → i ≡ first_not (finite_at vector) right_side_at (length vector) 0 → i ≡ solve_check ncol nrow f vector
         unfolding solve_check finite_at
         check-numbers i q p =
             rw (← h, x, ← g, y) (second-decides k i _ _ z own-order (second-decides j i _ _ q c (rw (lengths-passed y).right at p)))
@@ -110,24 +107,24 @@ module _ (ncol nrow : ℕ) (f : Factor) (vector : List Float) (b : Bool) (h : b 
 -- ---- the call: k is what its checks answer
 
 module _ (ncol nrow : ℕ) (f : Factor) (vector : List Float) (k : Check) (e : k ≡ solve_check ncol nrow f vector) where
-  module _ (h : k ≡ Sound) where
+  module _ (h : k ≡ Ok tt) where
     square : square_sound ncol nrow ≡ true
     unfolding solve_check
-    square = let pass : solve_check ncol nrow f vector ≡ Sound = sym e ∙ h in not-refused (square_sound ncol nrow) Shape (search (first-sound, second-sound))
+    square = let pass : solve_check ncol nrow f vector ≡ Ok tt = sym e ∙ h in not-refused (square_sound ncol nrow) Shape (search (first-sound, second-sound))
 
     all-lengths : Lengths ncol nrow f vector
     unfolding solve_check
     all-lengths =
-        let pass : solve_check ncol nrow f vector ≡ Sound = sym e ∙ h in
+        let pass : solve_check ncol nrow f vector ≡ Ok tt = sym e ∙ h in
         lengths ncol nrow f vector (not-refused (solve_lengths ncol nrow f vector) SolveLength (search (first-sound, second-sound)))
 
-    rows-sound : check_order ncol (naturals f.order) ≡ Sound
+    rows-sound : check_order ncol (naturals f.order) ≡ Ok tt
     unfolding solve_check
-    rows-sound = let pass : solve_check ncol nrow f vector ≡ Sound = sym e ∙ h in search (first-sound, second-sound)
+    rows-sound = let pass : solve_check ncol nrow f vector ≡ Ok tt = sym e ∙ h in search (first-sound, second-sound)
 
-    bytes-sound : check_bytes f.blocks ≡ Sound
+    bytes-sound : check_bytes f.blocks ≡ Ok tt
     unfolding solve_check
-    bytes-sound = let pass : solve_check ncol nrow f vector ≡ Sound = sym e ∙ h in search (first-sound, second-sound)
+    bytes-sound = let pass : solve_check ncol nrow f vector ≡ Ok tt = sym e ∙ h in search (first-sound, second-sound)
 
     pub few-columns : ncol ≤ most_columns
     few-columns = square-few ncol nrow square
@@ -153,15 +150,15 @@ module _ (ncol nrow : ℕ) (f : Factor) (vector : List Float) (k : Check) (e : k
 
     pub solve-done : (n : ℕ) (new : List Float) → n ≡ ncol → length new ≡ length vector
         → vec new ≡ solution_of n (diagonals_of f.d f.sub f.blocks) (view n f.panel) (naturals f.order) (vec vector)
-        → solve_leaves Done new ≡ solve_of ncol nrow f vector
+        → solve_leaves (Ok tt) new ≡ solve_of ncol nrow f vector
     unfolding solve_of vec
     solve-done n new q l v =
         let s : Row = solution_of ncol (diagonals_of f.d f.sub f.blocks) (view nrow f.panel) (naturals f.order) (vec vector) in
         let is : new ≡ tabulate ncol s
         = is-tabulate ncol s nan new (l ∙ all-lengths.right)
         (λ i o. ap (λ (g : Row). g i) v ∙ rw (q, ← square-is ncol nrow square)) in
-        ap (solve_leaves Done) is ∙ rw (← e, h)
+        ap (solve_leaves (Ok tt)) is ∙ rw (← e, h)
 
-  pub solve-refuses : (r : Refusal) (a : Applied) → k ≡ Refused r → a ≡ answer_of k → solve_leaves a vector ≡ solve_of ncol nrow f vector
+  pub solve-refuses : (r : Refusal) → k ≡ Err r → solve_leaves (Err r) vector ≡ solve_of ncol nrow f vector
   unfolding solve_of
-  solve-refuses r a h q = rw (q, ← e, h)
+  solve-refuses r h = rw (← e, h)

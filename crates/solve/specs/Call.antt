@@ -3,12 +3,16 @@ use Rattle.std.specs.Prelude.{◌≡◌, List, ℕ, ◌*◌, ◌<◌, length, Fl
 use Rattle.model.specs.Matrix.{Row, Mat, naturals, with_part}
 use Rattle.model.specs.Step.{Diagonals}
 use Rattle.model.specs.Kept.{Paired}
-use Rattle.model.specs.Answer.{applied_says}
+use Rattle.model.specs.Answer.{Applied, applied_says}
 use Rattle.model.specs.Solve.{Factor, Solved, forward_from, divided, back_from}
-use Rattle.model.specs.declared.Applied.{Applied}
+use Rattle.solve.specs.declared.Factor as lent
 
 abbrev pub factors_of : List Float → List Float → List Float → List ℕ → List ℕ → Factor
 factors_of panel d sub blocks order = record { panel = panel; d = d; sub = sub; blocks = blocks; order = order }
+
+-- the same of what is lent
+abbrev pub factor_in : lent.Factor → Factor
+factor_in f = factors_of f.panel.now f.diagonals.d.now f.diagonals.sub.now f.diagonals.blocks.now f.order.now
 
 -- the answer and the vector at the end
 abbrev pub solve_leaves : Applied → List Float → Solved

@@ -5,15 +5,23 @@
 
 ghost use Rattle.std.specs.Prelude.{◌≡◌, true, length};
 ghost use Rattle.model.specs.Matrix.{view, vec, naturals};
-ghost use Rattle.model.specs.Step.{diagonals_of};
+ghost use Rattle.model.specs.Step.{diagonals_in};
 ghost use Rattle.model.specs.Assembly.{first_not};
 ghost use Rattle.model.specs.Solve.{square_sound, solve_lengths, right_side_at, solve_check, solution_of, solve_of};
 ghost use Rattle.checks.specs.Finite.{finite_at};
 ghost use Rattle.forward.specs.Forward.{ForwardPre};
 ghost use Rattle.divide.specs.Divide.{DividePre};
-ghost use Rattle.solve.specs.Call.{factors_of, through_factor, solve_leaves, SubstitutePre};
+ghost use Rattle.solve.specs.Call.{factor_in, through_factor, solve_leaves, SubstitutePre};
 
-use model::{Applied, COLUMNS_MAX, Check, LocalRow, Refusal};
+use model::{COLUMNS_MAX, DiagonalLists, LocalRow, Refusal};
+
+// What a factor call of a root node left: the panel, ncol·ncol numbers; D and the order, ncol places each.
+#[derive(Clone, Copy)]
+pub struct Factor<'a> {
+    pub panel: &'a [f64],
+    pub diagonals: DiagonalLists<'a>,
+    pub order: &'a [usize],
+}
 
 // ---- refusals
 
@@ -25,132 +33,78 @@ fn square_sound(ncol: usize, nrow: usize) -> bool
 }
 
 // Refusal 25's test. The shape is sound, so that the panel's length fits.
-fn lengths_sound(
-    ncol: usize,
-    nrow: usize,
-    panel: &[f64],
-    d: &[f64],
-    sub: &[f64],
-    blocks: &[u8],
-    order: &[usize],
-    vector: &[f64],
-) -> bool
+fn lengths_sound(ncol: usize, nrow: usize, f: Factor, vector: &[f64]) -> bool
     requires { square_sound ncol nrow ≡ true }
-    ensures { result ≡ solve_lengths ncol nrow (factors_of panel.now d.now sub.now
-        blocks.now order.now) vector.now }
+    ensures { result ≡ solve_lengths ncol nrow (factor_in f.entry) vector.now }
 {
-    (panel.len() == nrow * ncol)
-        & ((d.len() == ncol)
-            & ((sub.len() == ncol)
-                & ((blocks.len() == ncol) & ((order.len() == ncol) & (vector.len() == ncol)))))
+    let x = f.diagonals;
+    (f.panel.len() == nrow * ncol)
+        & ((x.d.len() == ncol)
+            & ((x.sub.len() == ncol)
+                & ((x.blocks.len() == ncol) & ((f.order.len() == ncol) & (vector.len() == ncol)))))
 }
 
 // Refusal 27: the first number of the right side that is not finite.
-fn first_bad_number(vector: &[f64]) -> Check
+fn first_bad_number(vector: &[f64]) -> Result<(), Refusal>
     ensures { result ≡ first_not (finite_at vector.now) right_side_at (length vector.now) 0 }
 {
-    let mut k = 0;
-    while k < vector.len() {
-        if !scalar::is_finite(vector[k]) {
-            return Check::Refused(Refusal::RightSide(LocalRow(k)));
-        }
-        k += 1;
+    match checks::first_bad_number(vector) {
+        Some(k) => Err(Refusal::RightSide(LocalRow(k))),
+        None => Ok(()),
     }
-    Check::Sound
 }
 
 // Refusals 1, 25, 26, 16 and 27.
-fn solve_check(
-    ncol: usize,
-    nrow: usize,
-    panel: &[f64],
-    d: &[f64],
-    sub: &[f64],
-    blocks: &[u8],
-    order: &[usize],
-    vector: &[f64],
-) -> Check
-    ensures { result ≡ solve_check ncol nrow (factors_of panel.now d.now sub.now
-        blocks.now order.now) vector.now }
+fn solve_check(ncol: usize, nrow: usize, f: Factor, vector: &[f64]) -> Result<(), Refusal>
+    ensures { result ≡ solve_check ncol nrow (factor_in f.entry) vector.now }
 {
     if !square_sound(ncol, nrow) {
-        return Check::Refused(Refusal::Shape);
+        return Err(Refusal::Shape);
     }
-    if !lengths_sound(ncol, nrow, panel, d, sub, blocks, order, vector) {
-        return Check::Refused(Refusal::SolveLength);
+    if !lengths_sound(ncol, nrow, f, vector) {
+        return Err(Refusal::SolveLength);
     }
-    let rows = order::first_bad_row(order);
-    let Check::Sound = rows else {
-        return rows;
-    };
-    let bytes = checks::first_bad_byte(blocks);
-    let Check::Sound = bytes else {
-        return bytes;
-    };
+    order::first_bad_row(f.order)?;
+    checks::first_bad_byte(f.diagonals.blocks)?;
     first_bad_number(vector)
 }
 
 // ---- the steps
 
 // By elimination position: forward through L, divided by D, back through L.
-fn through_factor(panel: &[f64], d: &[f64], sub: &[f64], blocks: &[u8], y: &mut [f64])
-    requires forward_pre { ForwardPre blocks.now (length y.old) (length panel.now) }
-    requires divide_pre { DividePre blocks.now (length d.now) (length sub.now) (length y.old) }
-    ensures { vec y.new ≡ through_factor (length y.old)
-        (diagonals_of d.now sub.now blocks.now)
-        (view (length y.old) panel.now) (vec y.old) }
+fn through_factor(f: Factor, y: &mut [f64])
+    requires forward_pre { ForwardPre f.diagonals.blocks.now (length y.old) (length f.panel.now) }
+    requires divide_pre { DividePre f.diagonals.blocks.now (length f.diagonals.d.now)
+        (length f.diagonals.sub.now) (length y.old) }
+    ensures { vec y.new ≡ through_factor (length y.old) (diagonals_in f.entry.diagonals)
+        (view (length y.old) f.entry.panel.now) (vec y.old) }
 {
-    forward::forward(panel, blocks, y);
-    divide::divide(d, sub, blocks, y);
-    back::back(panel, blocks, y);
+    forward::forward(f.panel, f.diagonals.blocks, y);
+    divide::divide(f.diagonals, y);
+    back::back(f.panel, f.diagonals.blocks, y);
 }
 
 // In the recorded order, through the factor, and the order undone.
 // work: y, as many numbers as the node has columns, any on entry.
-fn substitute(
-    panel: &[f64],
-    d: &[f64],
-    sub: &[f64],
-    blocks: &[u8],
-    order: &[usize],
-    vector: &mut [f64],
-    y: &mut [f64],
-)
-    requires { SubstitutePre (factors_of panel.now d.now sub.now blocks.now order.now) (length vector.old)
-        (length y.old) }
-    ensures { vec vector.new ≡ solution_of (length y.old)
-        (diagonals_of d.now sub.now blocks.now)
-        (view (length y.old) panel.now) (naturals order.now)
-        (vec vector.old) }
+fn substitute(f: Factor, vector: &mut [f64], y: &mut [f64])
+    requires { SubstitutePre (factor_in f) (length vector.old) (length y.old) }
+    ensures { vec vector.new ≡ solution_of (length y.old) (diagonals_in f.entry.diagonals)
+        (view (length y.old) f.entry.panel.now) (naturals f.entry.order.now) (vec vector.old) }
 {
-    order::take(&vector[..], order, y);
-    through_factor(panel, d, sub, blocks, y);
-    order::put_back(vector, order, &y[..]);
+    order::take(&vector[..], f.order, y);
+    through_factor(f, y);
+    order::put_back(vector, f.order, &y[..]);
 }
 
-// in: ncol and nrow, a root node's columns and rows, which are as many; panel, d, sub, blocks and order as a factor call
-// of it left them: ncol·ncol numbers, and ncol places each.
+// in: ncol and nrow, a root node's columns and rows, which are as many; f, as a factor call of it left it.
 // in and out: vector, ncol numbers: the right side, by the node's rows, and after acceptance the solution.
-// Done, or refusal 1, 25, 26, 16 or 27.
-pub fn solve(
-    ncol: usize,
-    nrow: usize,
-    panel: &[f64],
-    d: &[f64],
-    sub: &[f64],
-    blocks: &[u8],
-    order: &[usize],
-    vector: &mut [f64],
-) -> Applied
-    ensures { solve_leaves result vector.new ≡ solve_of ncol nrow (factors_of panel.now
-        d.now sub.now blocks.now order.now) vector.old }
+// Ok, or refusal 1, 25, 26, 16 or 27.
+pub fn solve(ncol: usize, nrow: usize, f: Factor, vector: &mut [f64]) -> Result<(), Refusal>
+    ensures { solve_leaves result vector.new ≡ solve_of ncol nrow (factor_in f.entry) vector.old }
 {
-    let checked = solve_check(ncol, nrow, panel, d, sub, blocks, order, &vector[..]);
-    let Check::Sound = checked else {
-        return checks::answer(checked);
-    };
+    solve_check(ncol, nrow, f, &vector[..])?;
     // by elimination position: what is worked on between the two orders
     let mut y = [0.0; COLUMNS_MAX];
-    substitute(panel, d, sub, blocks, order, vector, &mut y[0..ncol]);
-    Applied::Done
+    substitute(f, vector, &mut y[0..ncol]);
+    Ok(())
 }

@@ -1,26 +1,26 @@
 -- Laws of the look at the result after the last column: a pivot, a column, and one column more of the loop. Assumes nothing.
 use mathlib.Core.Path.{◌≡◌, sym, ◌∙◌}
-use mathlib.Core.Bool.{Bool, true, false, not, ◌&&◌, ◌||◌}
+use mathlib.Core.Bool.{Bool, true, false, ◌&&◌, ◌||◌}
 use mathlib.Core.List.{List}
 use Prim.Native.Nat.{ℕ, suc, ◌+◌, ◌-◌, ◌<◌, ◌≤◌}
 use native.Mathlib.Omega.{arith}
-use borrow.Author.Tests.{eqb-true, not-true, not-false}
+use borrow.Author.Tests.{eqb-true}
 use lib.ListN.{get_or}
 use lib.Ieee.{Float, nan}
+use Rattle.std.specs.Prelude.{Ok, Err}
 use Rattle.model.specs.Scalar.{reciprocal_of, is_finite}
 use Rattle.model.specs.Matrix.{Mat, vec, naturals}
 use Rattle.model.specs.Step.{Diagonals, diagonals_of, begins, ends_block, block_at}
 use Rattle.model.specs.Factor.{pivot_sound, column_sound, result_check}
 use Rattle.model.specs.declared.Block.{Block}
 use Rattle.model.specs.declared.Refusal.TheVariants.{NotFinite}
-use Rattle.model.specs.declared.Check.{Check}
-use Rattle.model.specs.declared.Check.TheVariants.{Sound, Refused}
+use Rattle.model.specs.Answer.{Check}
 use Rattle.diagonal.specs.Diagonal.{BlockPre}
 use Rattle.grid.proofs.Laws.{col-in}
-use Rattle.total.specs.Finite.{column_finite, KnownFinite}
+use Rattle.total.specs.Finite.{column_finite, KnownFinite, PanelPre}
 use Rattle.grid.specs.Grid.{DownPre}
 use Rattle.scan.proofs.Finite.{known-column}
-use Rattle.soundness.specs.Result.{block_sound, HeadPre, PivotsPre, ResultPre}
+use Rattle.soundness.specs.Result.{block_sound, PivotsPre, ResultPre}
 
 -- ---- a pivot
 
@@ -44,19 +44,17 @@ module _ (ds subs : List Float) (bs : List ℕ) (k : ℕ) (t : Bool) (e : t ≡ 
 
 -- ---- a column
 
-pub column-down : (nrow ncol k len : ℕ) → HeadPre nrow ncol k len → DownPre nrow k k ncol len
-column-down nrow ncol k len h = record { up = omega (arith, h.column); rows = h.rows; there = col-in nrow ncol k len h.panel h.column }
+-- as its panel has it: it is there, and finite where the panel is known to be
+pub column-down : (nrow ncol k len : ℕ) → PanelPre nrow ncol len → k < ncol → DownPre nrow k k ncol len
+column-down nrow ncol k len h l = record { up = omega (arith, l); rows = h.rows; there = col-in nrow ncol k len h.panel l }
 
-pub column-known : (nrow ncol k len : ℕ) (a : Mat) (b : Bool) → HeadPre nrow ncol k len → KnownFinite b a nrow ncol → b ≡ true
+pub column-known : (nrow ncol k len : ℕ) (a : Mat) (b : Bool) → PanelPre nrow ncol len → KnownFinite b a nrow ncol → b ≡ true → k < ncol
     → true ≡ column_finite a k k ncol
-column-known nrow ncol k len a b h w e = known-column a b nrow ncol k k ncol w e h.column (omega arith) h.rows
-
-pub column-head : (nrow ncol len ds subs k : ℕ) (bs : List ℕ) → ResultPre nrow ncol len ds subs bs → k < ncol → HeadPre nrow ncol k len
-column-head nrow ncol len ds subs k bs h l = record { rows = h.rows; panel = h.panel; column = l }
+column-known nrow ncol k len a b h w e l = known-column a b nrow ncol k k ncol w e l (omega arith) h.rows
 
 -- as its pivots have it
-pub column-pivots : (nrow ncol len ds subs : ℕ) (bs : List ℕ) → ResultPre nrow ncol len ds subs bs → PivotsPre ds subs bs
-column-pivots nrow ncol len ds subs bs h = rw h.d h.pivots
+pub column-pivots : (ncol ds subs : ℕ) (bs : List ℕ) → ResultPre ncol ds subs bs → PivotsPre ds subs bs
+column-pivots ncol ds subs bs h = rw h.d h.pivots
 
 pub column-is : (a : Mat) (ds subs : List Float) (bs : List ℕ) (ncol k : ℕ) (e f p w : Bool) → e ≡ is_finite (get_or ds k nan) → f ≡ is_finite (get_or subs k nan)
     → p ≡ pivot_sound (diagonals_of ds subs bs) k → w ≡ column_finite a k k ncol → e && (f && (p && w)) ≡ column_sound ncol (diagonals_of ds subs bs) a k
@@ -73,16 +71,16 @@ module _ (ncol : ℕ) (D : Diagonals) (a : Mat) (k : ℕ) (R : Check) where
   result-one : k < ncol → result_check ncol D a (ncol - k) k ≡ result_check ncol D a (suc (ncol - (k + 1))) k
   result-one h = let e : ncol - k ≡ suc (ncol - (k + 1)) = omega arith in rw e
 
-  pub result-step : (t : Bool) → k < ncol → t ≡ column_sound ncol D a k → not t ≡ false → result_check ncol D a (ncol - k) k ≡ R
+  pub result-step : (t : Bool) → k < ncol → t ≡ column_sound ncol D a k → t ≡ true → result_check ncol D a (ncol - k) k ≡ R
       → result_check ncol D a (ncol - (k + 1)) (k + 1) ≡ R
   unfolding result_check
-  result-step t h e n r = sym (result-one h ∙ rw (sym e ∙ not-false t n)) ∙ r
+  result-step t h e n r = sym (result-one h ∙ rw (sym e ∙ n)) ∙ r
 
-  pub result-found : (t : Bool) → k < ncol → t ≡ column_sound ncol D a k → not t ≡ true → result_check ncol D a (ncol - k) k ≡ R
-      → Refused (NotFinite (record { 0 = k })) ≡ R
+  pub result-found : (t : Bool) → k < ncol → t ≡ column_sound ncol D a k → t ≡ false → result_check ncol D a (ncol - k) k ≡ R
+      → Err (NotFinite (record { 0 = k })) ≡ R
   unfolding result_check
-  result-found t h e n r = sym (result-one h ∙ rw (sym e ∙ not-true t n)) ∙ r
+  result-found t h e n r = sym (result-one h ∙ rw (sym e ∙ n)) ∙ r
 
-  pub result-end : ncol ≤ k → result_check ncol D a (ncol - k) k ≡ R → Sound ≡ R
+  pub result-end : ncol ≤ k → result_check ncol D a (ncol - k) k ≡ R → Ok tt ≡ R
   unfolding result_check
   result-end h r = let e : ncol - k ≡ 0 = omega arith in sym (rw e) ∙ r

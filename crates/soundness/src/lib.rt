@@ -1,16 +1,17 @@
 // The look at a result after the last column, refusal 9: whether each column's d, subdiagonal, pivot and lower head is
-// finite. A reader may rely on the contract of `first_unsound`: its answer is the definition's, the least column that is
-// not.
+// finite. A reader may rely on the contract of `first_unsound`: its answer is the definition's, the least column that
+// is not.
 #![tactic(auto)]
 
 ghost use Rattle.std.specs.Prelude.{◌≡◌, ◌<◌, length};
 ghost use Rattle.model.specs.Matrix.{view};
-ghost use Rattle.model.specs.Step.{diagonals_of};
+ghost use Rattle.model.specs.Step.{diagonals_in};
 ghost use Rattle.model.specs.Factor.{pivot_sound, column_sound, result_check};
-ghost use Rattle.total.specs.Finite.{column_finite, KnownFinite};
-ghost use Rattle.soundness.specs.Result.{block_sound, HeadPre, PivotsPre, ResultPre};
+ghost use Rattle.total.specs.Finite.{column_finite};
+ghost use Rattle.soundness.specs.Result.{block_sound, PivotsPre, ResultPre};
 
-use model::{Block, Check, Elim, Refusal};
+use model::{Block, DiagonalLists, Elim, Refusal};
+use total::Summed;
 
 // Whether a block's determinant and its reciprocal are finite.
 fn block_sound(b: Block) -> bool
@@ -20,75 +21,51 @@ fn block_sound(b: Block) -> bool
 }
 
 // Whether the pivot's own number at k is finite: a 1x1's reciprocal, or what a block's first column answers for.
-fn pivot_sound(d: &[f64], sub: &[f64], blocks: &[u8], k: Elim) -> bool
-    requires pivots_pre { PivotsPre (length d.now) (length sub.now) blocks.now }
-    requires k_in_bounds { k.0 < length d.now }
-    ensures { result
-        ≡ pivot_sound (diagonals_of d.now sub.now blocks.now) k.0 }
+fn pivot_sound(x: DiagonalLists, k: Elim) -> bool
+    requires pivots_pre { PivotsPre (length x.d.now) (length x.sub.now) x.blocks.now }
+    requires k_in_bounds { k.0 < length x.d.now }
+    ensures { result ≡ pivot_sound (diagonals_in x.entry) k.0 }
 {
-    if diagonal::block_begins(blocks, k) {
-        return block_sound(diagonal::block_at(d, sub, k));
+    if diagonal::block_begins(x.blocks, k) {
+        return block_sound(diagonal::block_at(x, k));
     }
-    let at = k.0;
-    diagonal::ends_block(blocks, k) | scalar::is_finite(scalar::reciprocal(d[at]))
+    diagonal::ends_block(x.blocks, k) | scalar::is_finite(scalar::reciprocal(x.d[k.0]))
 }
 
 // Whether column k of the head is finite from its diagonal down. Where the panel is known to be finite it is not read.
-fn head_finite(panel: &[f64], nrow: usize, ncol: usize, k: usize, finite: bool) -> bool
-    requires head_pre { HeadPre nrow ncol k (length panel.now) }
-    requires known_finite { KnownFinite finite (view nrow panel.now) nrow ncol }
-    ensures { result ≡ column_finite (view nrow panel.now) k k ncol }
+fn head_finite(s: Summed, k: usize) -> bool
+    requires { k < s.ncol }
+    ensures { result ≡ column_finite (view s.entry.nrow s.entry.panel.now) k k s.entry.ncol }
 {
-    if finite {
+    if s.finite {
         return true;
     }
-    scan::column_finite(panel, nrow, k, k, ncol)
+    scan::column_finite(s.panel, s.nrow, k, k, s.ncol)
 }
 
 // Whether column k of the result is finite: d, subdiagonal, pivot, and the head from the diagonal down.
-fn column_sound(
-    panel: &[f64],
-    d: &[f64],
-    sub: &[f64],
-    blocks: &[u8],
-    nrow: usize,
-    ncol: usize,
-    k: usize,
-    finite: bool,
-) -> bool
-    requires result_pre { ResultPre nrow ncol (length panel.now) (length d.now) (length sub.now) blocks.now }
-    requires known_finite { KnownFinite finite (view nrow panel.now) nrow ncol }
-    requires k_lt_ncol { k < ncol }
-    ensures { result ≡ column_sound ncol
-        (diagonals_of d.now sub.now blocks.now) (view nrow panel.now) k }
+fn column_sound(s: Summed, x: DiagonalLists, k: usize) -> bool
+    requires result_pre { ResultPre s.ncol (length x.d.now) (length x.sub.now) x.blocks.now }
+    requires k_lt_ncol { k < s.ncol }
+    ensures { result
+        ≡ column_sound s.entry.ncol (diagonals_in x.entry) (view s.entry.nrow s.entry.panel.now) k }
 {
-    scalar::is_finite(d[k])
-        & (scalar::is_finite(sub[k])
-            & (pivot_sound(d, sub, blocks, Elim(k)) & head_finite(panel, nrow, ncol, k, finite)))
+    scalar::is_finite(x.d[k])
+        & (scalar::is_finite(x.sub[k]) & (pivot_sound(x, Elim(k)) & head_finite(s, k)))
 }
 
 // Refusal 9, an added guard: the least column of the result that holds a number not finite.
-// in: the panel, d, subdiagonal and block bytes after the last column; finite, whether the panel's lower positions are
-// known to be
-pub fn first_unsound(
-    panel: &[f64],
-    d: &[f64],
-    sub: &[f64],
-    blocks: &[u8],
-    nrow: usize,
-    ncol: usize,
-    finite: bool,
-) -> Check
-    requires result_pre { ResultPre nrow ncol (length panel.now) (length d.now) (length sub.now) blocks.now }
-    requires known_finite { KnownFinite finite (view nrow panel.now) nrow ncol }
-    ensures { result ≡ result_check ncol
-        (diagonals_of d.now sub.now blocks.now) (view nrow panel.now)
-        ncol 0 }
+// in: the panel, and whether its lower positions are known to be finite; d, subdiagonal and block bytes after the last
+// column
+pub fn first_unsound(s: Summed, x: DiagonalLists) -> Result<(), Refusal>
+    requires { ResultPre s.ncol (length x.d.now) (length x.sub.now) x.blocks.now }
+    ensures { result ≡ result_check s.entry.ncol (diagonals_in x.entry)
+        (view s.entry.nrow s.entry.panel.now) s.entry.ncol 0 }
 {
-    for k in 0..ncol {
-        if !column_sound(panel, d, sub, blocks, nrow, ncol, k, finite) {
-            return Check::Refused(Refusal::NotFinite(Elim(k)));
+    for k in 0..s.ncol {
+        if !column_sound(s, x, k) {
+            return Err(Refusal::NotFinite(Elim(k)));
         }
     }
-    Check::Sound
+    Ok(())
 }

@@ -262,25 +262,25 @@ halved-odd {d} {n} m e near z is =
 
 -- ---- a number below 2 ^ 52, moved up until it has 53 digits
 
-pub record Moved (t s : ℕ) : Type 0 where
-  pub some : 11 ≤ count_leading_zeros 64 t
+pub record Moved (t z s : ℕ) : Type 0 where
+  pub some : 11 ≤ z
   pub few : s ≤ 52
   pub from : 2 ^ 52 ≤ t * 2 ^ s % 2 ^ 64
   pub to : t * 2 ^ s % 2 ^ 64 < 2 ^ 53
   pub root : t * 2 ^ s % 2 ^ 64 * 2 ^ (1022 - s + 52) ≡ t * 2 ^ 1074
 
-pub moved : (t : ℕ) → 0 < t → t < 2 ^ 52 → Moved t (count_leading_zeros 64 t - 11)
-moved t a b =
-    let z = leading_top 64 t a (lt_of_lt_of_le b (lit≤ tt)) in
-    let j = z.0 in
-    let s = count_leading_zeros 64 t - 11 in
-    let short : j < 52 = lt_of_not-le (λ (g : 52 ≤ j). not-le_of_lt b (le_trans (pow_mono g) z.2)) in
-    let count = z.1 in
+pub moved : (t z : ℕ) → z ≡ count_leading_zeros 64 t → 0 < t → t < 2 ^ 52 → Moved t z (z - 11)
+moved t z e a b =
+    let top = leading_top 64 t a (lt_of_lt_of_le b (lit≤ tt)) in
+    let j = top.0 in
+    let s = z - 11 in
+    let short : j < 52 = lt_of_not-le (λ (g : 52 ≤ j). not-le_of_lt b (le_trans (pow_mono g) top.2)) in
+    let count = top.1 in
     let sum : j + s ≡ 52 = omega arith in
     let more : suc j + s ≡ 53 = omega arith in
     let all : s + (1022 - s + 52) ≡ 1074 = omega arith in
-    let lo : 2 ^ 52 ≤ t * 2 ^ s = le_trans (le_of_eq (ap (λ (k : ℕ). 2 ^ k) (sym sum) ∙ pow-add 2 j s)) (mul-le-mul_right (2 ^ s) z.2) in
-    let up : t * 2 ^ s < 2 ^ 53 = subst (λ (k : ℕ). t * 2 ^ s < 2 ^ k) more (shl_lt (suc j) s z.3) in
+    let lo : 2 ^ 52 ≤ t * 2 ^ s = le_trans (le_of_eq (ap (λ (k : ℕ). 2 ^ k) (sym sum) ∙ pow-add 2 j s)) (mul-le-mul_right (2 ^ s) top.2) in
+    let up : t * 2 ^ s < 2 ^ 53 = subst (λ (k : ℕ). t * 2 ^ s < 2 ^ k) more (shl_lt (suc j) s top.3) in
     let whole : t * 2 ^ s % 2 ^ 64 ≡ t * 2 ^ s = mod-eq_of_lt (lt_of_lt_of_le up (lit≤ tt)) in
     record {
       some = omega arith;

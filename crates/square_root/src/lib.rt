@@ -114,7 +114,7 @@ pub fn sqrt(x: f64) -> f64
     let field = b / 0x10_0000_0000_0000;
     let digits = b % 0x10_0000_0000_0000;
     if field == 0 {
-        let s = u64::leading_zeros(digits) as u64 - 11;
+        let s = u64::from(u64::leading_zeros(digits)) - 11;
         scaled(digits << s, 1022 - s)
     } else {
         scaled(0x10_0000_0000_0000 + digits, field + 1021)

@@ -3,10 +3,11 @@ use Prim.Native.Nat.{ℕ, ◌+◌, ◌<◌, ◌≤◌}
 use mathlib.Core.Path.{◌≡◌, refl, sym, ◌∙◌, ap, subst}
 use native.Mathlib.Omega.{arith}
 use lib.Ieee.{Float}
+use Rattle.std.specs.Prelude.{Option, Some, None, Result, Ok, Err}
 use Rattle.model.specs.Sizes.{most_rounds}
 use Rattle.model.specs.Matrix.{Mat, exchanged}
 use Rattle.model.specs.Choice.{choose_of}
-use Rattle.model.specs.Step.{block_of, block_in}
+use Rattle.model.specs.Step.{block_in}
 use Rattle.model.specs.Head.{settled_one, settled_two, head_one, head_two, kept_one, kept_two, Tried, after_one, after_two, try_by, try_of}
 use Rattle.model.specs.declared.Mode.{Mode}
 use Rattle.model.specs.declared.Pivoting.{Pivoting}
@@ -19,18 +20,18 @@ use Rattle.model.specs.declared.LocalRow.{LocalRow}
 use Rattle.model.specs.declared.Refusal.TheVariants as refusal
 use Rattle.model.specs.declared.Choice.{Choice}
 use Rattle.model.specs.declared.Choice.TheVariants.{ZeroColumn, Single, Block}
-use Rattle.model.specs.declared.OneSettled as one
-use Rattle.model.specs.declared.TwoSettled as two
+use Rattle.model.specs.declared.OneSettled.{OneSettled}
+use Rattle.model.specs.declared.TwoSettled.{TwoSettled}
+use Rattle.model.specs.declared.Unfit.{Unfit}
+use Rattle.model.specs.declared.Unfit.TheVariants.{Low, OutOfRounds}
 use Rattle.model.proofs.Bounds.{Good, try-good}
 use Rattle.grid.specs.Grid.{In}
 use Rattle.grid.proofs.Laws.{in-panel}
 use Rattle.greatest.specs.Greatest.{Within}
 use Rattle.eliminate.specs.Eliminate.{TwoPre}
 use Rattle.rule.specs.Chosen.{ChosenWithin}
-use Rattle.step.specs.Answers.{tried, by_mode, single_of, two_of}
+use Rattle.step.specs.Answers.{Taken, tried, by_mode, single_of, two_of}
 use Rattle.step.specs.Terms.{TakenIn, LimitPre, PanelPre, StepPre, PivotPre, BlockPre}
-use Rattle.step.specs.declared.Taken.{Taken}
-use Rattle.step.specs.declared.Taken.TheVariants.{Refused, Took}
 
 -- ---- places
 
@@ -47,74 +48,57 @@ two-pre at k kp len len' len_m h e =
 pub corner-in : (nrow ncol k i j len : ℕ) → BlockPre nrow ncol k len → i ≤ k + 1 → j ≤ k + 1 → In nrow i j len
 corner-in nrow ncol k i j len h a b = in-panel nrow ncol i j len h.panel (omega arith) (omega arith)
 
-pub block-is : (P : Mat) (k : ℕ) (x y z : Float) (b : Numbers) → x ≡ P k k → y ≡ P (k + 1) k → z ≡ P (k + 1) (k + 1) → b ≡ block_of x y z → b ≡ block_in P k
-block-is P k x y z b e f g h = h ∙ rw (e, f, g)
-
 -- ---- a 1x1: x is the number at row kp, S its settlement, B the matrix exchanged, B' and M' what is left
 
-single-by : (ke k kp : ℕ) (A M : Mat) (mode : Mode) (x : Float) (S o : one.OneSettled) → x ≡ A kp kp → S ≡ settled_one mode x → S ≡ o
+single-by : (ke k kp : ℕ) (A M : Mat) (mode : Mode) (x : Float) (S o : Option OneSettled) → x ≡ A kp kp → S ≡ settled_one mode x → S ≡ o
     → after_one ke A M k kp o ≡ single_of ke A M mode k kp
 unfolding single_of
 single-by ke k kp A M mode x S o e s z = ap (after_one ke A M k kp) (sym z ∙ s ∙ ap (settled_one mode) e)
 
-pub single-stop : (ke : ℕ) (k : Elim) (kp : ℕ) (A M B N : Mat) (mode : Mode) (x : Float) (S : one.OneSettled)
-    → x ≡ A kp kp → S ≡ settled_one mode x → S ≡ one.TheVariants.Zero → tried (Refused (refusal.ZeroPivot k)) B N ≡ single_of ke A M mode k.0 kp
+pub single-stop : (ke : ℕ) (k : Elim) (kp : ℕ) (A M B N : Mat) (mode : Mode) (x : Float) (S : Option OneSettled)
+    → x ≡ A kp kp → S ≡ settled_one mode x → S ≡ None → tried (Err (refusal.ZeroPivot k)) B N ≡ single_of ke A M mode k.0 kp
 unfolding tried
-single-stop ke k kp A M B N mode x S e s z = single-by ke k.0 kp A M mode x S one.TheVariants.Zero e s z
+single-stop ke k kp A M B N mode x S e s z = single-by ke k.0 kp A M mode x S None e s z
 
-pub single-took : (ke k kp : ℕ) (A M B B' M' : Mat) (mode : Mode) (x d amount : Float) (lifted : ℕ) (S : one.OneSettled)
-    → x ≡ A kp kp → S ≡ settled_one mode x → S ≡ one.TheVariants.Number d lifted amount → B ≡ exchanged k kp ke A
-    → B' ≡ head_one ke k d B → M' ≡ kept_one ke k d B M
-    → tried (Took (record { p = record { 0 = k }; kp = record { 0 = kp }; diagonal = One d; lifted = lifted; amount = amount; rounds = 0 })) B' M'
+pub single-took : (ke k kp : ℕ) (A M B B' M' : Mat) (mode : Mode) (x : Float) (o : OneSettled) (S : Option OneSettled)
+    → x ≡ A kp kp → S ≡ settled_one mode x → S ≡ Some o → B ≡ exchanged k kp ke A
+    → B' ≡ head_one ke k o.d B → M' ≡ kept_one ke k o.d B M
+    → tried (Ok (record { p = record { 0 = k }; kp = record { 0 = kp }; diagonal = One o.d; lift = o.lift; rounds = 0 })) B' M'
     ≡ single_of ke A M mode k kp
 unfolding tried
-single-took ke k kp A M B B' M' mode x d amount lifted S e s z b b' m' =
-    rw (m', b', b) (single-by ke k kp A M mode x S (one.TheVariants.Number d lifted amount) e s z)
+single-took ke k kp A M B B' M' mode x o S e s z b b' m' =
+    rw (m', b', b) (single-by ke k kp A M mode x S (Some o) e s z)
 
 -- ---- a block: B is the matrix exchanged, b its block, S the settlement, B' and M' what is left
 
-block-by : (ke k p kp limit : ℕ) (A M B : Mat) (mode : Mode) (b : Numbers) (S o : two.TwoSettled) → B ≡ exchanged (k + 1) kp ke A → b ≡ block_in B k
+block-by : (ke k p kp limit : ℕ) (A M B : Mat) (mode : Mode) (b : Numbers) (S o : Result TwoSettled Unfit) → B ≡ exchanged (k + 1) kp ke A → b ≡ block_in B k
     → S ≡ settled_two mode limit b → S ≡ o → after_two ke A M k p kp o ≡ two_of ke A M mode limit k p kp
 unfolding two_of
 block-by ke k p kp limit A M B mode b S o x e s z =
     ap (after_two ke A M k p kp) (sym z ∙ s ∙ ap (settled_two mode limit) (e ∙ ap (λ (P : Mat). block_in P k) x))
 
-pub block-stop : (ke : ℕ) (k : Elim) (p kp limit : ℕ) (A M B N : Mat) (mode : Mode) (b : Numbers) (S : two.TwoSettled)
-    → B ≡ exchanged (k.0 + 1) kp ke A → b ≡ block_in B k.0 → S ≡ settled_two mode limit b → S ≡ two.TheVariants.Low
-    → tried (Refused (refusal.LowBlock k)) B N ≡ two_of ke A M mode limit k.0 p kp
+pub block-stop : (ke : ℕ) (k : Elim) (p kp limit : ℕ) (A M B N : Mat) (mode : Mode) (b : Numbers) (S : Result TwoSettled Unfit)
+    → B ≡ exchanged (k.0 + 1) kp ke A → b ≡ block_in B k.0 → S ≡ settled_two mode limit b → S ≡ Err Low
+    → tried (Err (refusal.LowBlock k)) B N ≡ two_of ke A M mode limit k.0 p kp
 unfolding tried
-block-stop ke k p kp limit A M B N mode b S x e s z = block-by ke k.0 p kp limit A M B mode b S two.TheVariants.Low x e s z
+block-stop ke k p kp limit A M B N mode b S x e s z = block-by ke k.0 p kp limit A M B mode b S (Err Low) x e s z
 
-pub block-rounds : (ke : ℕ) (k : Elim) (p kp limit : ℕ) (A M B N : Mat) (mode : Mode) (b : Numbers) (S : two.TwoSettled)
-    → B ≡ exchanged (k.0 + 1) kp ke A → b ≡ block_in B k.0 → S ≡ settled_two mode limit b → S ≡ two.TheVariants.OutOfRounds
-    → tried (Refused (refusal.Rounds k)) B N ≡ two_of ke A M mode limit k.0 p kp
+pub block-rounds : (ke : ℕ) (k : Elim) (p kp limit : ℕ) (A M B N : Mat) (mode : Mode) (b : Numbers) (S : Result TwoSettled Unfit)
+    → B ≡ exchanged (k.0 + 1) kp ke A → b ≡ block_in B k.0 → S ≡ settled_two mode limit b → S ≡ Err OutOfRounds
+    → tried (Err (refusal.Rounds k)) B N ≡ two_of ke A M mode limit k.0 p kp
 unfolding tried
-block-rounds ke k p kp limit A M B N mode b S x e s z = block-by ke k.0 p kp limit A M B mode b S two.TheVariants.OutOfRounds x e s z
+block-rounds ke k p kp limit A M B N mode b S x e s z = block-by ke k.0 p kp limit A M B mode b S (Err OutOfRounds) x e s z
 
-pub block-took : (ke k p kp limit : ℕ) (A M B B' M' : Mat) (mode : Mode) (b v : Numbers) (amount : Float) (lifted rounds : ℕ) (S : two.TwoSettled)
-    → B ≡ exchanged (k + 1) kp ke A → b ≡ block_in B k → S ≡ settled_two mode limit b → S ≡ two.TheVariants.Numbers v lifted amount rounds
-    → B' ≡ head_two ke k v B → M' ≡ kept_two ke k v B M
-    → tried (Took (record { p = record { 0 = p }; kp = record { 0 = kp }; diagonal = Two v; lifted = lifted; amount = amount; rounds = rounds })) B' M'
+pub block-took : (ke k p kp limit : ℕ) (A M B B' M' : Mat) (mode : Mode) (b : Numbers) (o : TwoSettled) (S : Result TwoSettled Unfit)
+    → B ≡ exchanged (k + 1) kp ke A → b ≡ block_in B k → S ≡ settled_two mode limit b → S ≡ Ok o
+    → B' ≡ head_two ke k o.block B → M' ≡ kept_two ke k o.block B M
+    → tried (Ok (record { p = record { 0 = p }; kp = record { 0 = kp }; diagonal = Two o.block; lift = o.lift; rounds = o.rounds })) B' M'
     ≡ two_of ke A M mode limit k p kp
 unfolding tried
-block-took ke k p kp limit A M B B' M' mode b v amount lifted rounds S x e s z b' m' =
-    rw (m', b', x) (block-by ke k p kp limit A M B mode b S (two.TheVariants.Numbers v lifted amount rounds) x e s z)
+block-took ke k p kp limit A M B B' M' mode b o S x e s z b' m' =
+    rw (m', b', x) (block-by ke k p kp limit A M B mode b S (Ok o) x e s z)
 
 -- ---- the choice C, and D, what the mode makes of it
-
-pub mode-fail : (mode : Mode) (k : Elim) (C : Choice) → C ≡ ZeroColumn → mode ≡ Fail → ZeroColumn ≡ by_mode mode k C
-mode-fail mode k C z e = rw (e, z)
-
-pub mode-lift : (mode : Mode) (floor : Float) (k : Elim) (C : Choice) → C ≡ ZeroColumn → mode ≡ Lift floor → Single (record { 0 = k.0 }) ≡ by_mode mode k C
-mode-lift mode floor k C z e = rw (e, z)
-
-pub mode-single : (mode : Mode) (k : Elim) (C : Choice) (kp : LocalRow) → C ≡ Single kp → Single kp ≡ by_mode mode k C
-mode-single Fail k C kp z = sym z
-mode-single (Lift floor) k C kp z = rw z
-
-pub mode-block : (mode : Mode) (k : Elim) (C : Choice) (p kp : LocalRow) → C ≡ Block p kp → Block p kp ≡ by_mode mode k C
-mode-block Fail k C p kp z = sym z
-mode-block (Lift floor) k C p kp z = rw z
 
 -- the step is the same
 by_mode_lem : (ke : ℕ) (A M : Mat) (mode : Mode) (limit : ℕ) (k : Elim) (C : Choice)
@@ -144,7 +128,7 @@ by-choice ke A M how k C D o c m z =
 
 -- a zero column is left in Fail alone
 zero-by : (ke : ℕ) (A M B N : Mat) (mode : Mode) (limit : ℕ) (k : Elim) (C : Choice) → by_mode mode k C ≡ ZeroColumn
-    → tried (Refused (refusal.ZeroColumn k)) B N ≡ try_by ke A M mode limit k.0 ZeroColumn
+    → tried (Err (refusal.ZeroColumn k)) B N ≡ try_by ke A M mode limit k.0 ZeroColumn
 unfolding tried
 zero-by ke A M B N Fail limit k C e = refl
 zero-by ke A M B N (Lift floor) limit k ZeroColumn e = cc
@@ -162,11 +146,6 @@ unfolding two_of
 two-by ke A M Fail limit k p kp = refl
 two-by ke A M (Lift floor) limit k p kp = refl
 
--- the first exchange, then the block
-pub moved_by : (ke k p kp limit : ℕ) (A B M : Mat) (mode : Mode) (R : Tried) → B ≡ exchanged k p ke A → R ≡ two_of ke B M mode limit k p kp
-    → R ≡ two_of ke (exchanged k p ke A) M mode limit k p kp
-moved_by ke k p kp limit A B M mode R e r = r ∙ ap (λ (P : Mat). two_of ke P M mode limit k p kp) e
-
 -- ---- what the answer keeps to
 
 -- Fail lifts nothing
@@ -182,8 +161,8 @@ fail-limit ke A M limit k = by (choose_of A k ke)
 
 tried-in : (ke k limit : ℕ) (T : Taken) (A' M' : Mat) (R : Tried) → limit ≤ most_rounds → Good ke limit k R → tried T A' M' ≡ R → TakenIn ke k T
 unfolding tried
-tried-in ke k limit (Refused r) A' M' R l g e = tt
-tried-in ke k limit (Took v) A' M' R l g e =
+tried-in ke k limit (Err r) A' M' R l g e = tt
+tried-in ke k limit (Ok v) A' M' R l g e =
     let w = subst (Good ke limit k) (sym e) g in
     record { last = w.last; row = w.row; first = w.first; few = omega (arith, w.few) }
 
@@ -218,9 +197,9 @@ module _ (ke : ℕ) (A M A' M' : Mat) (how : Pivoting) (k : Elim) (C D : Choice)
   stepped : (T : Taken) → tried T A' M' ≡ try_of ke A M how k.0 → Stepped T
   stepped T e = (e, kept ke A M how.mode how.limit k.0 T A' M' h l e)
 
-  pub step-zero : D ≡ ZeroColumn → Stepped (Refused (refusal.ZeroColumn k))
+  pub step-zero : D ≡ ZeroColumn → Stepped (Err (refusal.ZeroColumn k))
   step-zero z =
-      stepped (Refused (refusal.ZeroColumn k))
+      stepped (Err (refusal.ZeroColumn k))
       (zero-by ke A M A' M' how.mode how.limit k C (sym m ∙ z) ∙ by-choice ke A M how k C D ZeroColumn c m z)
 
   pub step-single : (kp : LocalRow) (T : Taken) → D ≡ Single kp → tried T A' M' ≡ single_of ke A M how.mode k.0 kp.0 → Stepped T

@@ -1,5 +1,5 @@
--- The cases of a step and its declared answer in the model's words. Definitions only. Assumes nothing.
-use Rattle.std.specs.Prelude.{ℕ}
+-- The cases of a step and its answer in the model's words. Definitions only. Assumes nothing.
+use Rattle.std.specs.Prelude.{ℕ, Result, Ok, Err}
 use Rattle.model.specs.Matrix.{Mat}
 use Rattle.model.specs.Head.{settled_one, Tried, refused_by, took, after_one, try_block}
 use Rattle.model.specs.declared.Elim.{Elim}
@@ -7,8 +7,8 @@ use Rattle.model.specs.declared.Mode.{Mode}
 use Rattle.model.specs.declared.Mode.TheVariants.{Fail, Lift}
 use Rattle.model.specs.declared.Choice.{Choice}
 use Rattle.model.specs.declared.Choice.TheVariants.{ZeroColumn, Single, Block}
-use Rattle.step.specs.declared.Taken.{Taken}
-use Rattle.step.specs.declared.Taken.TheVariants.{Refused, Took}
+use Rattle.model.specs.declared.Pivot.{Pivot}
+use Rattle.model.specs.declared.Refusal.{Refusal}
 
 -- ---- the cases of a step
 
@@ -29,7 +29,11 @@ two_of ke a m mode limit k p kp = try_block ke a m mode limit k p kp
 
 -- ---- the answer
 
+-- a refusal of the run, or the pivot that the step took
+abbrev pub Taken : Type 0
+Taken = Result Pivot Refusal
+
 -- with the matrix and the multipliers that the step leaves
 unfoldable pub tried : Taken → Mat → Mat → Tried
-tried (Refused r) a m = refused_by r
-tried (Took v) a m = took v a m
+tried (Err r) a m = refused_by r
+tried (Ok v) a m = took v a m

@@ -1,5 +1,5 @@
 -- What a step asks of its callers, and what it promises beside its equations. Definitions only. Assumes nothing.
-use Rattle.std.specs.Prelude.{◌≡◌, ℕ, ◌+◌, ◌*◌, ◌<◌, ◌≤◌}
+use Rattle.std.specs.Prelude.{◌≡◌, ℕ, ◌+◌, ◌*◌, ◌<◌, ◌≤◌, Ok, Err}
 use Rattle.model.specs.Sizes.{most_columns, most_rounds}
 use Rattle.model.specs.Step.{is_block}
 use Rattle.model.specs.Head.{last_of}
@@ -7,8 +7,7 @@ use Rattle.model.specs.declared.Frame.{Frame}
 use Rattle.model.specs.declared.Mode.{Mode}
 use Rattle.model.specs.declared.Mode.TheVariants.{Fail, Lift}
 use Rattle.model.specs.declared.Pivot.{Pivot}
-use Rattle.step.specs.declared.Taken.{Taken}
-use Rattle.step.specs.declared.Taken.TheVariants.{Refused, Took}
+use Rattle.step.specs.Answers.{Taken}
 
 -- ---- what is promised
 
@@ -21,8 +20,8 @@ pub record PivotIn (ke k : ℕ) (v : Pivot) : Type 0 where
 
 -- of a step's answer
 abbrev pub TakenIn : ℕ → ℕ → Taken → Type 0
-TakenIn ke k (Refused r) = Unit {0}
-TakenIn ke k (Took v) = PivotIn ke k v
+TakenIn ke k (Err r) = Unit {0}
+TakenIn ke k (Ok v) = PivotIn ke k v
 
 -- ---- what callers owe
 

@@ -13,26 +13,18 @@ ghost use Rattle.step.specs.Answers.{tried, by_mode, single_of, two_of};
 ghost use Rattle.step.specs.Terms.{StepPre, PivotPre, BlockPre, LimitPre, TakenIn};
 
 use model::{
-    Block, Choice, Diagonal, Elim, Frame, LocalRow, Mode, OneSettled, Pivot, Pivoting, Refusal,
-    TwoSettled,
+    Block, Choice, Diagonal, Elim, Frame, LocalRow, Mode, Pivot, Pivoting, Refusal, Unfit,
 };
 use rule::PivotRule;
 
-// The answer of a step: a refusal of the run, or the pivot that it took.
-#[derive(Clone, Copy)]
-pub enum Taken {
-    Refused(Refusal),
-    Took(Pivot),
-}
-
 // The block at k and k + 1.
-fn block_at(panel: &[f64], nrow: usize, ncol: usize, k: Elim) -> Block
-    requires { BlockPre nrow ncol k.0 (length panel.now) }
-    ensures { result ≡ block_in (view nrow panel.now) k.0 }
+fn block_at(panel: &[f64], at: Frame, k: Elim) -> Block
+    requires { BlockPre at.nrow at.ncol k.0 (length panel.now) }
+    ensures { result ≡ block_in (view at.nrow panel.now) k.0 }
 {
-    let d11 = grid::get(panel, nrow, k.0, k.0);
-    let d21 = grid::get(panel, nrow, k.0 + 1, k.0);
-    let d22 = grid::get(panel, nrow, k.0 + 1, k.0 + 1);
+    let d11 = grid::get(panel, at.nrow, k.0, k.0);
+    let d21 = grid::get(panel, at.nrow, k.0 + 1, k.0);
+    let d22 = grid::get(panel, at.nrow, k.0 + 1, k.0 + 1);
     diagonal::block_of(d11, d21, d22)
 }
 
@@ -44,25 +36,24 @@ fn single(
     k: Elim,
     kp: LocalRow,
     mode: Mode,
-) -> Taken
+) -> Result<Pivot, Refusal>
     requires { PivotPre at k.0 k.0 kp.0 (length panel.old) (length mult.old) }
     ensures { tried result (view at.nrow panel.new)
         (in_panel at.kb at.ke (view at.nb mult.new))
         ≡ single_of at.ke (view at.nrow panel.old)
         (in_panel at.kb at.ke (view at.nb mult.old)) mode k.0 kp.0 }
 {
-    let settled = settle::settle_one(mode, grid::get(panel, at.nrow, kp.0, kp.0));
-    let OneSettled::Number { d, lifted, amount } = settled else {
-        return Taken::Refused(Refusal::ZeroPivot(k));
+    let own = grid::get(panel, at.nrow, kp.0, kp.0);
+    let Some(settled) = settle::settle_one(mode, own) else {
+        return Err(Refusal::ZeroPivot(k));
     };
-    exchange::exchange_if(panel, at.nrow, at.ncol, LocalRow(k.0), kp, at.ke);
-    eliminate::head_one(panel, mult, at, k, d);
-    Taken::Took(Pivot {
+    exchange::exchange_if(panel, at, LocalRow(k.0), kp);
+    eliminate::head_one(panel, mult, at, k, settled.d);
+    Ok(Pivot {
         p: LocalRow(k.0),
         kp,
-        diagonal: Diagonal::One(d),
-        lifted,
-        amount,
+        diagonal: Diagonal::One(settled.d),
+        lift: settled.lift,
         rounds: 0,
     })
 }
@@ -77,7 +68,7 @@ fn block(
     p: LocalRow,
     kp: LocalRow,
     how: Pivoting,
-) -> Taken
+) -> Result<Pivot, Refusal>
     requires { PivotPre at k.0 (k.0 + 1) kp.0 (length panel.old) (length mult.old) }
     ensures { tried result (view at.nrow panel.new)
         (in_panel at.kb at.ke (view at.nb mult.new))
@@ -85,30 +76,22 @@ fn block(
         (in_panel at.kb at.ke (view at.nb mult.old)) how.mode how.limit k.0 p.0
         kp.0 }
 {
-    let mode = how.mode;
     let second = k.0 + 1;
-    exchange::exchange_if(panel, at.nrow, at.ncol, LocalRow(second), kp, at.ke);
-    let settled = settle::settle_two(mode, how.limit, block_at(panel, at.nrow, at.ncol, k));
-    match settled {
-        TwoSettled::Low => Taken::Refused(Refusal::LowBlock(k)),
-        TwoSettled::OutOfRounds => Taken::Refused(Refusal::Rounds(k)),
-        TwoSettled::Numbers {
-            block,
-            lifted,
-            amount,
-            rounds,
-        } => {
-            eliminate::head_two(panel, mult, at, k, block);
-            Taken::Took(Pivot {
-                p,
-                kp,
-                diagonal: Diagonal::Two(block),
-                lifted,
-                amount,
-                rounds,
-            })
-        }
-    }
+    exchange::exchange_if(panel, at, LocalRow(second), kp);
+    let own = block_at(panel, at, k);
+    let settled = match settle::settle_two(how.mode, how.limit, own) {
+        Ok(settled) => settled,
+        Err(Unfit::Low) => return Err(Refusal::LowBlock(k)),
+        Err(Unfit::OutOfRounds) => return Err(Refusal::Rounds(k)),
+    };
+    eliminate::head_two(panel, mult, at, k, settled.block);
+    Ok(Pivot {
+        p,
+        kp,
+        diagonal: Diagonal::Two(settled.block),
+        lift: settled.lift,
+        rounds: settled.rounds,
+    })
 }
 
 // A block of rows p and kp: p exchanged with k, then the block.
@@ -120,7 +103,7 @@ fn moved_block(
     p: LocalRow,
     kp: LocalRow,
     how: Pivoting,
-) -> Taken
+) -> Result<Pivot, Refusal>
     requires pivot_pre { PivotPre at k.0 (k.0 + 1) kp.0 (length panel.old) (length mult.old) }
     requires within { Within k.0 at.ke p.0 }
     ensures { tried result (view at.nrow panel.new)
@@ -129,7 +112,7 @@ fn moved_block(
         (in_panel at.kb at.ke (view at.nb mult.old)) how.mode how.limit k.0 p.0
         kp.0 }
 {
-    exchange::exchange_if(panel, at.nrow, at.ncol, LocalRow(k.0), p, at.ke);
+    exchange::exchange_if(panel, at, LocalRow(k.0), p);
     block(panel, mult, at, k, p, kp, how)
 }
 
@@ -139,16 +122,21 @@ fn by_mode(choice: Choice, mode: Mode, k: Elim) -> Choice
 {
     match choice {
         Choice::ZeroColumn => match mode {
-            Mode::Fail => Choice::ZeroColumn,
+            Mode::Fail => choice,
             Mode::Lift(_) => Choice::Single(LocalRow(k.0)),
         },
-        Choice::Single(kp) => Choice::Single(kp),
-        Choice::Block(p, kp) => Choice::Block(p, kp),
+        _ => choice,
     }
 }
 
 // The step at k.
-pub fn step(panel: &mut [f64], mult: &mut [f64], at: Frame, k: Elim, how: Pivoting) -> Taken
+pub fn step(
+    panel: &mut [f64],
+    mult: &mut [f64],
+    at: Frame,
+    k: Elim,
+    how: Pivoting,
+) -> Result<Pivot, Refusal>
     requires step_pre { StepPre at k.0 k.0 (length panel.old) (length mult.old) }
     requires limit_pre { LimitPre how.mode how.limit }
     ensures mult_after { tried result (view at.nrow panel.new)
@@ -157,15 +145,10 @@ pub fn step(panel: &mut [f64], mult: &mut [f64], at: Frame, k: Elim, how: Pivoti
         (in_panel at.kb at.ke (view at.nb mult.old)) how k.0 }
     ensures taken_in { TakenIn at.ke k.0 result }
 {
-    let mode = how.mode;
-    let choice = by_mode(
-        PivotRule::choose(panel, at.nrow, at.ncol, k, at.ke),
-        mode,
-        k,
-    );
-    match choice {
-        Choice::ZeroColumn => Taken::Refused(Refusal::ZeroColumn(k)),
-        Choice::Single(kp) => single(panel, mult, at, k, kp, mode),
+    let choice = PivotRule::choose(panel, at, k);
+    match by_mode(choice, how.mode, k) {
+        Choice::ZeroColumn => Err(Refusal::ZeroColumn(k)),
+        Choice::Single(kp) => single(panel, mult, at, k, kp, how.mode),
         Choice::Block(p, kp) => moved_block(panel, mult, at, k, p, kp, how),
     }
 }

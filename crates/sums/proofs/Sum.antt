@@ -1,5 +1,5 @@
 -- Laws of the sums: terms one after the other, one or four in a pass. Assumes nothing.
-use Prim.Native.Nat.{ℕ, ◌+◌, ◌-◌, ◌*◌, ◌<◌, ◌≤◌}
+use Prim.Native.Nat.{ℕ, zero, suc, ◌+◌, ◌-◌, ◌*◌, ◌%◌, ◌<◌, ◌≤◌}
 use mathlib.Core.Path.{◌≡◌, refl, sym, ◌∙◌, ap, fun_ext}
 use mathlib.Core.Bool.{◌&&◌}
 use mathlib.Core.List.{List}
@@ -20,7 +20,7 @@ use Rattle.kernels.specs.Rules.{ahead, zeroed, plus_times, plus_four}
 use Rattle.kernels.proofs.Laws.{vec-part}
 use Rattle.kernels.proofs.Rules.{plus-four-step}
 use Rattle.sums.specs.declared.Terms.{Terms}
-use Rattle.sums.specs.Sums.{later_row, rows_from, gathered, TermsPre, GatherPre}
+use Rattle.sums.specs.Sums.{later_row, rows_from, plus_runs, gathered, FourPre, TermsPre, GatherPre}
 
 -- ---- the kernel: one place more
 
@@ -28,22 +28,36 @@ dropped : (q : ℕ) (gs : List Float) → vec (drop q gs) ≡ ahead q (vec gs)
 unfolding vec ahead
 dropped q gs = fun_ext λ i. get_or-drop q gs i nan ∙ ap (λ (x : ℕ). get_or gs x nan) (omega arith)
 
-pub four-step : (f : Row) (xs gs : List Float) (a b c d i n len : ℕ) (l0 l1 l2 l3 : Float) → i < n → n ≤ len → length xs ≡ len
-    → vec xs ≡ with_part f 0 i (plus_four f (ahead a (vec gs)) (ahead b (vec gs)) (ahead c (vec gs)) (ahead d (vec gs)) l0 l1 l2 l3)
+pub four-step : (f : Row) (xs gs : List Float) (from : ℕ → ℕ) (i n len : ℕ) (l : ℕ → Float) → i < n → n ≤ len → length xs ≡ len
+    → vec xs ≡ with_part f 0 i (plus_runs f from (vec gs) l)
     → vec (set xs i (add binary64
-    (add binary64 (add binary64 (add binary64 (get_or xs i nan) (mul binary64 (get_or gs (a + i) nan) l0)) (mul binary64 (get_or gs (b + i) nan) l1))
-    (mul binary64 (get_or gs (c + i) nan) l2)) (mul binary64 (get_or gs (d + i) nan) l3)))
-    ≡ with_part f 0 (i + 1) (plus_four f (ahead a (vec gs)) (ahead b (vec gs)) (ahead c (vec gs)) (ahead d (vec gs)) l0 l1 l2 l3)
-four-step f xs gs a b c d i n len l0 l1 l2 l3 l h r =
-    rw (← dropped a gs, ← dropped b gs, ← dropped c gs, ← dropped d gs)
+    (add binary64 (add binary64 (add binary64 (get_or xs i nan) (mul binary64 (get_or gs (from 0 + i) nan) (l 0))) (mul binary64 (get_or gs (from 1 + i) nan) (l 1)))
+    (mul binary64 (get_or gs (from 2 + i) nan) (l 2))) (mul binary64 (get_or gs (from 3 + i) nan) (l 3))))
+    ≡ with_part f 0 (i + 1) (plus_runs f from (vec gs) l)
+unfolding plus_runs
+four-step f xs gs from i n len l h g e r =
+    rw (← dropped (from 0) gs, ← dropped (from 1) gs, ← dropped (from 2) gs, ← dropped (from 3) gs)
     (rw (
-      get_or-drop a gs i nan,
-      get_or-drop b gs i nan,
-      get_or-drop c gs i nan,
-      get_or-drop d gs i nan,
-    ) at (plus-four-step f xs (drop a gs) (drop b gs) (drop c gs) (drop d gs) i n len l0 l1 l2 l3 l h r))
+      get_or-drop (from 0) gs i nan,
+      get_or-drop (from 1) gs i nan,
+      get_or-drop (from 2) gs i nan,
+      get_or-drop (from 3) gs i nan,
+    ) at (plus-four-step f xs (drop (from 0) gs) (drop (from 1) gs) (drop (from 2) gs) (drop (from 3) gs) i n len (l 0) (l 1) (l 2) (l 3) h g e
+    (rw (← dropped (from 0) gs, ← dropped (from 1) gs, ← dropped (from 2) gs, ← dropped (from 3) gs) at r)))
+
+pub runs_there : (n : ℕ) (from : ℕ → ℕ) (xlen ylen glen : ℕ) → FourPre n from xlen ylen glen
+    → (from 0 + n ≤ glen) × (from 1 + n ≤ glen) × (from 2 + n ≤ glen) × (from 3 + n ≤ glen)
+runs_there n from xlen ylen glen w = (w.columns 0 (omega arith), w.columns 1 (omega arith), w.columns 2 (omega arith), w.columns 3 (omega arith))
 
 -- ---- one and four terms
+
+-- what holds of the first four holds of each before the fourth
+pub each-of-four : (f g : ℕ → Float) → f 0 ≡ g 0 → f 1 ≡ g 1 → f 2 ≡ g 2 → f 3 ≡ g 3 → (u : ℕ) → u < 4 → f u ≡ g u
+each-of-four f g a b c d zero h = a
+each-of-four f g a b c d (suc zero) h = b
+each-of-four f g a b c d (suc (suc zero)) h = c
+each-of-four f g a b c d (suc (suc (suc zero))) h = d
+each-of-four f g a b c d (suc (suc (suc (suc u)))) h = absurd (omega arith)
 
 -- what a kernel reads of column t of g, from row lo on
 column-from : (N : ℕ) (gs : List Float) (t lo b i : ℕ) → lo + i < N → b ≡ lo + t * N → vec gs (i + b) ≡ rows_from lo (view N gs) i t
@@ -66,32 +80,33 @@ one-term x y gs a N lo n c kb t s l at h e p =
       column-from N gs t lo (lo + s) i (omega arith) (omega arith),
     ))
 
-pub four-terms : (x y : Row) (gs : List Float) (a : Mat) (N lo n c kb t g0 g1 g2 g3 : ℕ) (l0 l1 l2 l3 : Float)
-    → y ≡ with_part x 0 n (plus_four x (ahead g0 (vec gs)) (ahead g1 (vec gs)) (ahead g2 (vec gs)) (ahead g3 (vec gs)) l0 l1 l2 l3)
-    → (g0 ≡ lo + column_start N t) × (g1 ≡ lo + column_start N (t + 1)) → (g2 ≡ lo + column_start N (t + 2)) × (g3 ≡ lo + column_start N (t + 3)) → lo + n ≤ N
-    → (l0 ≡ a c (kb + t)) × (l1 ≡ a c (kb + t + 1)) → (l2 ≡ a c (kb + t + 2)) × (l3 ≡ a c (kb + t + 3))
+pub four-terms : (x y : Row) (gs : List Float) (a : Mat) (N lo n c kb t : ℕ) (from : ℕ → ℕ) (l : ℕ → Float) → y ≡ with_part x 0 n (plus_runs x from (vec gs) l)
+    → ((u : ℕ) → u < 4 → from u ≡ lo + column_start N (t + u)) → lo + n ≤ N → ((u : ℕ) → u < 4 → l u ≡ a c (kb + t + u))
     → y ≡ with_part x 0 n (gathered x (rows_from lo (view N gs)) (later_row a c kb) t 4)
-unfolding gathered later_row plus_four ahead sum_from
-four-terms x y gs a N lo n c kb t g0 g1 g2 g3 l0 l1 l2 l3 p (c0, c1) (c2, c3) h (e0, e1) (e2, e3) =
+unfolding gathered later_row plus_runs plus_four ahead sum_from
+four-terms x y gs a N lo n c kb t from l p at h e =
+    let s0 : t + 0 ≡ t = omega arith in
     let s2 : t + 1 + 1 ≡ t + 2 = omega arith in
     let s3 : t + 2 + 1 ≡ t + 3 = omega arith in
+    let k0 : kb + t + 0 ≡ kb + t = omega arith in
     let k1 : kb + (t + 1) ≡ kb + t + 1 = omega arith in
     let k2 : kb + (t + 2) ≡ kb + t + 2 = omega arith in
     let k3 : kb + (t + 3) ≡ kb + t + 3 = omega arith in
     p ∙ part_same x _ _ n (λ i u. rw (
-      e0,
-      e1,
-      e2,
-      e3,
+      e 0 (omega arith),
+      e 1 (omega arith),
+      e 2 (omega arith),
+      e 3 (omega arith),
       s2,
       s3,
+      k0,
       k1,
       k2,
       k3,
-      column-from N gs t lo g0 i (omega arith) c0,
-      column-from N gs (t + 1) lo g1 i (omega arith) c1,
-      column-from N gs (t + 2) lo g2 i (omega arith) c2,
-      column-from N gs (t + 3) lo g3 i (omega arith) c3,
+      column-from N gs t lo (from 0) i (omega arith) (rw s0 at (at 0 (omega arith))),
+      column-from N gs (t + 1) lo (from 1) i (omega arith) (at 1 (omega arith)),
+      column-from N gs (t + 2) lo (from 2) i (omega arith) (at 2 (omega arith)),
+      column-from N gs (t + 3) lo (from 3) i (omega arith) (at 3 (omega arith)),
     ))
 
 -- ---- terms after terms
@@ -123,6 +138,15 @@ pub fours-step : (x y z : Row) (G : Mat) (l : Row) (lo hi t : ℕ) → y ≡ wit
 fours-step x y z G l lo hi t p q =
     let e : t ≡ 0 + t = omega arith in
     gather-more x x y z G l lo hi 0 t 4 p (q ∙ ap (λ (s : ℕ). with_part y lo hi (gathered y G l s 4)) e)
+
+-- the end of the whole fours is a multiple of 4 too: there t is, or after four more
+pub fours-end : (x y : Row) (G : Mat) (l : Row) (lo hi t w : ℕ) → t ≤ w - w % 4 → w - w % 4 ≤ t → y ≡ with_part x lo hi (gathered x G l 0 t)
+    → y ≡ with_part x lo hi (gathered x G l 0 (w - w % 4))
+fours-end x y G l lo hi t w h g p = p ∙ ap (λ (k : ℕ). with_part x lo hi (gathered x G l 0 k)) (le_antisymm h g)
+
+pub fours-last : (x y z : Row) (G : Mat) (l : Row) (lo hi t w : ℕ) → t % 4 ≡ 0 → t < w - w % 4 → w - w % 4 - t ≤ 4 → y ≡ with_part x lo hi (gathered x G l 0 t)
+    → z ≡ with_part y lo hi (gathered y G l t 4) → z ≡ with_part x lo hi (gathered x G l 0 (w - w % 4))
+fours-last x y z G l lo hi t w d h g p q = fours-end x z G l lo hi (t + 4) w (omega arith) (omega arith) (fours-step x y z G l lo hi t p q)
 
 -- from +0.0
 pub fours-begun : (x y z : Row) (G : Mat) (l : Row) (lo hi t : ℕ) → y ≡ with_part x lo hi zeroed → z ≡ with_part y lo hi (gathered y G l 0 t)
@@ -161,8 +185,9 @@ terms-pre at j t count alen alen' glen len h g e =
       columns = omega arith;
     }
 
-pub fours-pre : (at : Terms) (j t alen alen' glen len : ℕ) → GatherPre at j alen glen len → 4 ≤ at.w - t → alen' ≡ alen → TermsPre at j t 4 alen' glen len
-fours-pre at j t alen alen' glen len h g e = terms-pre at j t 4 alen alen' glen len h (omega arith) e
+pub fours-pre : (at : Terms) (j t alen alen' glen len : ℕ) → GatherPre at j alen glen len → t % 4 ≡ 0 → t < at.w - at.w % 4 → alen' ≡ alen
+    → TermsPre at j t 4 alen' glen len
+fours-pre at j t alen alen' glen len h f g e = terms-pre at j t 4 alen alen' glen len h (omega arith) e
 
 pub ones-pre : (at : Terms) (j t alen alen' glen len : ℕ) → GatherPre at j alen glen len → t < at.w → alen' ≡ alen → TermsPre at j t 1 alen' glen len
 ones-pre at j t alen alen' glen len h g e = terms-pre at j t 1 alen alen' glen len h (omega arith) e

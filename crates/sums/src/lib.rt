@@ -3,13 +3,12 @@
 // on the contract of both_sums.
 #![tactic(auto)]
 
-ghost use Rattle.std.specs.Prelude.{◌≡◌, ◌+◌, ◌-◌, ◌*◌, ◌<◌, ◌≤◌, length};
-ghost use Rattle.model.specs.Matrix.{view, vec, with_part};
-ghost use Rattle.kernels.specs.Rules.{ahead, zeroed, plus_four};
-ghost use Rattle.sums.specs.Sums.{later_row, rows_from, gathered, FourPre, TermsPre, GatherPre};
+ghost use Rattle.std.specs.Prelude.{◌≡◌, ℕ, ◌+◌, ◌-◌, ◌*◌, ◌<◌, ◌≤◌, length};
+ghost use Rattle.model.specs.Matrix.{view, vec, naturals, with_part};
+ghost use Rattle.kernels.specs.Rules.{zeroed};
+ghost use Rattle.sums.specs.Sums.{later_row, rows_from, plus_runs, gathered, FourPre, TermsPre, GatherPre};
 
-use grid::{FourPlaces, column_start};
-use kernels::FourMultipliers;
+use grid::column_start;
 
 // What is summed, in a panel of nrow rows: for the n rows from lo on, the terms of the panel's w columns from kb on, in
 // the sums of the later columns c and e.
@@ -25,53 +24,47 @@ pub struct Terms {
 }
 
 // L of row r in the panel's columns k to k + 3.
-fn four_multipliers(panel: &[f64], nrow: usize, r: usize, k: usize) -> FourMultipliers
+fn four_multipliers(panel: &[f64], nrow: usize, r: usize, k: usize) -> [f64; 4]
     requires { (r < nrow) × (k + 4 ≤ nrow) × ((k + 4) * nrow ≤ length panel.now) }
-    ensures result_value { (result.0 ≡ view nrow panel.now r k) × (result.1 ≡ view nrow panel.now r (k + 1)) }
-    ensures result_value_2 { (result.2 ≡ view nrow panel.now r (k + 2))
-        × (result.3 ≡ view nrow panel.now r (k + 3)) }
+    ensures { (u : ℕ) → u < 4 → vec result u ≡ view nrow panel.now r (k + u) }
 {
-    let l0 = grid::get(panel, nrow, r, k);
-    let l1 = grid::get(panel, nrow, r, k + 1);
-    let l2 = grid::get(panel, nrow, r, k + 2);
-    let l3 = grid::get(panel, nrow, r, k + 3);
-    FourMultipliers(l0, l1, l2, l3)
+    [
+        grid::get(panel, nrow, r, k),
+        grid::get(panel, nrow, r, k + 1),
+        grid::get(panel, nrow, r, k + 2),
+        grid::get(panel, nrow, r, k + 3),
+    ]
 }
 
 // (((x + g0·l0) + g1·l1) + g2·l2) + g3·l3, and the same of y with m; the n numbers of g0 to g3 begin where `at` says.
-// The loop vectorises: no branch, no call.
+// The loop vectorises: no branch, no call, no array but the three slices.
 fn plus_four(
     x: &mut [f64],
     y: &mut [f64],
     g: &[f64],
-    at: FourPlaces,
+    at: [usize; 4],
     n: usize,
-    l: FourMultipliers,
-    m: FourMultipliers,
+    l: [f64; 4],
+    m: [f64; 4],
 )
-    requires { FourPre n at.0 at.1 at.2 at.3 (length x.old) (length y.old) (length g.now) }
+    requires { FourPre n (naturals at) (length x.old) (length y.old) (length g.now) }
     ensures x_after { vec x.new
         ≡ with_part (vec x.old) 0 n
-        (plus_four (vec x.old) (ahead at.0 (vec g.now)) (ahead at.1 (vec g.now))
-        (ahead at.2 (vec g.now)) (ahead at.3 (vec g.now))
-        l.0 l.1 l.2 l.3) }
+        (plus_runs (vec x.old) (naturals at) (vec g.now) (vec l)) }
     ensures y_after { vec y.new
         ≡ with_part (vec y.old) 0 n
-        (plus_four (vec y.old) (ahead at.0 (vec g.now)) (ahead at.1 (vec g.now))
-        (ahead at.2 (vec g.now)) (ahead at.3 (vec g.now))
-        m.0 m.1 m.2 m.3) }
+        (plus_runs (vec y.old) (naturals at) (vec g.now) (vec m)) }
 {
-    let a = at.0;
-    let b = at.1;
-    let c = at.2;
-    let d = at.3;
+    let [a, b, c, d] = at;
+    let [l0, l1, l2, l3] = l;
+    let [m0, m1, m2, m3] = m;
     for i in 0..n {
         let s = g[a + i];
         let t = g[b + i];
         let u = g[c + i];
         let v = g[d + i];
-        x[i] = x[i] + s * l.0 + t * l.1 + u * l.2 + v * l.3;
-        y[i] = y[i] + s * m.0 + t * m.1 + u * m.2 + v * m.3;
+        x[i] = x[i] + s * l0 + t * l1 + u * l2 + v * l3;
+        y[i] = y[i] + s * m0 + t * m1 + u * m2 + v * m3;
     }
 }
 
@@ -91,7 +84,7 @@ fn add_four(x: &mut [f64], y: &mut [f64], g: &[f64], panel: &[f64], at: Terms, t
     let nrow = at.nrow;
     let kb = at.kb;
     let lo = at.lo;
-    let places = grid::four_places(nrow, t, lo);
+    let places = grid::places::<4>(nrow, t, lo);
     let l = four_multipliers(panel, nrow, at.c, kb + t);
     let m = four_multipliers(panel, nrow, at.e, kb + t);
     plus_four(x, y, g, places, at.n, l, m);
@@ -111,13 +104,11 @@ fn gather_fours(x: &mut [f64], y: &mut [f64], g: &[f64], panel: &[f64], at: Term
         (later_row (view at.nrow panel.now) at.e at.kb) 0 result) }
     ensures upper_bound { result ≤ at.w }
 {
-    let w = at.w;
-    let mut t = 0;
-    while w - t >= 4 {
+    let end = at.w - at.w % 4;
+    for t in (0..end).step_by(4) {
         add_four(x, y, g, panel, at, t);
-        t += 4;
     }
-    t
+    end
 }
 
 // The same from +0.0.
@@ -166,8 +157,7 @@ fn gather_ones(x: &mut [f64], g: &[f64], panel: &[f64], at: Terms, j: usize, s: 
         (gathered (vec x.old) (rows_from at.lo (view at.nrow g.now))
         (later_row (view at.nrow panel.now) j at.kb) s (at.w - s)) }
 {
-    let w = at.w;
-    for t in s..w {
+    for t in s..at.w {
         add_one(x, g, panel, at, j, t);
     }
 }

@@ -2,22 +2,23 @@
 use Prim.Native.Nat.{ℕ, zero, suc, ◌+◌, ◌<◌, ◌≤◌}
 use mathlib.Core.Path.{◌≡◌, refl, sym, ◌∙◌, ap, fun_ext}
 use mathlib.Core.Bool.{Bool, true, false, not, ◌&&◌, true≢false}
+use mathlib.Core.List.{List, [], ◌∷◌}
 use native.Mathlib.Omega.{arith}
 use borrow.Author.Tests.{lt-ltb, le-ltb, le-leb, lt-leb}
 use lib.Ieee.{Float, eq}
 use Rattle.model.specs.Scalar.{zero_f}
-use Rattle.model.specs.Matrix.{Row, Mat, with_column, exchanged_place}
+use Rattle.model.specs.Matrix.{Row, Mat, vec, with_column, exchanged_place}
 use Rattle.model.specs.Head.{last_of}
 use Rattle.model.proofs.Cases.{cmp, and_left, and_right}
 use Rattle.model.proofs.Recorded.{last-from, last_block, last-single}
-use Rattle.kernels.specs.Rules.{pick}
-use Rattle.grid.specs.Rules.{column_of, less_times, less_two, less_three}
+use Rattle.grid.specs.Rules.{column_of, less_times, less_two, less_three, less_columns}
 use Rattle.grid.proofs.Laws.{with_column-other}
-use Rattle.several.specs.Several.{columns_by, four_columns, two_columns, ColumnsPre}
+use Rattle.grid.proofs.Together.{columns-two, columns-three}
+use Rattle.several.specs.Several.{list_at, columns_by, less_of, ColumnsPre}
 use Rattle.less.specs.Less.{less_at, stepped_twice}
 use Rattle.less.proofs.Column.{less-same}
-use Rattle.swept.specs.Swept.{strip, swept_both, neither_zero, PairPre}
-use Rattle.swept.specs.declared.Part.{Part}
+use Rattle.swept.specs.Swept.{strip, swept_both, swept_pair, neither_zero, two_of, three_of, single_at, PairPre}
+use Rattle.swept.specs.declared.Pair.{Pair}
 use Rattle.swept.proofs.Sweeps.{placed, column-in, strip-before, both-none, both-step, both_end}
 
 -- ---- columns from j on
@@ -97,25 +98,16 @@ both-join block1 block2 M P Q I f kq k l c j r lo hi h o g u p q =
     ∙ ap (less_at block2 (M a) l (I b l) (I b (l + 1))) (less-same block1 (P a) (M a) k _ _ _ (λ b y z. same a b (omega arith)))))
 
 -- one column, where none was passed before it
-pub both-more : (block1 block2 : Bool) (M P Q I : Mat) (f kq k l j next lo hi : ℕ) → l ≡ last_of k block1 + 1 → f ≡ last_of l block2 → f < j
-    → j ≤ next → next ≤ j → P ≡ swept_both block1 block2 M I f kq k l j next lo hi
+pub one-column : (pair : Pair) (M Q I : Mat) (j len len_m : ℕ) → PairPre pair len len_m → pair.f < j
     → Q
-    ≡ with_column P j lo hi
-    (stepped_twice block1 block2 P k l j (I (exchanged_place f kq j) k) (I (exchanged_place f kq j) (k + 1)) (I j l) (I j (l + 1)))
-    → Q ≡ swept_both block1 block2 M I f kq k l j (j + 1) lo hi
-both-more block1 block2 M P Q I f kq k l j next lo hi e g h u v p q =
-    both-step block1 block2 M P Q I f kq k l j j lo hi (omega (arith, last-from l block2)) (omega arith) (omega arith)
-    (both_end block1 block2 M P I f kq k l j next j lo hi v u p) q
-
--- ---- by the kinds
-
-pub pair-kinds : (block1 block2 w o : Bool) (at : Part) (l f kq len len_m : ℕ) → block1 ≡ w → block2 ≡ o → PairPre block1 block2 at l f kq len len_m
-    → PairPre w o at l f kq len len_m
-pair-kinds block1 block2 w o at l f kq len len_m e g h = rw (e, g) at h
-
-pub both-kinds : (block1 block2 w o : Bool) (M Q I : Mat) (f kq k l j r lo hi : ℕ) → block1 ≡ w → block2 ≡ o
-    → Q ≡ swept_both w o M I f kq k l j r lo hi → Q ≡ swept_both block1 block2 M I f kq k l j r lo hi
-both-kinds block1 block2 w o M Q I f kq k l j r lo hi e g q = q ∙ rw (e, g)
+    ≡ with_column M j 0 pair.at.rows
+    (stepped_twice pair.block1 pair.block2 M 0 pair.l j (I (exchanged_place pair.f pair.kq j) 0) (I (exchanged_place pair.f pair.kq j) 1) (I j pair.l)
+    (I j (pair.l + 1)))
+    → Q ≡ swept_pair pair M I j (j + 1)
+one-column pair M Q I j len len_m pre h q =
+    both-step pair.block1 pair.block2 M M Q I pair.f pair.kq 0 pair.l j j 0 pair.at.rows
+    (omega (arith, pre.next, pre.last, last-from pair.l pair.block2)) (omega (arith, pre.last)) (omega arith)
+    (both-none pair.block1 pair.block2 M I pair.f pair.kq 0 pair.l j 0 pair.at.rows) q
 
 -- ---- no multiplier of a 1x1 is zero
 
@@ -146,6 +138,10 @@ neither-second : (a b : Float) → neither_zero a b ≡ true → eq b zero_f ≡
 unfolding neither_zero
 neither-second a b h = not-true (eq b zero_f) (and_right (not (eq a zero_f)) (not (eq b zero_f)) h)
 
+mixed-reach : (block1 block2 : Bool) (l f : ℕ) → block2 ≡ not block1 → l ≡ last_of 0 block1 + 1 → f ≡ last_of l block2 → 2 ≤ f
+mixed-reach true block2 l f k e h = omega (arith, last_block 0 true refl, last-from l block2)
+mixed-reach false block2 l f k e h = omega (arith, last-single 0 false refl, last_block l block2 k)
+
 -- ---- by the multipliers that were read
 
 -- from the columns' rules to the sweep
@@ -156,99 +152,80 @@ swept-by block1 block2 M Q I f kq k l j lo hi c R e g h each q =
     q ∙ columns-same M j lo hi R (λ u. both_at block1 block2 M I f kq k l (j + u)) c each
     ∙ both-columns block1 block2 M I f kq k l j lo hi c (omega (arith, last-from l block2)) (omega arith)
 
-module _ (M I : Mat) (f kq l j : ℕ) where
-  singles-rule : (b : ℕ) (m1 m3 : Float) → l ≡ last_of 0 false + 1 → m1 ≡ I (exchanged_place f kq b) 0 → m3 ≡ I b l → neither_zero m1 m3 ≡ true
-      → less_two (column_of M b) (column_of M 0) (column_of M 1) m1 m3 ≡ both_at false false M I f kq 0 l b
-  singles-rule b m1 m3 e e1 e3 z =
-      singles-at M l b m1 (I (exchanged_place f kq b) 1) m3 (I b (l + 1)) (omega (arith, last-single 0 false refl)) (neither-first m1 m3 z)
-      (neither-second m1 m3 z)
-      ∙ rw (e1, e3)
+module _ (M I : Mat) (f kq l : ℕ) where
+  -- by two 1x1s
+  singles-rule : l ≡ last_of 0 false + 1 → (b : ℕ) (m : List Float) → m ≡ two_of I f kq l b → neither_zero (vec m 0) (vec m 1) ≡ true
+      → less_columns 2 M 0 b (vec m) ≡ both_at false false M I f kq 0 l b
+  unfolding two_of vec
+  singles-rule next b m e z =
+      columns-two M 0 b (vec m)
+      ∙ singles-at M l b (vec m 0) (I (exchanged_place f kq b) 1) (vec m 1) (I b (l + 1)) (omega (arith, last-single 0 false refl)) (neither-first _ _ z)
+      (neither-second _ _ z)
+      ∙ rw e
 
-  four-rules : (a1 a2 b1 b2 c1 c2 d1 d2 : Float) → l ≡ last_of 0 false + 1 → a1 ≡ I (exchanged_place f kq j) 0 → a2 ≡ I j l
-      → b1 ≡ I (exchanged_place f kq (j + 1)) 0 → b2 ≡ I (j + 1) l → c1 ≡ I (exchanged_place f kq (j + 2)) 0 → c2 ≡ I (j + 2) l
-      → d1 ≡ I (exchanged_place f kq (j + 3)) 0 → d2 ≡ I (j + 3) l
-      → neither_zero a1 a2 ≡ true → neither_zero b1 b2 ≡ true → neither_zero c1 c2 ≡ true → neither_zero d1 d2 ≡ true → (u : ℕ) → u < 4
-      → four_columns M j a1 a2 b1 b2 c1 c2 d1 d2 u ≡ both_at false false M I f kq 0 l (j + u)
-  unfolding four_columns pick
-  four-rules a1 a2 b1 b2 c1 c2 d1 d2 e ea1 ea2 eb1 eb2 ec1 ec2 ed1 ed2 za zb zc zd zero h =
-      let at : j + 0 ≡ j = omega arith in rw at (singles-rule j a1 a2 e ea1 ea2 za)
-  four-rules a1 a2 b1 b2 c1 c2 d1 d2 e ea1 ea2 eb1 eb2 ec1 ec2 ed1 ed2 za zb zc zd (suc zero) h = singles-rule (j + 1) b1 b2 e eb1 eb2 zb
-  four-rules a1 a2 b1 b2 c1 c2 d1 d2 e ea1 ea2 eb1 eb2 ec1 ec2 ed1 ed2 za zb zc zd (suc (suc zero)) h = singles-rule (j + 2) c1 c2 e ec1 ec2 zc
-  four-rules a1 a2 b1 b2 c1 c2 d1 d2 e ea1 ea2 eb1 eb2 ec1 ec2 ed1 ed2 za zb zc zd (suc (suc (suc zero))) h = singles-rule (j + 3) d1 d2 e ed1 ed2 zd
-  four-rules a1 a2 b1 b2 c1 c2 d1 d2 e ea1 ea2 eb1 eb2 ec1 ec2 ed1 ed2 za zb zc zd (suc (suc (suc (suc u)))) h = absurd (omega arith)
+  four-rules : l ≡ last_of 0 false + 1 → (j : ℕ) (a b c d : List Float) → a ≡ two_of I f kq l j
+      → b ≡ two_of I f kq l (j + 1) → c ≡ two_of I f kq l (j + 2) → d ≡ two_of I f kq l (j + 3) → neither_zero (vec a 0) (vec a 1) ≡ true
+      → neither_zero (vec b 0) (vec b 1) ≡ true → neither_zero (vec c 0) (vec c 1) ≡ true → neither_zero (vec d 0) (vec d 1) ≡ true → (u : ℕ) → u < 4
+      → less_of 2 M j (list_at (a ∷ b ∷ c ∷ d ∷ [])) u ≡ both_at false false M I f kq 0 l (j + u)
+  unfolding less_of list_at
+  four-rules next j a b c d ea eb ec ed za zb zc zd zero h =
+      let at : j + 0 ≡ j = omega arith in rw at (singles-rule next j a ea za)
+  four-rules next j a b c d ea eb ec ed za zb zc zd (suc zero) h = singles-rule next (j + 1) b eb zb
+  four-rules next j a b c d ea eb ec ed za zb zc zd (suc (suc zero)) h = singles-rule next (j + 2) c ec zc
+  four-rules next j a b c d ea eb ec ed za zb zc zd (suc (suc (suc zero))) h = singles-rule next (j + 3) d ed zd
+  four-rules next j a b c d ea eb ec ed za zb zc zd (suc (suc (suc (suc u)))) h = absurd (omega arith)
 
-  single-block-rules : (a1 a2 a3 b1 b2 b3 : Float) → l ≡ last_of 0 false + 1 → a1 ≡ I (exchanged_place f kq j) 0 → a2 ≡ I j l → a3 ≡ I j (l + 1)
-      → b1 ≡ I (exchanged_place f kq (j + 1)) 0 → b2 ≡ I (j + 1) l → b3 ≡ I (j + 1) (l + 1) → neither_zero a1 b1 ≡ true → (u : ℕ) → u < 2
-      → two_columns M j a1 a2 a3 b1 b2 b3 u ≡ both_at false true M I f kq 0 l (j + u)
-  unfolding two_columns pick
-  single-block-rules a1 a2 a3 b1 b2 b3 e ea1 ea2 ea3 eb1 eb2 eb3 z zero h =
-      let at : j + 0 ≡ j = omega arith in
-      rw at (single-block-at M l j a1 (I (exchanged_place f kq j) 1) a2 a3 (omega (arith, last-single 0 false refl)) (neither-first a1 b1 z)
-      ∙ rw (ea1, ea2, ea3))
-  single-block-rules a1 a2 a3 b1 b2 b3 e ea1 ea2 ea3 eb1 eb2 eb3 z (suc zero) h =
-      single-block-at M l (j + 1) b1 (I (exchanged_place f kq (j + 1)) 1) b2 b3 (omega (arith, last-single 0 false refl)) (neither-second a1 b1 z)
-      ∙ rw (eb1, eb2, eb3)
-  single-block-rules a1 a2 a3 b1 b2 b3 e ea1 ea2 ea3 eb1 eb2 eb3 z (suc (suc u)) h = absurd (omega arith)
+  -- by a block and a 1x1
+  mixed-rule : (block1 block2 : Bool) → block2 ≡ not block1 → l ≡ last_of 0 block1 + 1 → (b : ℕ) (m : List Float) → m ≡ three_of block1 I f kq l b
+      → eq (vec m (single_at block1)) zero_f ≡ false → less_columns 3 M 0 b (vec m) ≡ both_at block1 block2 M I f kq 0 l b
+  unfolding three_of single_at vec
+  mixed-rule true block2 t next b m e z =
+      rw t (columns-three M 0 b (vec m)
+      ∙ block-single-at M l b (vec m 0) (vec m 1) (vec m 2) (I b (l + 1)) (omega (arith, last_block 0 true refl)) z ∙ rw e)
+  mixed-rule false block2 t next b m e z =
+      rw t (columns-three M 0 b (vec m)
+      ∙ single-block-at M l b (vec m 0) (I (exchanged_place f kq b) 1) (vec m 1) (vec m 2) (omega (arith, last-single 0 false refl)) z ∙ rw e)
 
-  block-single-rules : (a1 a2 a3 b1 b2 b3 : Float) → l ≡ last_of 0 true + 1 → a1 ≡ I (exchanged_place f kq j) 0 → a2 ≡ I (exchanged_place f kq j) 1
-      → a3 ≡ I j l → b1 ≡ I (exchanged_place f kq (j + 1)) 0 → b2 ≡ I (exchanged_place f kq (j + 1)) 1 → b3 ≡ I (j + 1) l
-      → neither_zero a3 b3 ≡ true → (u : ℕ) → u < 2
-      → two_columns M j a1 a2 a3 b1 b2 b3 u ≡ both_at true false M I f kq 0 l (j + u)
-  unfolding two_columns pick
-  block-single-rules a1 a2 a3 b1 b2 b3 e ea1 ea2 ea3 eb1 eb2 eb3 z zero h =
-      let at : j + 0 ≡ j = omega arith in
-      rw at (block-single-at M l j a1 a2 a3 (I j (l + 1)) (omega (arith, last_block 0 true refl)) (neither-first a3 b3 z) ∙ rw (ea1, ea2, ea3))
-  block-single-rules a1 a2 a3 b1 b2 b3 e ea1 ea2 ea3 eb1 eb2 eb3 z (suc zero) h =
-      block-single-at M l (j + 1) b1 b2 b3 (I (j + 1) (l + 1)) (omega (arith, last_block 0 true refl)) (neither-second a3 b3 z) ∙ rw (eb1, eb2, eb3)
-  block-single-rules a1 a2 a3 b1 b2 b3 e ea1 ea2 ea3 eb1 eb2 eb3 z (suc (suc u)) h = absurd (omega arith)
+  mixed-rules : (block1 block2 : Bool) → block2 ≡ not block1 → l ≡ last_of 0 block1 + 1 → (j : ℕ) (a b : List Float) → a ≡ three_of block1 I f kq l j
+      → b ≡ three_of block1 I f kq l (j + 1) → neither_zero (vec a (single_at block1)) (vec b (single_at block1)) ≡ true → (u : ℕ) → u < 2
+      → less_of 3 M j (list_at (a ∷ b ∷ [])) u ≡ both_at block1 block2 M I f kq 0 l (j + u)
+  unfolding less_of list_at
+  mixed-rules block1 block2 t next j a b ea eb z zero h =
+      let at : j + 0 ≡ j = omega arith in rw at (mixed-rule block1 block2 t next j a ea (neither-first _ _ z))
+  mixed-rules block1 block2 t next j a b ea eb z (suc zero) h = mixed-rule block1 block2 t next (j + 1) b eb (neither-second _ _ z)
+  mixed-rules block1 block2 t next j a b ea eb z (suc (suc u)) h = absurd (omega arith)
 
-module _ (M Q I : Mat) (f kq l j lo hi : ℕ) where
-  pub four-done : {a1 a2 b1 b2 c1 c2 d1 d2 : Float} {s t v w : Bool} → l ≡ last_of 0 false + 1 → f ≡ last_of l false → f < j
-      → a1 ≡ I (exchanged_place f kq j) 0 → a2 ≡ I j l → b1 ≡ I (exchanged_place f kq (j + 1)) 0 → b2 ≡ I (j + 1) l
-      → c1 ≡ I (exchanged_place f kq (j + 2)) 0 → c2 ≡ I (j + 2) l → d1 ≡ I (exchanged_place f kq (j + 3)) 0 → d2 ≡ I (j + 3) l
-      → s ≡ neither_zero a1 a2 → t ≡ neither_zero b1 b2 → v ≡ neither_zero c1 c2 → w ≡ neither_zero d1 d2 → s && (t && (v && w)) ≡ true
-      → Q ≡ columns_by M j lo hi (four_columns M j a1 a2 b1 b2 c1 c2 d1 d2) 4 → Q ≡ swept_both false false M I f kq 0 l j (j + 4) lo hi
-  four-done {a1} {a2} {b1} {b2} {c1} {c2} {d1} {d2} {s} {t} {v} {w} e g h ea1 ea2 eb1 eb2 ec1 ec2 ed1 ed2 es et ev ew all q =
+module _ (pair : Pair) (M Q I : Mat) (j len len_m : ℕ) (pre : PairPre pair len len_m) (past : pair.f < j) where
+  pub four-done : {a b c d : List Float} {s t v w : Bool} → pair.block1 ≡ false → pair.block2 ≡ false → a ≡ two_of I pair.f pair.kq pair.l j
+      → b ≡ two_of I pair.f pair.kq pair.l (j + 1) → c ≡ two_of I pair.f pair.kq pair.l (j + 2) → d ≡ two_of I pair.f pair.kq pair.l (j + 3)
+      → s ≡ neither_zero (vec a 0) (vec a 1) → t ≡ neither_zero (vec b 0) (vec b 1) → v ≡ neither_zero (vec c 0) (vec c 1)
+      → w ≡ neither_zero (vec d 0) (vec d 1) → s && (t && (v && w)) ≡ true
+      → Q ≡ columns_by M j 0 pair.at.rows (less_of 2 M j (list_at (a ∷ b ∷ c ∷ d ∷ []))) 4 → Q ≡ swept_pair pair M I j (j + 4)
+  four-done {a} {b} {c} {d} {s} {t} {v} {w} k1 k2 ea eb ec ed es et ev ew all q =
       let rest : t && (v && w) ≡ true = and_right s (t && (v && w)) all in
       let last : v && w ≡ true = and_right t (v && w) rest in
-      swept-by false false M Q I f kq 0 l j lo hi 4 (four_columns M j a1 a2 b1 b2 c1 c2 d1 d2) e g h
-      (four-rules M I f kq l j a1 a2 b1 b2 c1 c2 d1 d2 e ea1 ea2 eb1 eb2 ec1 ec2 ed1 ed2
+      let next : pair.l ≡ last_of 0 false + 1 = pre.next ∙ ap (λ (b : Bool). last_of 0 b + 1) k1 in
+      let end : pair.f ≡ last_of pair.l false = pre.last ∙ ap (last_of pair.l) k2 in
+      rw (k1, k2) (swept-by false false M Q I pair.f pair.kq 0 pair.l j 0 pair.at.rows 4 _ next end past
+      (four-rules M I pair.f pair.kq pair.l next j a b c d ea eb ec ed
       (sym es ∙ and_left s (t && (v && w)) all) (sym et ∙ and_left t (v && w) rest)
-      (sym ev ∙ and_left v w last) (sym ew ∙ and_right v w last)) q
+      (sym ev ∙ and_left v w last) (sym ew ∙ and_right v w last)) q)
 
-  pub single-block-done : {a1 a2 a3 b1 b2 b3 : Float} {s : Bool} → l ≡ last_of 0 false + 1 → f ≡ last_of l true → f < j
-      → a1 ≡ I (exchanged_place f kq j) 0 → a2 ≡ I j l → a3 ≡ I j (l + 1)
-      → b1 ≡ I (exchanged_place f kq (j + 1)) 0 → b2 ≡ I (j + 1) l → b3 ≡ I (j + 1) (l + 1) → s ≡ neither_zero a1 b1 → s ≡ true
-      → Q ≡ columns_by M j lo hi (two_columns M j a1 a2 a3 b1 b2 b3) 2 → Q ≡ swept_both false true M I f kq 0 l j (j + 2) lo hi
-  single-block-done {a1} {a2} {a3} {b1} {b2} {b3} {s} e g h ea1 ea2 ea3 eb1 eb2 eb3 es z q =
-      swept-by false true M Q I f kq 0 l j lo hi 2 (two_columns M j a1 a2 a3 b1 b2 b3) e g h
-      (single-block-rules M I f kq l j a1 a2 a3 b1 b2 b3 e ea1 ea2 ea3 eb1 eb2 eb3 (sym es ∙ z)) q
-
-  pub block-single-done : {a1 a2 a3 b1 b2 b3 : Float} {s : Bool} → l ≡ last_of 0 true + 1 → f ≡ last_of l false → f < j
-      → a1 ≡ I (exchanged_place f kq j) 0 → a2 ≡ I (exchanged_place f kq j) 1 → a3 ≡ I j l → b1 ≡ I (exchanged_place f kq (j + 1)) 0
-      → b2 ≡ I (exchanged_place f kq (j + 1)) 1 → b3 ≡ I (j + 1) l → s ≡ neither_zero a3 b3 → s ≡ true
-      → Q ≡ columns_by M j lo hi (two_columns M j a1 a2 a3 b1 b2 b3) 2 → Q ≡ swept_both true false M I f kq 0 l j (j + 2) lo hi
-  block-single-done {a1} {a2} {a3} {b1} {b2} {b3} {s} e g h ea1 ea2 ea3 eb1 eb2 eb3 es z q =
-      swept-by true false M Q I f kq 0 l j lo hi 2 (two_columns M j a1 a2 a3 b1 b2 b3) e g h
-      (block-single-rules M I f kq l j a1 a2 a3 b1 b2 b3 e ea1 ea2 ea3 eb1 eb2 eb3 (sym es ∙ z)) q
+  pub mixed-done : {a b : List Float} {s : Bool} → pair.block2 ≡ not pair.block1 → a ≡ three_of pair.block1 I pair.f pair.kq pair.l j
+      → b ≡ three_of pair.block1 I pair.f pair.kq pair.l (j + 1) → (one : ℕ) → one ≡ single_at pair.block1 → s ≡ neither_zero (vec a one) (vec b one)
+      → s ≡ true → Q ≡ columns_by M j 0 pair.at.rows (less_of 3 M j (list_at (a ∷ b ∷ []))) 2 → Q ≡ swept_pair pair M I j (j + 2)
+  mixed-done {a} {b} {s} k ea eb one eo es z q =
+      swept-by pair.block1 pair.block2 M Q I pair.f pair.kq 0 pair.l j 0 pair.at.rows 2 _ pre.next pre.last past
+      (mixed-rules M I pair.f pair.kq pair.l pair.block1 pair.block2 k pre.next j a b ea eb (rw eo at (sym es ∙ z))) q
 
 -- ---- what the passes ask
 
-module _ {at : Part} {l f kq j len len_m : ℕ} where
-  columns-pre : (block1 block2 : Bool) (c z : ℕ) → PairPre block1 block2 at l f kq len len_m → c ≤ f → f < j → j + z < at.columns
-      → ColumnsPre at.nrow at.rows c j (j + z) len
-  columns-pre block1 block2 c z pre u h g =
-      record { col = column-in pre.frame (j + z) g; past = omega arith; height = pre.frame.height }
+module _ {pair : Pair} {j len len_m : ℕ} (pre : PairPre pair len len_m) (past : pair.f < j) where
+  columns-pre : (c z : ℕ) → c ≤ pair.f → j + z < pair.at.columns → ColumnsPre pair.at.nrow pair.at.rows c j (j + z) len
+  columns-pre c z u g = record { col = column-in pre.frame (j + z) g; past = omega arith; height = pre.frame.height }
 
-  pub four-columns : PairPre false false at l f kq len len_m → f < j → j + 4 ≤ at.columns → ColumnsPre at.nrow at.rows 1 j (j + 3) len
-  four-columns pre h g = let p = placed pre in columns-pre false false 1 3 pre (omega arith) h (omega arith)
+  pub four-columns : j + 4 ≤ pair.at.columns → ColumnsPre pair.at.nrow pair.at.rows 1 j (j + 3) len
+  four-columns g = let p = placed pre in columns-pre 1 3 (omega arith) (omega arith)
 
-  pub single-block-columns : PairPre false true at l f kq len len_m → f < j → j + 2 ≤ at.columns → ColumnsPre at.nrow at.rows 2 j (j + 1) len
-  single-block-columns pre h g =
-      let p = placed pre in
-      columns-pre false true 2 1 pre (omega (arith, pre.last, last_block l true refl)) h (omega arith)
-
-  pub block-single-columns : PairPre true false at l f kq len len_m → f < j → j + 2 ≤ at.columns → ColumnsPre at.nrow at.rows 2 j (j + 1) len
-  block-single-columns pre h g =
-      let p = placed pre in
-      columns-pre true false 2 1 pre (omega (arith, pre.next, last_block 0 true refl)) h (omega arith)
+  pub mixed-columns : pair.block2 ≡ not pair.block1 → j + 2 ≤ pair.at.columns → ColumnsPre pair.at.nrow pair.at.rows 2 j (j + 1) len
+  mixed-columns k g = columns-pre 2 1 (mixed-reach pair.block1 pair.block2 pair.l pair.f k pre.next pre.last) (omega arith)

@@ -18,6 +18,7 @@ use Rattle.less.specs.Less.{less_at, stepped, stepped_twice}
 use Rattle.less.proofs.Column.{less-same}
 use Rattle.swept.specs.Swept.{strip, swept_first, swept_both, PartPre, PairPre}
 use Rattle.swept.specs.declared.Part.{Part}
+use Rattle.swept.specs.declared.Pair.{Pair}
 
 -- ---- the exchange of places
 
@@ -64,34 +65,34 @@ pub record Placed (columns l f kq : ℕ) : Type 0 where
   pub last : f < columns
   pub reach : f ≤ kq
 
-module _ {block1 block2 : Bool} {at : Part} {l f kq len len_m : ℕ} (pre : PairPre block1 block2 at l f kq len len_m) where
-  pub placed : Placed at.columns l f kq
+module _ {pair : Pair} {len len_m : ℕ} (pre : PairPre pair len len_m) where
+  pub placed : Placed pair.at.columns pair.l pair.f pair.kq
   placed =
       record {
         first = omega (arith, pre.next);
-        second = omega (arith, pre.last, last-from l block2);
+        second = omega (arith, pre.last, last-from pair.l pair.block2);
         last = omega (arith, pre.reach, pre.row);
         reach = pre.reach;
       }
 
   -- what reading a multiplier asks, past both pivots: of the first, and of the second
-  pub both-kept : (j : ℕ) → f < j → j < at.columns → In at.nb (exchanged_place f kq j) 0 len_m
+  pub both-kept : (j : ℕ) → pair.f < j → j < pair.at.columns → In pair.at.nb (exchanged_place pair.f pair.kq j) 0 len_m
   both-kept j h g =
-      multiplier-in pre.frame (exchanged_place f kq j) 0 (place-under f kq at.columns j placed.last pre.row g) (omega arith)
+      multiplier-in pre.frame (exchanged_place pair.f pair.kq j) 0 (place-under pair.f pair.kq pair.at.columns j placed.last pre.row g) (omega arith)
 
-  pub both-kept-next : (j : ℕ) → f < j → j < at.columns → In at.nb (exchanged_place f kq j) 1 len_m
+  pub both-kept-next : (j : ℕ) → pair.f < j → j < pair.at.columns → In pair.at.nb (exchanged_place pair.f pair.kq j) 1 len_m
   both-kept-next j h g =
       let p = placed in
-      multiplier-in pre.frame (exchanged_place f kq j) 1 (place-under f kq at.columns j placed.last pre.row g) (omega arith)
+      multiplier-in pre.frame (exchanged_place pair.f pair.kq j) 1 (place-under pair.f pair.kq pair.at.columns j placed.last pre.row g) (omega arith)
 
-  pub second-kept : (j : ℕ) → f < j → j < at.columns → In at.nb j l len_m
-  second-kept j h g = let p = placed in multiplier-in pre.frame j l g (omega arith)
+  pub second-kept : (j : ℕ) → pair.f < j → j < pair.at.columns → In pair.at.nb j pair.l len_m
+  second-kept j h g = let p = placed in multiplier-in pre.frame j pair.l g (omega arith)
 
-  pub second-kept-next : (j : ℕ) → f < j → j < at.columns → In at.nb j (l + 1) len_m
-  second-kept-next j h g = let p = placed in multiplier-in pre.frame j (l + 1) g (omega arith)
+  pub second-kept-next : (j : ℕ) → pair.f < j → j < pair.at.columns → In pair.at.nb j (pair.l + 1) len_m
+  second-kept-next j h g = let p = placed in multiplier-in pre.frame j (pair.l + 1) g (omega arith)
 
-  pub later-than-both : (j : ℕ) → f < j → j < at.columns → LaterPre at.nrow (last_of l block2) j 0 at.rows len
-  later-than-both j h g = later-in pre.frame (last_of l block2) j len (omega (arith, pre.last)) g refl
+  pub later-than-both : (j : ℕ) → pair.f < j → j < pair.at.columns → LaterPre pair.at.nrow (last_of pair.l pair.block2) j 0 pair.at.rows len
+  later-than-both j h g = later-in pre.frame (last_of pair.l pair.block2) j len (omega (arith, pre.last)) g refl
 
 -- ---- a strip
 

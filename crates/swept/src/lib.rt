@@ -3,12 +3,10 @@
 // A reader may rely on the contracts: no other number changes.
 #![tactic(auto)]
 
-ghost use Rattle.std.specs.Prelude.{◌≡◌, true, false, ◌+◌, ◌<◌, ◌≤◌, length};
+ghost use Rattle.std.specs.Prelude.{◌≡◌, ℕ, false, not, ◌+◌, ◌<◌, ◌≤◌, length};
 ghost use Rattle.model.specs.Matrix.{view, exchanged_place};
 ghost use Rattle.grid.specs.Grid.{In};
-ghost use Rattle.swept.specs.Swept.{swept_both, neither_zero, PairPre};
-
-use kernels::{ThreeMultipliers, TwoMultipliers};
+ghost use Rattle.swept.specs.Swept.{neither_zero, two_of, three_of, single_at, Swept, PairPre};
 
 // What is lent of a panel and of its multipliers: `columns` columns, from the first pivot's to the panel's last, and
 // `rows` rows of each, of columns of nrow rows; a column of multipliers has nb. The part begins with the first pivot's
@@ -20,6 +18,18 @@ pub struct Part {
     pub rows: usize,
     pub nb: usize,
     pub columns: usize,
+}
+
+// Two pivots in such a part, one right after the other: whether they are blocks; the columns where the second begins
+// and ends, l and f, and the column kq that its last one was exchanged with. The first begins in column 0.
+#[derive(Clone, Copy)]
+pub struct Pair {
+    pub at: Part,
+    pub block1: bool,
+    pub block2: bool,
+    pub l: usize,
+    pub f: usize,
+    pub kq: usize,
 }
 
 // f for kq and kq for f.
@@ -50,146 +60,102 @@ fn neither_zero(a: f64, b: f64) -> bool
     (a != 0.0) & (b != 0.0)
 }
 
-// Columns j to j + 3 less the parts of two 1x1s, where no multiplier of theirs is zero. The answer is the first column
-// left: j itself where a multiplier is.
-fn four_singles(
-    part: &mut [f64],
-    mult: &[f64],
-    at: Part,
-    l: usize,
-    f: usize,
-    kq: usize,
-    j: usize,
-) -> usize
-    requires pair_pre { PairPre false false at l f kq (length part.old) (length mult.now) }
-    requires f_lt_j { (f < j) × (j + 4 ≤ at.columns) }
-    ensures part_after { view at.nrow part.new
-        ≡ swept_both false false (view at.nrow part.old) (view at.nb mult.now) f kq 0 l
-        j result 0 at.rows }
-    ensures lower_bound { (j ≤ result) × (result ≤ at.columns) }
+// The multipliers of column j by two 1x1s.
+fn two_of(mult: &[f64], pair: Pair, j: usize) -> [f64; 2]
+    requires pair_pre { (len : ℕ) × PairPre pair len (length mult.now) }
+    requires f_lt_j { (pair.f < j) × (j < pair.at.columns) }
+    ensures { result ≡ two_of (view pair.at.nb mult.now) pair.f pair.kq pair.l j }
 {
-    let a1 = multiplier_before(mult, at.nb, f, kq, j, 0);
-    let a2 = grid::get(mult, at.nb, j, l);
-    let b1 = multiplier_before(mult, at.nb, f, kq, j + 1, 0);
-    let b2 = grid::get(mult, at.nb, j + 1, l);
-    let c1 = multiplier_before(mult, at.nb, f, kq, j + 2, 0);
-    let c2 = grid::get(mult, at.nb, j + 2, l);
-    let d1 = multiplier_before(mult, at.nb, f, kq, j + 3, 0);
-    let d2 = grid::get(mult, at.nb, j + 3, l);
-    if neither_zero(a1, a2)
-        & (neither_zero(b1, b2) & (neither_zero(c1, c2) & neither_zero(d1, d2)))
+    let first = multiplier_before(mult, pair.at.nb, pair.f, pair.kq, j, 0);
+    [first, grid::get(mult, pair.at.nb, j, pair.l)]
+}
+
+// The multipliers of column j by a block and a 1x1, whichever stands first, in the order of their three columns.
+fn three_of(mult: &[f64], pair: Pair, j: usize) -> [f64; 3]
+    requires pair_pre { (len : ℕ) × PairPre pair len (length mult.now) }
+    requires kinds { pair.block2 ≡ not pair.block1 }
+    requires f_lt_j { (pair.f < j) × (j < pair.at.columns) }
+    ensures { result ≡ three_of pair.block1 (view pair.at.nb mult.now) pair.f pair.kq pair.l j }
+{
+    let first = multiplier_before(mult, pair.at.nb, pair.f, pair.kq, j, 0);
+    let own = grid::get(mult, pair.at.nb, j, pair.l);
+    if pair.block1 {
+        let second = multiplier_before(mult, pair.at.nb, pair.f, pair.kq, j, 1);
+        return [first, second, own];
+    }
+    [first, own, grid::get(mult, pair.at.nb, j, pair.l + 1)]
+}
+
+// Which of those three is the 1x1's.
+fn single_at(pair: Pair) -> usize
+    ensures value { result ≡ single_at pair.block1 }
+    ensures below { result < 3 }
+{
+    if pair.block1 {
+        return 2;
+    }
+    0
+}
+
+// Columns j to j + 3 less the parts of two 1x1s, where no multiplier of theirs is zero. The first column left, or None
+// where nothing was done.
+fn four_singles(part: &mut [f64], mult: &[f64], pair: Pair, j: usize) -> Option<usize>
+    requires pair_pre { PairPre pair (length part.old) (length mult.now) }
+    requires kinds { (pair.block1 ≡ false) × (pair.block2 ≡ false) }
+    requires f_lt_j { (pair.f < j) × (j + 4 ≤ pair.at.columns) }
+    ensures { Swept pair part.old part.new mult.now j result }
+{
+    let a = two_of(mult, pair, j);
+    let b = two_of(mult, pair, j + 1);
+    let c = two_of(mult, pair, j + 2);
+    let d = two_of(mult, pair, j + 3);
+    if neither_zero(a[0], a[1])
+        & (neither_zero(b[0], b[1]) & (neither_zero(c[0], c[1]) & neither_zero(d[0], d[1])))
     {
-        let a = TwoMultipliers(a1, a2);
-        let b = TwoMultipliers(b1, b2);
-        let c = TwoMultipliers(c1, c2);
-        let d = TwoMultipliers(d1, d2);
-        several::less_two_of_four(part, at.nrow, at.rows, j, a, b, c, d);
-        return j + 4;
+        several::less_of(part, pair.at.nrow, pair.at.rows, j, [a, b, c, d]);
+        return Some(j + 4);
     }
-    j
+    None
 }
 
-// Columns j and j + 1 less the parts of a 1x1 and of the block after it, where neither multiplier of the 1x1 is zero.
-// The answer is the first column left.
-fn single_block_two(
-    part: &mut [f64],
-    mult: &[f64],
-    at: Part,
-    l: usize,
-    f: usize,
-    kq: usize,
-    j: usize,
-) -> usize
-    requires pair_pre { PairPre false true at l f kq (length part.old) (length mult.now) }
-    requires f_lt_j { (f < j) × (j + 2 ≤ at.columns) }
-    ensures part_after { view at.nrow part.new
-        ≡ swept_both false true (view at.nrow part.old) (view at.nb mult.now) f kq 0 l
-        j result 0 at.rows }
-    ensures lower_bound { (j ≤ result) × (result ≤ at.columns) }
+// Columns j and j + 1 less the parts of a block and a 1x1, whichever stands first, where neither multiplier of the 1x1
+// is zero. The first column left, or None where nothing was done.
+fn block_and_single(part: &mut [f64], mult: &[f64], pair: Pair, j: usize) -> Option<usize>
+    requires pair_pre { PairPre pair (length part.old) (length mult.now) }
+    requires kinds { pair.block2 ≡ not pair.block1 }
+    requires f_lt_j { (pair.f < j) × (j + 2 ≤ pair.at.columns) }
+    ensures { Swept pair part.old part.new mult.now j result }
 {
-    let a1 = multiplier_before(mult, at.nb, f, kq, j, 0);
-    let a2 = grid::get(mult, at.nb, j, l);
-    let a3 = grid::get(mult, at.nb, j, l + 1);
-    let b1 = multiplier_before(mult, at.nb, f, kq, j + 1, 0);
-    let b2 = grid::get(mult, at.nb, j + 1, l);
-    let b3 = grid::get(mult, at.nb, j + 1, l + 1);
-    if neither_zero(a1, b1) {
-        let a = ThreeMultipliers(a1, a2, a3);
-        let b = ThreeMultipliers(b1, b2, b3);
-        several::less_three_of_two(part, at.nrow, at.rows, j, a, b);
-        return j + 2;
+    let a = three_of(mult, pair, j);
+    let b = three_of(mult, pair, j + 1);
+    let one = single_at(pair);
+    if neither_zero(a[one], b[one]) {
+        several::less_of(part, pair.at.nrow, pair.at.rows, j, [a, b]);
+        return Some(j + 2);
     }
-    j
-}
-
-// The same for a block and the 1x1 after it.
-fn block_single_two(
-    part: &mut [f64],
-    mult: &[f64],
-    at: Part,
-    l: usize,
-    f: usize,
-    kq: usize,
-    j: usize,
-) -> usize
-    requires pair_pre { PairPre true false at l f kq (length part.old) (length mult.now) }
-    requires f_lt_j { (f < j) × (j + 2 ≤ at.columns) }
-    ensures part_after { view at.nrow part.new
-        ≡ swept_both true false (view at.nrow part.old) (view at.nb mult.now) f kq 0 l
-        j result 0 at.rows }
-    ensures lower_bound { (j ≤ result) × (result ≤ at.columns) }
-{
-    let a1 = multiplier_before(mult, at.nb, f, kq, j, 0);
-    let a2 = multiplier_before(mult, at.nb, f, kq, j, 1);
-    let a3 = grid::get(mult, at.nb, j, l);
-    let b1 = multiplier_before(mult, at.nb, f, kq, j + 1, 0);
-    let b2 = multiplier_before(mult, at.nb, f, kq, j + 1, 1);
-    let b3 = grid::get(mult, at.nb, j + 1, l);
-    if neither_zero(a3, b3) {
-        let a = ThreeMultipliers(a1, a2, a3);
-        let b = ThreeMultipliers(b1, b2, b3);
-        several::less_three_of_two(part, at.nrow, at.rows, j, a, b);
-        return j + 2;
-    }
-    j
+    None
 }
 
 // Several columns from j on, less both pivots' parts, where the pivots' kinds, the columns left and the multipliers
-// allow it. The answer is the first column left: j itself where they do not.
+// allow it. The first column left, or None where nothing was done.
 // in: mult / in and out: part
-pub fn several_next(
-    part: &mut [f64],
-    mult: &[f64],
-    block1: bool,
-    block2: bool,
-    at: Part,
-    l: usize,
-    f: usize,
-    kq: usize,
-    j: usize,
-) -> usize
-    requires pair_pre { PairPre block1 block2 at l f kq (length part.old) (length mult.now) }
-    requires f_lt_j { (f < j) × (j < at.columns) }
-    ensures part_after { view at.nrow part.new
-        ≡ swept_both block1 block2 (view at.nrow part.old) (view at.nb mult.now) f kq 0 l
-        j result 0 at.rows }
-    ensures lower_bound { (j ≤ result) × (result ≤ at.columns) }
+pub fn several_next(part: &mut [f64], mult: &[f64], pair: Pair, j: usize) -> Option<usize>
+    requires pair_pre { PairPre pair (length part.old) (length mult.now) }
+    requires f_lt_j { (pair.f < j) × (j < pair.at.columns) }
+    ensures { Swept pair part.old part.new mult.now j result }
 {
-    let left = at.columns - j;
-    if left < 2 {
-        return j;
-    }
-    if block1 {
-        if block2 {
-            return j;
+    let left = pair.at.columns - j;
+    if pair.block1 != pair.block2 {
+        if left < 2 {
+            return None;
         }
-        return block_single_two(part, mult, at, l, f, kq, j);
+        return block_and_single(part, mult, pair, j);
     }
-    if block2 {
-        return single_block_two(part, mult, at, l, f, kq, j);
+    if pair.block1 {
+        return None;
     }
     if left < 4 {
-        return j;
+        return None;
     }
-    four_singles(part, mult, at, l, f, kq, j)
+    four_singles(part, mult, pair, j)
 }

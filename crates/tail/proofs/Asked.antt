@@ -20,7 +20,7 @@ use Rattle.model.proofs.Past.{past-above}
 use Rattle.grid.specs.Rules.{ExchangePre}
 use Rattle.model.proofs.Tabulated.{off-lt}
 use Rattle.swept.specs.Swept.{PartPre, PairPre}
-use Rattle.pairs.specs.Pairs.{StepPre}
+use Rattle.pairs.specs.Pairs.{pair_of, StepPre}
 use Rattle.tail.specs.Tail.{TailPre, StepsPre, HerePre, LentPre, ReadPre}
 
 -- ---- the record of pivots
@@ -157,7 +157,9 @@ module _ (nrow nb kb ke k len_m ld ls lb lp len len_p : ℕ) (blocks partners : 
   pub pair-pre : (d sub : ℕ → Float) (x y : Diagonal) (l p c f q s : ℕ) → l ≡ past_of blocks k → l < ke → HerePre ke blocks partners l
       → x ≡ diagonal_at d sub blocks k → y ≡ diagonal_at d sub blocks l → p ≡ past_of blocks l → c ≡ l - k → f ≡ p - 1 - k
       → q ≡ partners k - k → s ≡ partners l - k
-      → PairPre (is_block x) (is_block y) (record { nrow = nrow; rows = nrow - ke; nb = nb; columns = ke - k }) c f s len len_p × (q < ke - k)
+      → PairPre (pair_of (record { nrow = nrow; rows = nrow - ke; nb = nb; columns = ke - k }) c f (record { pivot = x; row = q })
+      (record { pivot = y; row = s })) len len_p
+      × (q < ke - k)
   pair-pre d sub x y l p c f q s el h there ex ey ep ec ef eq es =
       let later : k ≤ l = omega (arith, past-above blocks k) in
       let ahead : l ≤ partners l = partner-ahead ke blocks partners l there in (

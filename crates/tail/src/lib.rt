@@ -8,24 +8,32 @@ ghost use Rattle.std.specs.Prelude.{◌≡◌, ◌+◌, ◌-◌, ◌<◌, ◌≤
 ghost use Rattle.std.specs.Int.{w64};
 ghost use Rattle.std.proofs.Common.{Fits};
 ghost use Rattle.model.specs.Matrix.{column_start, view, naturals};
-ghost use Rattle.model.specs.Step.{diagonals_of, first_of, arrived, row_stepped, row_after_steps};
+ghost use Rattle.model.specs.Step.{first_of, arrived};
 ghost use Rattle.model.specs.Kept.{Starts};
 ghost use Rattle.whole.specs.Whole.{below};
-ghost use Rattle.eliminate.specs.Eliminate.{in_panel};
-ghost use Rattle.tail.specs.Tail.{from_column, row_stepped_twice};
-ghost use Rattle.tail.specs.Tail.{TailPre, StepsPre, HerePre, BeginsPre, BothPre, LentPre, ReadPre};
+ghost use Rattle.tail.specs.Tail.{blocks_in, partners_in, part_from, from_column};
+ghost use Rattle.tail.specs.Tail.{step_in, both_steps_in, steps_left_in};
+ghost use Rattle.tail.specs.Tail.{sizes_in, read_in, StepsPre, HerePre, BeginsPre, BothPre, LentPre};
 
 use diagonal::{block_begins, diagonal_at, past};
 use grid::{column_start, columns};
-use model::{Elim, Frame, LocalRow};
-use pairs::{below_pair, below_step};
+use model::{DiagonalLists, Elim, Frame, LocalRow};
+use pairs::{Taken, below_pair, below_step};
 use swept::Part;
+
+// What a panel's steps are read from: its multipliers and, by column, the diagonal and the partners.
+#[derive(Clone, Copy)]
+pub struct Steps<'a> {
+    pub mult: &'a [f64],
+    pub diagonal: DiagonalLists<'a>,
+    pub partners: &'a [u16],
+}
 
 // A partner, as it is listed.
 fn listed_row(partner: u16) -> LocalRow
     ensures { result.0 ≡ partner }
 {
-    LocalRow(partner as usize)
+    LocalRow(usize::from(partner))
 }
 
 // What stands at k in the list of partners: at a pivot's first column the row exchanged with its last column, at a
@@ -54,201 +62,141 @@ fn place(nrow: usize, i: usize, j: usize) -> usize
     i + column_start(nrow, j)
 }
 
-// The exchange before the step at k: of a block's first column, where its row is another.
-fn arrive(part: &mut [f64], blocks: &[u8], partners: &[u16], nrow: usize, ke: usize, k: Elim)
-    requires lent_pre { LentPre nrow ke k.0 (length part.old) }
-    requires ke_in_bounds { (ke ≤ length blocks.now) × (ke ≤ length partners.now) }
-    requires here_pre { HerePre ke (naturals blocks.now) (naturals partners.now) k.0 }
-    ensures { view nrow part.new
-        ≡ below 0 (nrow - ke)
-        (from_column k.0 (arrived (naturals blocks.now) (naturals partners.now) k.0))
-        (view nrow part.old) }
+// What is lent of a panel to the steps from k on: its rows from ke down, from column k on.
+fn lent_from(at: Frame, k: Elim) -> Part
+    requires { (at.ke ≤ at.nrow) × (k.0 ≤ at.ke) }
+    ensures { result ≡ part_from at k.0 }
 {
-    if block_begins(blocks, k) {
-        let p = partner(partners, Elim(k.0 + 1));
-        columns::exchange(part, nrow, 0, column_from(k, p), 0, nrow - ke);
+    Part {
+        nrow: at.nrow,
+        rows: at.nrow - at.ke,
+        nb: at.nb,
+        columns: at.ke - k.0,
+    }
+}
+
+// The exchange before the step at k: of a block's first column, where its row is another.
+fn arrive(part: &mut [f64], steps: Steps, at: Frame, k: Elim)
+    requires lent_pre { LentPre at.nrow at.ke k.0 (length part.old) }
+    requires ke_in_bounds { (at.ke ≤ length steps.diagonal.blocks.now) × (at.ke ≤ length steps.partners.now) }
+    requires here_pre { HerePre at.ke (blocks_in steps) (partners_in steps) k.0 }
+    ensures { view at.nrow part.new
+        ≡ below 0 (at.nrow - at.ke)
+        (from_column k.0 (arrived (blocks_in steps.entry) (partners_in steps.entry) k.0))
+        (view at.nrow part.old) }
+{
+    if block_begins(steps.diagonal.blocks, k) {
+        let p = partner(steps.partners, Elim(k.0 + 1));
+        columns::exchange(part, at.nrow, 0, column_from(k, p), 0, at.nrow - at.ke);
     }
 }
 
 // Whether the step at l makes no exchange before its own.
-fn stays(blocks: &[u8], partners: &[u16], ke: usize, l: Elim) -> bool
-    requires l_lt_ke { (l.0 < ke) × ((ke ≤ length blocks.now) × (ke ≤ length partners.now)) }
-    requires here_pre { HerePre ke (naturals blocks.now) (naturals partners.now) l.0 }
+fn stays(steps: Steps, ke: usize, l: Elim) -> bool
+    requires l_lt_ke { (l.0 < ke) × ((ke ≤ length steps.diagonal.blocks.now) × (ke ≤ length steps.partners.now)) }
+    requires here_pre { HerePre ke (blocks_in steps) (partners_in steps) l.0 }
     ensures { result
-        ≡ eqb (first_of (naturals blocks.now) (naturals partners.now) l.0) l.0 }
+        ≡ eqb (first_of (blocks_in steps.entry) (partners_in steps.entry) l.0) l.0 }
 {
-    if block_begins(blocks, l) {
-        let p = partner(partners, Elim(l.0 + 1));
+    if block_begins(steps.diagonal.blocks, l) {
+        let p = partner(steps.partners, Elim(l.0 + 1));
         return p.0 == l.0;
     }
     true
 }
 
 // The step at k on the rows from ke down. The part begins with them, in column k.
-fn tail_step(
-    part: &mut [f64],
-    mult: &[f64],
-    d: &[f64],
-    sub: &[f64],
-    blocks: &[u8],
-    partners: &[u16],
-    at: Frame,
-    k: Elim,
-)
+fn tail_step(part: &mut [f64], steps: Steps, at: Frame, k: Elim)
     requires lent_pre { LentPre at.nrow at.ke k.0 (length part.old) }
-    requires read_pre { ReadPre at.nb at.kb at.ke k.0 (length mult.now) (length d.now) (length sub.now)
-        (length blocks.now) (length partners.now) }
-    requires here_pre { HerePre at.ke (naturals blocks.now) (naturals partners.now) k.0 }
+    requires read_pre { read_in at k.0 steps }
+    requires here_pre { HerePre at.ke (blocks_in steps) (partners_in steps) k.0 }
     ensures { view at.nrow part.new
-        ≡ below 0 (at.nrow - at.ke) (from_column k.0 (row_stepped
-        (diagonals_of d.now sub.now blocks.now) (naturals partners.now)
-        (in_panel at.kb at.ke (view at.nb mult.now)) at.ke k.0))
+        ≡ below 0 (at.nrow - at.ke) (from_column k.0 (step_in at steps.entry k.0))
         (view at.nrow part.old) }
 {
-    let nrow = at.nrow;
-    let nb = at.nb;
-    let kb = at.kb;
-    let ke = at.ke;
-    arrive(part, blocks, partners, nrow, ke, k);
-    let pivot = diagonal_at(d, sub, blocks, k);
-    let kp = partner(partners, k);
-    let lent = Part {
-        nrow,
-        rows: nrow - ke,
-        nb,
-        columns: ke - k.0,
+    arrive(part, steps, at, k);
+    let pivot = diagonal_at(steps.diagonal, k);
+    let kp = partner(steps.partners, k);
+    let first = Taken {
+        pivot,
+        row: column_from(k, kp),
     };
-    let start = place(nb, k.0 - kb, k.0 - kb);
-    below_step(part, &mult[start..], lent, column_from(k, kp), pivot);
+    let start = place(at.nb, k.0 - at.kb, k.0 - at.kb);
+    below_step(part, &steps.mult[start..], lent_from(at, k), first);
 }
 
 // The steps at k and, right after it, at l, which makes no exchange before its own, on the rows from ke down. The part
 // begins with them, in column k.
-fn tail_pair(
-    part: &mut [f64],
-    mult: &[f64],
-    d: &[f64],
-    sub: &[f64],
-    blocks: &[u8],
-    partners: &[u16],
-    at: Frame,
-    k: Elim,
-    l: Elim,
-)
+fn tail_pair(part: &mut [f64], steps: Steps, at: Frame, k: Elim, l: Elim)
     requires lent_pre { LentPre at.nrow at.ke k.0 (length part.old) }
-    requires read_pre { ReadPre at.nb at.kb at.ke k.0 (length mult.now) (length d.now) (length sub.now)
-        (length blocks.now) (length partners.now) }
-    requires both_pre { BothPre at.ke (naturals blocks.now) (naturals partners.now) k.0 l.0 }
+    requires read_pre { read_in at k.0 steps }
+    requires both_pre { BothPre at.ke (blocks_in steps) (partners_in steps) k.0 l.0 }
     ensures { view at.nrow part.new
-        ≡ below 0 (at.nrow - at.ke) (from_column k.0 (row_stepped_twice
-        (diagonals_of d.now sub.now blocks.now) (naturals partners.now)
-        (in_panel at.kb at.ke (view at.nb mult.now)) at.ke k.0 l.0))
+        ≡ below 0 (at.nrow - at.ke) (from_column k.0 (both_steps_in at steps.entry k.0 l.0))
         (view at.nrow part.old) }
 {
-    let nrow = at.nrow;
-    let nb = at.nb;
-    let kb = at.kb;
-    let ke = at.ke;
-    arrive(part, blocks, partners, nrow, ke, k);
-    let x = diagonal_at(d, sub, blocks, k);
-    let y = diagonal_at(d, sub, blocks, l);
-    let kp = partner(partners, k);
-    let kq = partner(partners, l);
-    let last = past(blocks, l) - 1;
-    let lent = Part {
-        nrow,
-        rows: nrow - ke,
-        nb,
-        columns: ke - k.0,
+    arrive(part, steps, at, k);
+    let x = diagonal_at(steps.diagonal, k);
+    let y = diagonal_at(steps.diagonal, l);
+    let kp = partner(steps.partners, k);
+    let kq = partner(steps.partners, l);
+    let first = Taken {
+        pivot: x,
+        row: column_from(k, kp),
     };
-    let start = place(nb, k.0 - kb, k.0 - kb);
+    let second = Taken {
+        pivot: y,
+        row: column_from(k, kq),
+    };
+    let last = past(steps.diagonal.blocks, l) - 1;
+    let start = place(at.nb, k.0 - at.kb, k.0 - at.kb);
+    let mult = &steps.mult[start..];
     below_pair(
         part,
-        &mult[start..],
-        lent,
+        mult,
+        lent_from(at, k),
         l.0 - k.0,
         last - k.0,
-        column_from(k, kp),
-        column_from(k, kq),
-        x,
-        y,
+        first,
+        second,
     );
 }
 
 // The step at k on the rows from ke down, together with the one after it unless there is none or it makes an exchange
 // before its own: the panel from row ke of column k on is lent to them. The answer is the column after them.
-fn one_or_two_steps(
-    panel: &mut [f64],
-    mult: &[f64],
-    d: &[f64],
-    sub: &[f64],
-    blocks: &[u8],
-    partners: &[u16],
-    at: Frame,
-    k: Elim,
-) -> usize
-    requires tail_pre { TailPre at.nrow at.ncol at.nb at.kb at.ke (length panel.old) (length mult.now)
-        (length d.now) (length sub.now) (length blocks.now) (length partners.now) }
-    requires steps_pre { StepsPre at.kb at.ke (naturals blocks.now) (naturals partners.now) }
-    requires begins_pre { BeginsPre at.kb at.ke (naturals blocks.now) k.0 }
-    ensures panel_after { below at.ke at.nrow (row_after_steps
-        (diagonals_of d.now sub.now blocks.now) (naturals partners.now)
-        (in_panel at.kb at.ke (view at.nb mult.now)) at.ke (at.ke - result) result)
-        (view at.nrow panel.new)
-        ≡ below at.ke at.nrow (row_after_steps
-        (diagonals_of d.now sub.now blocks.now) (naturals partners.now)
-        (in_panel at.kb at.ke (view at.nb mult.now)) at.ke (at.ke - k.0) k.0)
-        (view at.nrow panel.old) }
-    ensures lower_bound { (k.0 < result) × Starts (naturals blocks.now) result }
+fn one_or_two_steps(panel: &mut [f64], steps: Steps, at: Frame, k: Elim) -> usize
+    requires tail_pre { sizes_in at (length panel.old) steps }
+    requires steps_pre { StepsPre at.kb at.ke (blocks_in steps) (partners_in steps) }
+    requires begins_pre { BeginsPre at.kb at.ke (blocks_in steps) k.0 }
+    ensures panel_after { below at.ke at.nrow (steps_left_in at steps.entry result) (view at.nrow panel.new)
+        ≡ below at.ke at.nrow (steps_left_in at steps.entry k.0) (view at.nrow panel.old) }
+    ensures lower_bound { (k.0 < result) × Starts (blocks_in steps.entry) result }
 {
-    let nrow = at.nrow;
-    let ke = at.ke;
-    let start = place(nrow, ke, k.0);
-    let l = past(blocks, k);
-    if l < ke {
-        if stays(blocks, partners, ke, Elim(l)) {
-            tail_pair(
-                &mut panel[start..],
-                mult,
-                d,
-                sub,
-                blocks,
-                partners,
-                at,
-                k,
-                Elim(l),
-            );
-            return past(blocks, Elim(l));
+    let start = place(at.nrow, at.ke, k.0);
+    let l = past(steps.diagonal.blocks, k);
+    if l < at.ke {
+        if stays(steps, at.ke, Elim(l)) {
+            tail_pair(&mut panel[start..], steps, at, k, Elim(l));
+            return past(steps.diagonal.blocks, Elim(l));
         }
     }
-    tail_step(&mut panel[start..], mult, d, sub, blocks, partners, at, k);
+    tail_step(&mut panel[start..], steps, at, k);
     l
 }
 
-// The rows from ke down after the panel of columns kb to ke.
-// in: mult, the panel's multipliers; d, sub, blocks and partners by column / in and out: panel
+// The rows from ke down after the panel of columns kb to ke. Blocks and pairs of steps say where the next turn begins,
+// so the loop has no step that a range could count.
+// in: steps / in and out: panel
 // origin: src/numeric/ldlt/bunch_kaufman.rs, fn apply_bk_panel_trailing
-pub fn apply_bk_panel_trailing(
-    panel: &mut [f64],
-    mult: &[f64],
-    d: &[f64],
-    sub: &[f64],
-    blocks: &[u8],
-    partners: &[u16],
-    at: Frame,
-)
-    requires tail_pre { TailPre at.nrow at.ncol at.nb at.kb at.ke (length panel.old) (length mult.now)
-        (length d.now) (length sub.now) (length blocks.now) (length partners.now) }
-    requires steps_pre { StepsPre at.kb at.ke (naturals blocks.now) (naturals partners.now) }
+pub fn apply_bk_panel_trailing(panel: &mut [f64], steps: Steps, at: Frame)
+    requires tail_pre { sizes_in at (length panel.old) steps }
+    requires steps_pre { StepsPre at.kb at.ke (blocks_in steps) (partners_in steps) }
     ensures { view at.nrow panel.new
-        ≡ below at.ke at.nrow (row_after_steps
-        (diagonals_of d.now sub.now blocks.now) (naturals partners.now)
-        (in_panel at.kb at.ke (view at.nb mult.now)) at.ke (at.ke - at.kb) at.kb)
-        (view at.nrow panel.old) }
+        ≡ below at.ke at.nrow (steps_left_in at steps.entry at.kb) (view at.nrow panel.old) }
 {
     let ke = at.ke;
     let mut k = at.kb;
     while k < ke {
-        k = one_or_two_steps(panel, mult, d, sub, blocks, partners, at, Elim(k));
+        k = one_or_two_steps(panel, steps, at, Elim(k));
     }
 }

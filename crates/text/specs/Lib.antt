@@ -1,2 +1,2 @@
--- Numbers as text, and text placed in a list of bytes.
+-- Words and numbers as text.
 pub mod Text

@@ -1,6 +1,6 @@
--- Numbers as text, and text placed in a list of bytes. From docs/SCOPE.md, "The program node". Text is a list of ASCII codes.
+-- Words and numbers as text. From docs/SCOPE.md, "The program node". Text is a list of ASCII codes.
 -- Definitions only. Assumes nothing.
-use Rattle.std.specs.Prelude.{◌≡◌, cond, List, [], ◌∷◌, ◌++◌, ℕ, zero, suc, ◌+◌, ◌/◌, ◌%◌, ◌≤◌, ltb, length, take, drop}
+use Rattle.std.specs.Prelude.{cond, List, [], ◌∷◌, ◌++◌, ℕ, zero, suc, ◌+◌, ◌/◌, ◌%◌, ltb}
 use Prim.Native.Char.{code}
 use Prim.Native.String as string
 
@@ -32,13 +32,3 @@ hex_from (suc k) n = hex_from k (n / 16) ++ (digit_of (n % 16) ∷ [])
 -- a 64-bit pattern as sixteen hexadecimal digits
 abbrev pub hex_of : ℕ → List ℕ
 hex_of n = hex_from 16 n
-
--- xs with the piece in the place of what stood from `at` on
-unfoldable pub placed : List ℕ → ℕ → List ℕ → List ℕ
-placed xs at piece = take at xs ++ piece ++ drop (at + length piece) xs
-
--- the piece was written from `at` on, within the list; nothing else changed, and `end` is the place after it
-pub record Writes (before : List ℕ) (at : ℕ) (piece : List ℕ) (after : List ℕ) (end : ℕ) : Type 0 where
-  pub text : after ≡ placed before at piece
-  pub past : end ≡ at + length piece
-  pub room : end ≤ length before

@@ -1,33 +1,105 @@
-// Text written into a lent buffer: bytes, words, decimal numbers and hexadecimal patterns, each from a place on.
-// A reader may rely on each contract: the buffer is what it was with the piece placed in it, and the answer is the
-// place after the piece, from which the next one goes on. A caller owes room for the longest piece of the kind.
+// A text that grows at its end, in room of its own: bytes, words, decimal numbers and hexadecimal patterns.
+// A reader may rely on each contract: a clause sees a text as the list of its bytes, and what is pushed stands after
+// what was there. A caller owes room for the longest piece of the kind.
 #![tactic(auto)]
 
-ghost use Rattle.std.specs.Prelude.{◌+◌, ◌≤◌, ◌<◌, ◌≡◌, [], ◌∷◌, length};
-ghost use Rattle.text.specs.Text.{digit_of, decimal_of, hex_from, hex_of, Writes};
+ghost use Rattle.std.specs.Prelude.{◌+◌, ◌≤◌, ◌<◌, ◌≡◌, List, ℕ, [], ◌∷◌, ◌++◌, length, take};
+ghost use Rattle.text.specs.Text.{digit_of, decimal_of, hex_from, hex_of};
 
-// One byte.
-pub fn put_byte(byte: u8, out: &mut [u8], at: usize) -> usize
-    requires { at < length out.old }
-    ensures { Writes out.old at (byte ∷ []) out.new result }
-{
-    out[at] = byte;
-    at + 1
+use std::marker::Model;
+
+// How many bytes a text holds at most.
+pub const ROOM: usize = 32768;
+
+// (Not a Vec: the room is fixed, there is no heap.)
+#[derive(Drop)]
+pub struct Text {
+    bytes: [u8; ROOM],
+    len: usize,
 }
 
-// The bytes of a word.
-pub fn put_word(word: &[u8], out: &mut [u8], at: usize) -> usize
-    requires { at + length word.now ≤ length out.old }
-    ensures { Writes out.old at word.now out.new result }
-{
-    let mut end = at;
-    for i in 0..word.len() {
-        end = put_byte(word[i], out, end);
+impl Model for Text {
+    ghost Value = { List ℕ };
+
+    ghost view = { λ t. take t.len t.bytes };
+
+    ghost invariant = { λ t. t.len ≤ 32768 };
+}
+
+impl Text {
+    // One with nothing in it.
+    pub fn new() -> Text
+        ensures { result ≡ [] }
+    {
+        Text {
+            bytes: [0; ROOM],
+            len: 0,
+        }
     }
-    end
+
+    // Its bytes.
+    pub fn as_slice(&self) -> &[u8]
+        ensures value { result.now ≡ self.now }
+        ensures upper_bound { length self.now ≤ 32768 }
+    {
+        &self.bytes[..self.len]
+    }
+
+    // One byte.
+    pub fn push(&mut self, byte: u8)
+        requires { length self.old < 32768 }
+        ensures { self.new ≡ self.old ++ byte ∷ [] }
+    {
+        self.bytes[self.len] = byte;
+        self.len += 1;
+    }
+
+    // The bytes of a word.
+    pub fn push_word(&mut self, word: &[u8])
+        requires { length self.old + length word.now ≤ 32768 }
+        ensures { self.new ≡ self.old ++ word.now }
+    {
+        for byte in word {
+            self.push(*byte);
+        }
+    }
+
+    // n in decimal: what n / 10 is in decimal, then the last digit.
+    pub fn push_decimal(&mut self, n: u64)
+        requires { length self.old + 20 ≤ 32768 }
+        ensures writes { self.new ≡ self.old ++ decimal_of n }
+        ensures upper_bound { length self.new ≤ length self.old + 20 }
+    {
+        if n < 10 {
+            self.push(digit(n));
+        } else {
+            self.push_decimal(n / 10);
+            self.push(digit(n % 10));
+        }
+    }
+
+    // The last `count` hexadecimal digits of n: those of n / 16, then the last one.
+    fn push_digits(&mut self, n: u64, count: usize)
+        requires { length self.old + count ≤ 32768 }
+        ensures { self.new ≡ self.old ++ hex_from count n }
+    {
+        if count > 0 {
+            self.push_digits(n / 16, count - 1);
+            self.push(digit(n % 16));
+        }
+    }
+
+    // A pattern as sixteen hexadecimal digits.
+    pub fn push_hex(&mut self, pattern: u64)
+        requires { length self.old + 16 ≤ 32768 }
+        ensures writes { self.new ≡ self.old ++ hex_of pattern }
+        ensures value { length self.new ≡ length self.old + 16 }
+    {
+        self.push_digits(pattern, 16);
+    }
 }
 
-// The character of a digit below 16.
+// The character of a digit below 16. (Not `char::from_digit`: its letters are small ones.)
 fn digit(d: u64) -> u8
     requires { d < 16 }
     ensures { result ≡ digit_of d }
@@ -36,38 +108,4 @@ fn digit(d: u64) -> u8
         return 48 + d as u8;
     }
     55 + d as u8
-}
-
-// n in decimal: what n / 10 is in decimal, then the last digit.
-pub fn put_decimal(n: u64, out: &mut [u8], at: usize) -> usize
-    requires { at + 20 ≤ length out.old }
-    ensures writes { Writes out.old at (decimal_of n) out.new result }
-    ensures upper_bound { result ≤ at + 20 }
-{
-    if n < 10 {
-        return put_byte(digit(n), out, at);
-    }
-    let end = put_decimal(n / 10, out, at);
-    put_byte(digit(n % 10), out, end)
-}
-
-// The last `count` hexadecimal digits of n: those of n / 16, then the last one.
-fn put_digits(n: u64, count: usize, out: &mut [u8], at: usize) -> usize
-    requires { at + count ≤ length out.old }
-    ensures { Writes out.old at (hex_from count n) out.new result }
-{
-    if count == 0 {
-        return at;
-    }
-    let end = put_digits(n / 16, count - 1, out, at);
-    put_byte(digit(n % 16), out, end)
-}
-
-// A pattern as sixteen hexadecimal digits.
-pub fn put_hex(pattern: u64, out: &mut [u8], at: usize) -> usize
-    requires { at + 16 ≤ length out.old }
-    ensures writes { Writes out.old at (hex_of pattern) out.new result }
-    ensures value { result ≡ at + 16 }
-{
-    put_digits(pattern, 16, out, at)
 }

@@ -2,17 +2,19 @@
 use Prim.Native.Nat.{ℕ, zero, suc, ◌+◌, ◌-◌, ◌*◌, ◌/◌, ◌%◌, ◌<◌, ◌≤◌}
 use mathlib.Core.Path.{◌≡◌, refl, sym, ◌∙◌, ap}
 use mathlib.Core.Bool.{true, false}
-use mathlib.Core.List.{List}
+use mathlib.Core.List.{List, ◌++◌}
 use native.Mathlib.Omega.{arith}
 use borrow.Author.Tests.{lt-ltb, le-ltb, ltb-true, ltb-false, eqb-true, eqb-false}
 use borrow.Rule.Slice.PartMut.{mid_of}
 use lib.Dec.{ltb, eqb}
-use lib.ListN.{length, get_or}
+use lib.ListN.{length, get_or, take, drop}
 use lib.Ieee.{Float, nan, inf, fin, add}
 use Rattle.model.specs.Scalar.{◌⊕◌, zero_f, is_finite}
 use Rattle.model.specs.Matrix.{Row, column_start, view, vec}
 use Rattle.model.specs.Panel.{sum_from}
 use Rattle.model.proofs.Cases.{test, one_left, none_left}
+use Rattle.model.proofs.Summed.{sum_same}
+use Rattle.std.proofs.lemmas.List.{length-append, length-drop, get_or-drop, get_or-append-add, get_or_append_left, take_all}
 use Rattle.grid.proofs.Parts.{column-at}
 use Rattle.kernels.proofs.Parts.{mid-count}
 use Rattle.total.specs.Finite.{every_second, sixteen, long_sum, sum_of, column_sum}
@@ -56,13 +58,6 @@ sum-term f c zero s k e h = absurd (omega arith)
 sum-term f c (suc n) s zero e h = ap (λ (i : ℕ). is_finite (f i)) (omega arith) ∙ plus-r s (f c) (sum-begin f (c + 1) n (s ⊕ f c) e)
 sum-term f c (suc n) s (suc k) e h = ap (λ (i : ℕ). is_finite (f i)) (omega arith) ∙ sum-term f (c + 1) n (s ⊕ f c) k e (omega arith)
 
-sum_same : (f g : Row) (c n : ℕ) (s : Float) → ((k : ℕ) → k < n → f (c + k) ≡ g (c + k)) → sum_from f c n s ≡ sum_from g c n s
-unfolding sum_from
-sum_same f g c zero s h = refl
-sum_same f g c (suc n) s h =
-    let here : f c ≡ g c = ap f (omega arith) ∙ h 0 (omega arith) ∙ ap g (omega arith) in
-    rw here (sum_same f g (c + 1) n (s ⊕ g c) (λ k l. ap f (omega arith) ∙ h (suc k) (omega arith) ∙ ap g (omega arith)))
-
 pub sum-none : (f : Row) (n : ℕ) (s : Float) → sum_from f 0 (n - 0) s ≡ sum_from f 0 n s
 sum-none f n s = ap (λ (k : ℕ). sum_from f 0 k s) (omega arith)
 
@@ -94,55 +89,79 @@ eight-terms f i e (suc (suc (suc (suc (suc (suc zero)))))) h = plus-l _ _ (plus-
 eight-terms f i e (suc (suc (suc (suc (suc (suc (suc zero))))))) h = plus-r _ _ (plus-r _ _ (plus-r _ _ e))
 eight-terms f i e (suc (suc (suc (suc (suc (suc (suc (suc u)))))))) h = absurd (omega arith)
 
-eight-same : (f g : Row) (n i : ℕ) → ((k : ℕ) → k < n → f k ≡ g k) → i + 14 < n → every_second f i ≡ every_second g i
+-- the same numbers, counted from i and from j
+eight-same : (f g : Row) (i j : ℕ) → ((u : ℕ) → u < 15 → f (i + u) ≡ g (j + u)) → every_second f i ≡ every_second g j
 unfolding every_second
-eight-same f g n i h l =
+eight-same f g i j h =
+    let first : f i ≡ g j = ap f (omega arith) ∙ h 0 (omega arith) ∙ ap g (omega arith) in
     rw (
-      h i (omega arith),
-      h (i + 2) (omega arith),
-      h (i + 4) (omega arith),
-      h (i + 6) (omega arith),
-      h (i + 8) (omega arith),
-      h (i + 10) (omega arith),
-      h (i + 12) (omega arith),
-      h (i + 14) l,
+      first,
+      h 2 (omega arith),
+      h 4 (omega arith),
+      h 6 (omega arith),
+      h 8 (omega arith),
+      h 10 (omega arith),
+      h 12 (omega arith),
+      h 14 (omega arith),
     )
 
 -- ---- sixteen numbers or more: the first sixteen and the sixteens that end with the last number
 
--- a turn and the end of the loop over them: i is the place, counted from where they begin, rest how many numbers they have
-sixteen-turn : (f : Row) (p rest i q : ℕ) (s y S : Float) → q ≡ i + p → i % 16 ≡ 0 → i < rest → rest % 16 ≡ 0 → y ≡ every_second f q
-    → sum_from (sixteen f p) (i / 16) (rest / 16 - i / 16) s ≡ S → sum_from (sixteen f p) ((i + 16) / 16) (rest / 16 - (i + 16) / 16) (s ⊕ y) ≡ S
+sixteen-same : (f g : Row) (p q m : ℕ) (s : Float) → ((u : ℕ) → u + 1 < 16 * m → f (p + u) ≡ g (q + u))
+    → sum_from (sixteen f p) 0 m s ≡ sum_from (sixteen g q) 0 m s
 unfolding sixteen
-sixteen-turn f p rest i q s y S d r h k e w =
-    let next : (i + 16) / 16 ≡ i / 16 + 1 = omega arith in
-    let at : q ≡ 16 * (i / 16) + p = omega arith in
-    rw next (sum-turn (sixteen f p) (rest / 16) (i / 16) s y S (omega arith) (e ∙ rw at) w)
+sixteen-same f g p q m s h =
+    sum_same (sixteen f p) (sixteen g q) m 0 0 s (λ k r.
+    eight-same f g (16 * (0 + k) + p) (16 * (0 + k) + q) (λ u l. ap f (omega arith) ∙ h (16 * k + u) (omega arith) ∙ ap g (omega arith)))
 
-pub even-turn : (f : Row) (from rest i : ℕ) (s y S : Float) → i % 16 ≡ 0 → i < rest → rest % 16 ≡ 0 → y ≡ every_second f (from + i)
-    → sum_from (sixteen f from) (i / 16) (rest / 16 - i / 16) s ≡ S → sum_from (sixteen f from) ((i + 16) / 16) (rest / 16 - (i + 16) / 16) (s ⊕ y) ≡ S
-even-turn f from rest i s y S r h k e w = sixteen-turn f from rest i (from + i) s y S (omega arith) r h k e w
+-- a turn of the loop over them: c are the sixteen that come, ys those that are left, and p is 0 for the numbers at even places, 1 for the others
+pub sixteen-turn : (xs c ys : List Float) (p : ℕ) (s y S : Float) → xs ≡ c ++ ys → length c ≡ 16 → p < 2 → y ≡ every_second (vec c) p
+    → sum_from (sixteen (vec xs) p) 0 (length xs / 16) s ≡ S → sum_from (sixteen (vec ys) p) 0 (length ys / 16) (s ⊕ y) ≡ S
+unfolding sum_from sixteen vec
+sixteen-turn xs c ys p s y S e l r h w =
+    let count : length xs ≡ length c + length ys = ap length e ∙ length-append c ys in
+    let turns : length xs / 16 ≡ suc (length ys / 16) = omega (arith, count) in
+    let here : sixteen (vec xs) p 0 ≡ y =
+    eight-same (vec xs) (vec c) (16 * 0 + p) p (λ u g.
+    ap (λ (z : List Float). get_or z (16 * 0 + p + u) nan) e ∙ get_or_append_left c ys nan (16 * 0 + p + u) (omega arith)
+    ∙ ap (λ (i : ℕ). get_or c i nan) (omega arith))
+    ∙ sym h in
+    let later : sum_from (sixteen (vec ys) p) 0 (length ys / 16) (s ⊕ y) ≡ sum_from (sixteen (vec xs) p) 1 (length ys / 16) (s ⊕ y) =
+    sum_same (sixteen (vec ys) p) (sixteen (vec xs) p) (length ys / 16) 0 1 (s ⊕ y) (λ k g.
+    eight-same (vec ys) (vec xs) (16 * (0 + k) + p) (16 * (1 + k) + p) (λ u q.
+    sym (ap (λ (z : List Float). get_or z (16 * (1 + k) + p + u) nan) e
+    ∙ ap (λ (i : ℕ). get_or (c ++ ys) i nan) (omega (arith, l)) ∙ get_or-append-add c ys (16 * (0 + k) + p + u) nan))) in
+    let whole : sum_from (sixteen (vec xs) p) 1 (length ys / 16) (s ⊕ sixteen (vec xs) p 0) ≡ S = rw turns at w in
+    later ∙ ap (λ (x : Float). sum_from (sixteen (vec xs) p) 1 (length ys / 16) (s ⊕ x)) (sym here) ∙ whole
 
-pub odd-turn : (f : Row) (from rest i : ℕ) (s y S : Float) → i % 16 ≡ 0 → i < rest → rest % 16 ≡ 0 → y ≡ every_second f (from + i + 1)
-    → sum_from (sixteen f (from + 1)) (i / 16) (rest / 16 - i / 16) s ≡ S
-    → sum_from (sixteen f (from + 1)) ((i + 16) / 16) (rest / 16 - (i + 16) / 16) (s ⊕ y) ≡ S
-odd-turn f from rest i s y S r h k e w = sixteen-turn f (from + 1) rest i (from + i + 1) s y S (omega arith) r h k e w
+-- its end: what is left is no sixteen
+pub sixteen_end : (xs : List Float) (p : ℕ) (s S : Float) → length xs < 16 → sum_from (sixteen (vec xs) p) 0 (length xs / 16) s ≡ S → s ≡ S
+unfolding sum_from
+sixteen_end xs p s S h w = let none : length xs / 16 ≡ 0 = omega arith in rw none at w
 
-pub long-end : (f : Row) (n i : ℕ) (s t a b : Float) → (n - 1) / 16 * 16 ≤ i → a ≡ every_second f 0 → b ≡ every_second f 1
-    → sum_from (sixteen f (n - (n - 1) / 16 * 16)) (i / 16) ((n - 1) / 16 * 16 / 16 - i / 16) s
-    ≡ sum_from (sixteen f (n - (n - 1) / 16 * 16)) 0 ((n - 1) / 16 * 16 / 16) a
-    → sum_from (sixteen f (n - (n - 1) / 16 * 16 + 1)) (i / 16) ((n - 1) / 16 * 16 / 16 - i / 16) t
-    ≡ sum_from (sixteen f (n - (n - 1) / 16 * 16 + 1)) 0 ((n - 1) / 16 * 16 / 16) b
-    → s ⊕ t ≡ long_sum f n
+-- the numbers that it goes over are those from `from` on
+tail-sixteens : (xs : List Float) (from p m : ℕ) (s : Float) → sum_from (sixteen (vec (drop from xs)) p) 0 m s ≡ sum_from (sixteen (vec xs) (from + p)) 0 m s
+unfolding vec
+tail-sixteens xs from p m s =
+    sixteen-same (vec (drop from xs)) (vec xs) p (from + p) m s (λ u h. get_or-drop from xs (p + u) nan ∙ ap (λ (i : ℕ). get_or xs i nan) (omega arith))
+
+-- ys are the numbers that it goes over
+pub long-end : (xs ys : List Float) (s t a b : Float) → 16 ≤ length xs → a ≡ every_second (vec xs) 0 → b ≡ every_second (vec xs) 1
+    → ys ≡ take (length xs - (length xs - (length xs - 1) / 16 * 16)) (drop (length xs - (length xs - 1) / 16 * 16) xs)
+    → s ≡ sum_from (sixteen (vec ys) 0) 0 (length ys / 16) a → t ≡ sum_from (sixteen (vec ys) 1) 0 (length ys / 16) b → s ⊕ t ≡ long_sum (vec xs) (length xs)
 unfolding long_sum
-long-end f n i s t a b h ea eb es et =
-    let m : ℕ = (n - 1) / 16 in
-    let from : ℕ = n - m * 16 in
-    let count : m * 16 / 16 ≡ m = omega arith in
-    let all : m * 16 / 16 ≤ i / 16 = omega arith in
-    let even : s ≡ sum_from (sixteen f from) 0 (m * 16 / 16) a = sum-end (sixteen f from) (m * 16 / 16) (i / 16) s _ all es in
-    let odd : t ≡ sum_from (sixteen f (from + 1)) 0 (m * 16 / 16) b = sum-end (sixteen f (from + 1)) (m * 16 / 16) (i / 16) t _ all et in
-    rw (even, odd, count, ea, eb)
+long-end xs ys s t a b h ea eb over es et =
+    let m : ℕ = (length xs - 1) / 16 in
+    let from : ℕ = length xs - m * 16 in
+    let all : ys ≡ drop from xs = over ∙ take_all (length xs - from) (drop from xs) (omega (arith, length-drop from xs)) in
+    let count : length ys / 16 ≡ m = omega (arith, ap length all, length-drop from xs) in
+    let sums : (p : ℕ) (x : Float) → sum_from (sixteen (vec ys) p) 0 (length ys / 16) x ≡ sum_from (sixteen (vec xs) (from + p)) 0 m x =
+    λ p x. rw count (ap (λ (z : List Float). sum_from (sixteen (vec z) p) 0 m x) all ∙ tail-sixteens xs from p m x) in
+    let even : s ≡ sum_from (sixteen (vec xs) from) 0 m (every_second (vec xs) 0) =
+    es ∙ sums 0 a ∙ ap (λ (i : ℕ). sum_from (sixteen (vec xs) i) 0 m a) (omega arith) ∙ ap (λ (x : Float). sum_from (sixteen (vec xs) from) 0 m x) ea in
+    let odd : t ≡ sum_from (sixteen (vec xs) (from + 1)) 0 m (every_second (vec xs) 1) =
+    et ∙ sums 1 b ∙ ap (λ (x : Float). sum_from (sixteen (vec xs) (from + 1)) 0 m x) eb in
+    rw (even, odd)
 
 -- a term from place p on
 sixteen-term : (f : Row) (p m : ℕ) (s : Float) (k : ℕ) → is_finite (sum_from (sixteen f p) 0 m s) ≡ true → k < 8 * m → is_finite (f (2 * k + p)) ≡ true
@@ -173,21 +192,16 @@ long-term f n k e h l =
     (λ b. let par : (k - from) % 2 ≡ 0 → ⊥ = eqb-false ((k - from) % 2) 0 b in
     ap (λ (i : ℕ). is_finite (f i)) (omega arith) ∙ sixteen-term f (from + 1) m _ ((k - from) / 2) odd (omega arith)))
 
-sixteen-same : (f g : Row) (n p m : ℕ) (s : Float) → ((k : ℕ) → k < n → f k ≡ g k) → 16 * m + p ≤ n + 1
-    → sum_from (sixteen f p) 0 m s ≡ sum_from (sixteen g p) 0 m s
-unfolding sixteen
-sixteen-same f g n p m s h l = sum_same (sixteen f p) (sixteen g p) 0 m s (λ k r. eight-same f g n (16 * (0 + k) + p) h (omega arith))
-
 long_same : (f g : Row) (n : ℕ) → ((k : ℕ) → k < n → f k ≡ g k) → 16 ≤ n → long_sum f n ≡ long_sum g n
 unfolding long_sum
 long_same f g n h l =
     let m : ℕ = (n - 1) / 16 in
     let from : ℕ = n - m * 16 in
     rw (
-      eight-same f g n 0 h (omega arith),
-      eight-same f g n 1 h (omega arith),
-      sixteen-same f g n from m _ h (omega arith),
-      sixteen-same f g n (from + 1) m _ h (omega arith),
+      eight-same f g 0 0 (λ u r. h (0 + u) (omega arith)),
+      eight-same f g 1 1 (λ u r. h (1 + u) (omega arith)),
+      sixteen-same f g from from m _ (λ u r. h (from + u) (omega arith)),
+      sixteen-same f g (from + 1) (from + 1) m _ (λ u r. h (from + 1 + u) (omega arith)),
     )
 
 -- ---- any sum of a column
@@ -211,7 +225,7 @@ of-same : (f g : Row) (n : ℕ) → ((k : ℕ) → k < n → f k ≡ g k) → su
 unfolding sum_of
 of-same f g n h =
     test (ltb n 16)
-    (λ t. rw t (sum_same f g 0 n zero_f (λ k l. ap f (omega arith) ∙ h k l ∙ ap g (omega arith))))
+    (λ t. rw t (sum_same f g n 0 0 zero_f (λ k l. ap f (omega arith) ∙ h k l ∙ ap g (omega arith))))
     (λ t. rw t (long_same f g n h (ltb-false n 16 t)))
 
 -- what is lent is the column from its diagonal down

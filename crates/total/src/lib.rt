@@ -1,7 +1,7 @@
 // One pass over the lower positions of a panel, that adds them all up: where their sum is finite, each of them is.
-// A reader may rely on the contract of `known_finite`, and on `sum-known` of proofs/Finite.antt, which says what its
-// answer tells; the order of the additions is for speed alone. No upper position (row < column) is read: tests/upper.c
-// sees to it, since no contract can say what is not read.
+// A reader may rely on the contract of `known_finite` and on what a `Summed` holds: its `finite` is true only where
+// each lower position is finite. The order of the additions is for speed alone. No upper position (row < column) is
+// read: tests/upper.c sees to it, since no contract can say what is not read.
 #![tactic(auto)]
 
 ghost use Rattle.std.specs.Prelude.{◌≡◌, ◌+◌, ◌<◌, ◌≤◌, length};
@@ -9,7 +9,19 @@ ghost use Rattle.model.specs.Scalar.{zero_f};
 ghost use Rattle.model.specs.Matrix.{view, vec};
 ghost use Rattle.model.specs.Panel.{sum_from};
 ghost use Rattle.grid.specs.Grid.{DownPre};
-ghost use Rattle.total.specs.Finite.{every_second, long_sum, sum_of, column_sum, sum_finite, PanelPre};
+ghost use Rattle.total.specs.Finite.{every_second, long_sum, sum_of, column_sum, sum_finite, PanelPre, KnownFinite};
+
+// A panel of ncol columns whose lower positions were added up. Where `finite` is true they are finite, the tail among
+// them; where it is false nothing is said of them.
+#[derive(Clone, Copy)]
+pub struct Summed<'a> {
+    pub panel: &'a [f64],
+    pub ncol: usize,
+    pub nrow: usize,
+    pub finite: bool,
+    pub ghost shape: { PanelPre nrow ncol (length panel.now) },
+    pub ghost known: { KnownFinite finite (view nrow panel.now) nrow ncol },
+}
 
 // The sum of eight numbers, every second one from i on, added among themselves so that no addition waits for all
 // others.
@@ -32,11 +44,9 @@ fn long_sum(xs: &[f64]) -> f64
     let from = xs.len() - rest;
     let mut s = every_second(xs, 0);
     let mut t = every_second(xs, 1);
-    let mut i = 0;
-    while i < rest {
-        s = s + every_second(xs, from + i);
-        t = t + every_second(xs, from + i + 1);
-        i += 16;
+    for sixteen in xs[from..].chunks_exact(16) {
+        s = s + every_second(sixteen, 0);
+        t = t + every_second(sixteen, 1);
     }
     s + t
 }
@@ -46,8 +56,8 @@ fn short_sum(xs: &[f64]) -> f64
     ensures { result ≡ sum_from (vec xs.now) 0 (length xs.now) zero_f }
 {
     let mut s = 0.0;
-    for i in 0..xs.len() {
-        s = s + xs[i];
+    for x in xs {
+        s = s + *x;
     }
     s
 }
@@ -93,4 +103,22 @@ pub fn known_finite(panel: &[f64], ncol: usize, nrow: usize) -> bool
     ensures { result ≡ sum_finite (view nrow panel.now) nrow ncol }
 {
     scalar::is_finite(lower_sum(panel, ncol, nrow))
+}
+
+impl<'a> Summed<'a> {
+    // The panel with what one pass over it tells.
+    pub fn new(panel: &'a [f64], ncol: usize, nrow: usize) -> Summed<'a>
+        requires { PanelPre nrow ncol (length panel.now) }
+        ensures same { result.panel.now ≡ panel.now }
+        ensures sizes { (result.ncol ≡ ncol) × (result.nrow ≡ nrow) }
+        ensures finite { result.finite ≡ sum_finite (view nrow panel.now) nrow ncol }
+    {
+        let finite = known_finite(panel, ncol, nrow);
+        Summed {
+            panel,
+            ncol,
+            nrow,
+            finite,
+        }
+    }
 }

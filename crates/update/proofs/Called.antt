@@ -9,24 +9,21 @@ use borrow.Author.Tests.{lt-ltb, le-leb, lt-leb, eqb-true, ltb-true, ltb-false, 
 use lib.Dec.{leb, ltb}
 use lib.ListN.{length}
 use lib.Ieee.{Float}
+use Rattle.std.specs.Prelude.{Ok, Err}
 use Rattle.model.specs.Sizes.{most_rows}
 use Rattle.model.specs.Matrix.{Mat, view, naturals, column_major}
 use Rattle.model.specs.Inertia.{check_bytes}
 use Rattle.model.specs.Assembly.{first_not, Panelled}
 use Rattle.model.specs.Update.{Target, Descendant, update_sound, rising, begins_at, place_from, absent_from}
 use Rattle.model.specs.Update.{descendant_sound, number_at, update_check, updated, update_of}
-use Rattle.model.specs.Answer.{or_else, refuse_if}
+use Rattle.model.specs.Answer.{Check, or_else, refuse_if}
 use Rattle.model.specs.declared.Refusal.{Refusal}
 use Rattle.model.specs.declared.Refusal.TheVariants.{UpdateLength, TargetRows, DescendantRows, AbsentRow}
-use Rattle.model.specs.declared.Check.{Check}
-use Rattle.model.specs.declared.Check.TheVariants.{Sound, Refused}
-use Rattle.model.specs.declared.Applied.{Applied}
-use Rattle.model.specs.declared.Applied.TheVariants.{Done}
 use Rattle.model.proofs.Cases.{test, cmp, and_left, and_right}
 use Rattle.model.proofs.Entry.{first-sound, second-sound, not-refused}
 use Rattle.model.proofs.Tabulated.{is-column_major}
 use Rattle.model.proofs.Every.{every-at}
-use Rattle.checks.specs.Answers.{answer_of, leaves}
+use Rattle.checks.specs.Answers.{leaves}
 use Rattle.checks.proofs.Answers.{first-refuses, second-decides, leaves-done, leaves-refused}
 use Rattle.landing.specs.Nodes.{NumbersPre}
 use Rattle.landing.specs.Rows.{rises_at, stands_at, lands_on, lands_at, first_from, there_at, LocatePre, Located}
@@ -84,7 +81,7 @@ module _ (t : Target) (k : Descendant) (len : ℕ) (w : ListsPre t k len) where
 
   -- ---- what its functions ask
 
-  pub numbers-pre : NumbersPre k.nk k.mk (length k.panel) (length k.d) (length k.sub) (length k.blocks)
+  pub numbers-pre : NumbersPre k
   numbers-pre = record {
     narrow = w.sizes.few;
     few = w.sizes.all;
@@ -152,8 +149,7 @@ module _ (t : Target) (k : Descendant) (len : ℕ) (w : ListsPre t k len) where
         is-column_major t.nrow t.ncol (updated t k (view t.nrow panel)) new (l ∙ m ∙ w.sizes.area)
         (λ i j h x. ap (λ (a : Mat). a i j) v ∙ entry-is (view t.nrow panel) i j h x)
 
-    pub apply-pre : length places ≡ most_rows
-        → ApplyPre t.ncol t.nrow k.nk k.mk k.blocks places start len (length k.panel) (length k.d) (length k.sub)
+    pub apply-pre : length places ≡ most_rows → ApplyPre t k places start len
     apply-pre r = record {
       few = w.sizes.columns;
       area = w.sizes.area;
@@ -169,7 +165,7 @@ module _ (t : Target) (k : Descendant) (panel : List Float) (w : ListsPre t k (l
     (e : start ≡ first_from (lands_at t.first t.ncol (naturals k.rows)) (length k.rows) 0) (f : Check)
     (x : f ≡ first_not (there_at t.rows (naturals k.rows)) AbsentRow (length k.rows - start) start) where
   absent : Check
-  absent = cond (leb 1 k.nk) (absent_from t (naturals k.rows) k.mk 0 (not true)) Sound
+  absent = cond (leb 1 k.nk) (absent_from t (naturals k.rows) k.mk 0 (not true)) (Ok tt)
 
   absent-says : f ≡ absent
   unfolding absent
@@ -177,33 +173,33 @@ module _ (t : Target) (k : Descendant) (panel : List Float) (w : ListsPre t k (l
       let n : length k.rows ≡ k.mk = w.sizes.descendant in
       x ∙ sym (rw (le-leb 1 k.nk w.some) (absent-is t (naturals k.rows) w.sizes.target k.mk start (rw n at e) ∙ rw n))
 
-  pub columns-absent : (r : Refusal) (a : Applied) → f ≡ Refused r → a ≡ answer_of f
+  pub columns-absent : (r : Refusal) (a : Check) → f ≡ Err r → a ≡ f
       → leaves a panel ≡ columns_of t k panel
   unfolding columns_of columns_check absent
   columns-absent r a h y = leaves-refused f r (columns_check t k) a (updated_panel t k panel) panel h (first-refuses f r absent _ h absent-says) y
 
-  module _ (g : Check) (h : f ≡ Sound) (z : g ≡ first_not (descendant_sound k) number_at k.nk 0) where
+  module _ (g : Check) (h : f ≡ Ok tt) (z : g ≡ first_not (descendant_sound k) number_at k.nk 0) where
     columns-says : g ≡ columns_check t k
     unfolding columns_check absent
     columns-says = second-decides f g absent _ h absent-says z
 
-    pub columns-number : (r : Refusal) (a : Applied) → g ≡ Refused r → a ≡ answer_of g
+    pub columns-number : (r : Refusal) (a : Check) → g ≡ Err r → a ≡ g
         → leaves a panel ≡ columns_of t k panel
     unfolding columns_of
     columns-number r a i y = leaves-refused g r (columns_check t k) a (updated_panel t k panel) panel i columns-says y
 
-    pub columns-done : (new : List Float) → g ≡ Sound → new ≡ updated_panel t k panel
-        → leaves Done new ≡ columns_of t k panel
+    pub columns-done : (new : List Float) → g ≡ Ok tt → new ≡ updated_panel t k panel
+        → leaves (Ok tt) new ≡ columns_of t k panel
     unfolding columns_of
-    columns-done new i y = ap (leaves Done) y ∙ leaves-done g (columns_check t k) (updated_panel t k panel) panel i columns-says
+    columns-done new i y = ap (leaves (Ok tt)) y ∙ leaves-done g (columns_check t k) (updated_panel t k panel) panel i columns-says
 
 -- ---- the call: f is what refusals 13 to 16 answer
 
 four : (a b c d e : Check) → or_else a (or_else b (or_else c (or_else d e))) ≡ or_else (or_else a (or_else b (or_else c d))) e
-four (Refused r) b c d e = refl
-four Sound (Refused r) c d e = refl
-four Sound Sound (Refused r) d e = refl
-four Sound Sound Sound d e = refl
+four (Err r) b c d e = refl
+four (Ok u) (Err r) c d e = refl
+four (Ok u) (Ok v) (Err r) d e = refl
+four (Ok u) (Ok v) (Ok w) d e = refl
 
 check-is : (t : Target) (k : Descendant) (panel : List Float) → update_check t k panel ≡ or_else (lists_check t k panel) (columns_check t k)
 unfolding update_check lists_check columns_check
@@ -213,7 +209,7 @@ check-is t k panel =
     (refuse_if (not (rising (naturals k.rows) k.mk)) DescendantRows) (check_bytes k.blocks) (columns_check t k)
 
 -- a descendant with no columns meets neither 17 nor 18, and changes nothing
-none-check : (t : Target) (k : Descendant) → k.nk ≡ 0 → columns_check t k ≡ Sound
+none-check : (t : Target) (k : Descendant) → k.nk ≡ 0 → columns_check t k ≡ Ok tt
 unfolding columns_check first_not
 none-check t k z = rw z
 
@@ -222,14 +218,14 @@ unfolding updated
 none-changed t k a i j z = rw (lt-leb 1 k.nk (omega arith))
 
 module _ (t : Target) (k : Descendant) (panel : List Float) (f : Check) (x : f ≡ lists_check t k panel) where
-  pub update-refuses : (r : Refusal) (a : Applied) → f ≡ Refused r → a ≡ answer_of f
+  pub update-refuses : (r : Refusal) (a : Check) → f ≡ Err r → a ≡ f
       → leaves a panel ≡ update_of t k panel
   unfolding update_of
   update-refuses r a h y =
       leaves-refused f r (update_check t k panel) a _ panel h (first-refuses f r (lists_check t k panel) (columns_check t k) h x ∙ sym (check-is t k panel)) y
 
-  module _ (h : f ≡ Sound) where
-    passes : lists_check t k panel ≡ Sound
+  module _ (h : f ≡ Ok tt) where
+    passes : lists_check t k panel ≡ Ok tt
     passes = sym x ∙ h
 
     check-columns : update_check t k panel ≡ columns_check t k
@@ -238,13 +234,13 @@ module _ (t : Target) (k : Descendant) (panel : List Float) (f : Check) (x : f �
     lists-sizes : Sizes t k (length panel)
     unfolding lists_check
     lists-sizes =
-        let pass : lists_check t k panel ≡ Sound = passes in
+        let pass : lists_check t k panel ≡ Ok tt = passes in
         sizes t k panel (not-refused (update_sound t k panel) UpdateLength (search (first-sound, second-sound)))
 
     pub lists-pre : (k.nk ≡ 0 → ⊥) → ListsPre t k (length panel)
     unfolding lists_check rises_at stands_at
     lists-pre n =
-        let pass : lists_check t k panel ≡ Sound = passes in
+        let pass : lists_check t k panel ≡ Ok tt = passes in
         let s : Sizes t k (length panel) = lists-sizes in
         let rises = rising (naturals t.rows) t.nrow in
         let begins = begins_at t.first (naturals t.rows) t.ncol in
@@ -258,13 +254,13 @@ module _ (t : Target) (k : Descendant) (panel : List Float) (f : Check) (x : f �
           check = search (first-sound, second-sound);
         }
 
-    pub update-none : k.nk ≡ 0 → leaves Done panel ≡ update_of t k panel
+    pub update-none : k.nk ≡ 0 → leaves (Ok tt) panel ≡ update_of t k panel
     unfolding update_of
     update-none z =
         let same : panel ≡ column_major t.nrow t.ncol (updated t k (view t.nrow panel))
         = is-column_major t.nrow t.ncol (updated t k (view t.nrow panel)) panel lists-sizes.area
         (λ i j _ _. none-changed t k (view t.nrow panel) i j z) in
-        ap (leaves Done) same ∙ sym (rw (check-columns ∙ none-check t k z))
+        ap (leaves (Ok tt)) same ∙ sym (rw (check-columns ∙ none-check t k z))
 
     pub update-columns : (a : Panelled) → a ≡ columns_of t k panel → a ≡ update_of t k panel
     unfolding update_of columns_of updated_panel

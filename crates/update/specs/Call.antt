@@ -1,21 +1,19 @@
 -- Refusals 17 and 18 as one check, what they and the update leave, and what the call's steps ask of their callers. From docs/SCOPE.md, "Update".
 -- Definitions only. Assumes nothing.
-use Rattle.std.specs.Prelude.{◌≡◌, true, cond, not, List, ℕ, ◌≤◌, leb, length, Float}
+use Rattle.std.specs.Prelude.{◌≡◌, true, cond, not, List, ℕ, ◌≤◌, leb, length, Float, Ok}
 use Rattle.model.specs.Matrix.{view, naturals, column_major}
 use Rattle.model.specs.Factor.{every_from}
 use Rattle.model.specs.Inertia.{check_bytes}
 use Rattle.model.specs.Assembly.{first_not, Panelled, panel_after}
 use Rattle.model.specs.Update.{Target, Descendant, absent_from, descendant_sound, number_at, updated}
-use Rattle.model.specs.Answer.{or_else}
-use Rattle.model.specs.declared.Check.{Check}
-use Rattle.model.specs.declared.Check.TheVariants.{Sound}
+use Rattle.model.specs.Answer.{Check, or_else}
 use Rattle.landing.specs.Rows.{rises_at, stands_at}
 use Rattle.update_checks.specs.Lists.{Sizes}
 
 -- refusals 17 and 18
 unfoldable pub columns_check : Target → Descendant → Check
 columns_check t k =
-    or_else (cond (leb 1 k.nk) (absent_from t (naturals k.rows) k.mk 0 (not true)) Sound) (first_not (descendant_sound k) number_at k.nk 0)
+    or_else (cond (leb 1 k.nk) (absent_from t (naturals k.rows) k.mk 0 (not true)) (Ok tt)) (first_not (descendant_sound k) number_at k.nk 0)
 
 -- the target's panel with the update
 unfoldable pub updated_panel : Target → Descendant → List Float → List Float
@@ -34,4 +32,4 @@ pub record ListsPre (t : Target) (k : Descendant) (panel : ℕ) : Type 0 where
   pub target : every_from (rises_at (naturals t.rows) (length t.rows)) (length t.rows) 0 ≡ true
   pub columns : every_from (stands_at t.first (naturals t.rows)) t.ncol 0 ≡ true
   pub descendant : every_from (rises_at (naturals k.rows) (length k.rows)) (length k.rows) 0 ≡ true
-  pub check : check_bytes k.blocks ≡ Sound
+  pub check : check_bytes k.blocks ≡ Ok tt

@@ -10,6 +10,7 @@ use lib.ListN.{length}
 use lib.Ieee.{Float}
 use mir.Syntax.{w64}
 use mir.Val.{Fits}
+use Rattle.std.specs.Prelude.{Err}
 use Rattle.model.specs.Sizes.{most_columns, most_rows}
 use Rattle.model.specs.Scalar.{is_finite}
 use Rattle.model.specs.Matrix.{view, vec, naturals}
@@ -18,8 +19,7 @@ use Rattle.model.specs.Factor.{shape_sound, every_from}
 use Rattle.model.specs.Inertia.{check_bytes}
 use Rattle.model.specs.Update.{Target, Descendant, update_sound, rising, begins_at, descendant_sound}
 use Rattle.model.specs.declared.Refusal.TheVariants.{UpdateLength, TargetRows, DescendantRows}
-use Rattle.model.specs.declared.Check.{Check}
-use Rattle.model.specs.declared.Check.TheVariants.{Refused}
+use Rattle.model.specs.Answer.{Check}
 use Rattle.model.proofs.Cases.{test, and_left, and_right}
 use Rattle.grid.specs.Grid.{DownPre}
 use Rattle.total.specs.Finite.{column_finite}
@@ -92,7 +92,7 @@ sizes t k panel h =
 -- ---- refusals 13 to 16 in turn: b, c and d are the answers of the tests of 13, 14 and 15
 
 module _ (t : Target) (k : Descendant) (panel : List Float) (b : Bool) (h : b ≡ update_sound t k panel) where
-  pub lists-lengths : b ≡ false → Refused UpdateLength ≡ lists_check t k panel
+  pub lists-lengths : b ≡ false → Err UpdateLength ≡ lists_check t k panel
   unfolding lists_check
   lists-lengths x = rw (← h, x)
 
@@ -109,7 +109,7 @@ module _ (t : Target) (k : Descendant) (panel : List Float) (b : Bool) (h : b �
       unfolding rises_at stands_at
       target-test = rw passed.target at i
 
-      pub lists-target : c ≡ false → Refused TargetRows ≡ lists_check t k panel
+      pub lists-target : c ≡ false → Err TargetRows ≡ lists_check t k panel
       unfolding lists_check
       lists-target y = rw (← h, x, ← target-test, y)
 
@@ -118,7 +118,7 @@ module _ (t : Target) (k : Descendant) (panel : List Float) (b : Bool) (h : b �
         unfolding rises_at
         descendant-test = rw passed.descendant at j
 
-        pub lists-descendant : d ≡ false → Refused DescendantRows ≡ lists_check t k panel
+        pub lists-descendant : d ≡ false → Err DescendantRows ≡ lists_check t k panel
         unfolding lists_check
         lists-descendant z = rw (← h, x, ← target-test, y, ← descendant-test, z)
 
@@ -156,6 +156,6 @@ module _ (k : Descendant) (c : ℕ) (b : Bool) (h : b ≡ is_finite (vec k.d c))
         let m : k.nk + k.mk - k.nk ≡ k.mk = omega arith in
         rw (← h, x, ← g, over (begins (naturals k.blocks) c) e y) (rw m at i)
 
-pub column-down : (nk mk c panel d sub blocks : ℕ) → ColumnPre nk mk c panel d sub blocks → DownPre (nk + mk) c nk (nk + mk) panel
-column-down nk mk c panel d sub blocks w =
-    record { up = omega arith; rows = omega arith; there = col-in (nk + mk) nk c panel w.numbers.area w.here }
+pub column-down : (k : Descendant) (c : ℕ) → ColumnPre k c → DownPre (k.nk + k.mk) c k.nk (k.nk + k.mk) (length k.panel)
+column-down k c w =
+    record { up = omega arith; rows = omega arith; there = col-in (k.nk + k.mk) k.nk c (length k.panel) w.numbers.area w.here }

@@ -4,9 +4,8 @@ use Rattle.model.specs.Sizes.{most_columns, most_rows}
 use Rattle.model.specs.Matrix.{naturals}
 use Rattle.model.specs.Inertia.{check_bytes}
 use Rattle.model.specs.Update.{Target, Descendant, update_sound, rising, begins_at}
-use Rattle.model.specs.Answer.{or_else, refuse_if}
+use Rattle.model.specs.Answer.{Check, or_else, refuse_if}
 use Rattle.model.specs.declared.Refusal.TheVariants.{UpdateLength, TargetRows, DescendantRows}
-use Rattle.model.specs.declared.Check.{Check}
 use Rattle.landing.specs.Nodes.{NumbersPre}
 
 -- refusals 13 to 16
@@ -34,6 +33,6 @@ pub record Sizes (t : Target) (k : Descendant) (panel : ℕ) : Type 0 where
   pub descendant : length k.rows ≡ k.mk
 
 -- column c of a descendant whose lists have their lengths
-pub record ColumnPre (nk mk c panel d sub blocks : ℕ) : Type 0 where
-  pub here : c < nk
-  pub numbers : NumbersPre nk mk panel d sub blocks
+pub record ColumnPre (k : Descendant) (c : ℕ) : Type 0 where
+  pub here : c < k.nk
+  pub numbers : NumbersPre k

@@ -7,12 +7,12 @@ use native.Mathlib.Omega.{arith}
 use borrow.Author.Tests.{leb-true, ltb-true, not-true, not-false}
 use lib.Dec.{leb, ltb}
 use Rattle.model.specs.Matrix.{Row, Mat, naturals, with_part}
-use Rattle.model.specs.Update.{Descendant, update_acc}
+use Rattle.model.specs.Update.{Target, Descendant, update_acc}
 use Rattle.model.proofs.Cases.{and_left, and_right}
 use Rattle.kernels.specs.Rules.{behind}
 use Rattle.grid.proofs.Laws.{in-panel}
 use Rattle.landing.specs.Rows.{lands_on}
-use Rattle.update_sums.specs.Acc.{weighed, acc_of, from_row, SumPre}
+use Rattle.update_sums.specs.Acc.{weighed, acc_of, sums_of, from_row, SumPre}
 use Rattle.update_sums.proofs.Numbers.{part_at}
 use Rattle.update_rows.specs.Apply.{landing_acc, less_at, less_from, row_applied, rows_applied, SubtractPre, ApplyPre, PartPre}
 use Rattle.update_rows.proofs.Less.{less-end}
@@ -57,7 +57,7 @@ part-done places j nk lo hi a z acc sum A e g =
 
 -- its acc as `sum` has it
 abbrev row_acc : Descendant → ℕ → Row
-row_acc k c = from_row (acc_of (k.nk + k.mk) k.nk k.panel k.d k.sub k.blocks (k.nk + c)) k.nk
+row_acc k c = from_row (sums_of k k.nk (k.nk + c)) k.nk
 
 module _ (first ncol : ℕ) (k : Descendant) (places : ℕ → ℕ) (c : ℕ) (b : Bool) (h : b ≡ lands_on first ncol (naturals k.rows c)) where
   pub row-none : (a : Mat) → not b ≡ true → a ≡ row_applied first ncol k places c a
@@ -65,10 +65,10 @@ module _ (first ncol : ℕ) (k : Descendant) (places : ℕ → ℕ) (c : ℕ) (b
   row-none a x = rw (← h, not-true b x)
 
   -- all parts are done
-  pub row_done : (a z : Mat) (j lo : ℕ) → not b ≡ false → j ≡ naturals k.rows c - first → k.mk ≤ lo
+  pub row_done : (a z : Mat) (j lo : ℕ) → b ≡ true → j ≡ naturals k.rows c - first → k.mk ≤ lo
       → less_from places (row_acc k c) j (k.mk - lo) lo z ≡ less_from places (row_acc k c) j (k.mk - c) c a → z ≡ row_applied first ncol k places c a
   unfolding row_applied from_row landing_acc acc_of weighed
-  row_done a z j lo x i l e = rw (← h, not-false b x, ← i) (less-end places (λ r. update_acc k r c) j k.mk lo z _ l e)
+  row_done a z j lo x i l e = rw (← h, x, ← i) (less-end places (λ r. update_acc k r c) j k.mk lo z _ l e)
 
 -- where it lands: at or past the first column, and before the end
 module _ (first ncol g : ℕ) (b : Bool) (h : b ≡ lands_on first ncol g) (x : not b ≡ false) where
@@ -85,9 +85,8 @@ module _ (first ncol g : ℕ) (b : Bool) (h : b ≡ lands_on first ncol g) (x : 
 
 -- ---- what a part's steps ask
 
-module _ (ncol nrow nk mk : ℕ) (bs places : List ℕ) (c panel kpanel d sub j lo hi room : ℕ) (w : ApplyPre ncol nrow nk mk bs places c panel kpanel d sub)
-    (u : PartPre ncol mk c j lo hi room) where
-  pub part-sum : SumPre nk (nk + mk) (nk + c) (nk + lo) (nk + hi) bs room kpanel d sub
+module _ (t : Target) (k : Descendant) (places : List ℕ) (c panel j lo hi room : ℕ) (w : ApplyPre t k places c panel) (u : PartPre t.ncol k.mk c j lo hi room) where
+  pub part-sum : SumPre k (k.nk + c) (k.nk + lo) (k.nk + hi) room
   part-sum = record {
     row = omega (arith, u.here);
     up = omega (arith, u.up);
@@ -100,19 +99,19 @@ module _ (ncol nrow nk mk : ℕ) (bs places : List ℕ) (c panel kpanel d sub j 
     check = w.check;
   }
 
-  pub part-subtract : (sums : ℕ) → sums ≡ room → SubtractPre nrow j places lo hi panel sums
+  pub part-subtract : (sums : ℕ) → sums ≡ room → SubtractPre t.nrow j places lo hi panel sums
   part-subtract sums e = record {
     up = u.up;
     there = omega (arith, u.there, w.room);
     sums = omega (arith, u.fits);
-    inside = λ r a b. in-panel nrow ncol (naturals places r) j panel w.area (w.inside r (omega (arith, u.past)) (omega (arith, u.there))) u.lands;
+    inside = λ r a b. in-panel t.nrow t.ncol (naturals places r) j panel w.area (w.inside r (omega (arith, u.past)) (omega (arith, u.there))) u.lands;
   }
 
 -- ---- the loop
 
-pub rows-later : (ncol nrow nk mk : ℕ) (bs places : List ℕ) (lo c panel kpanel d sub len : ℕ)
-    → ApplyPre ncol nrow nk mk bs places lo panel kpanel d sub → lo ≤ c → len ≡ panel → ApplyPre ncol nrow nk mk bs places c len kpanel d sub
-rows-later ncol nrow nk mk bs places lo c panel kpanel d sub len w l e = record {
+pub rows-later : (t : Target) (k : Descendant) (places : List ℕ) (lo c panel len : ℕ) → ApplyPre t k places lo panel → lo ≤ c → len ≡ panel
+    → ApplyPre t k places c len
+rows-later t k places lo c panel len w l e = record {
   few = w.few;
   area = e ∙ w.area;
   numbers = w.numbers;

@@ -1,12 +1,11 @@
 -- The rows of the update step by step, as the code takes them, and what its functions ask of their callers. From docs/SCOPE.md, "Update".
 -- `places` has, for each row of the descendant from the first landing on, its row in the target. Definitions only. Assumes nothing.
-use Rattle.std.specs.Prelude.{◌≡◌, cond, ◌&&◌, List, ℕ, zero, suc, ◌+◌, ◌-◌, ◌*◌, ◌<◌, ◌≤◌, eqb, length, Float}
+use Rattle.std.specs.Prelude.{◌≡◌, cond, ◌&&◌, List, ℕ, zero, suc, ◌+◌, ◌-◌, ◌*◌, ◌<◌, ◌≤◌, eqb, length, Float, Ok}
 use Rattle.model.specs.Sizes.{most_columns}
 use Rattle.model.specs.Scalar.{◌⊖◌}
 use Rattle.model.specs.Matrix.{Row, Mat, naturals}
 use Rattle.model.specs.Inertia.{check_bytes}
-use Rattle.model.specs.Update.{Descendant, update_acc}
-use Rattle.model.specs.declared.Check.TheVariants.{Sound}
+use Rattle.model.specs.Update.{Target, Descendant, update_acc}
 use Rattle.grid.specs.Grid.{In}
 use Rattle.landing.specs.Nodes.{NumbersPre}
 use Rattle.landing.specs.Rows.{lands_on}
@@ -45,13 +44,13 @@ pub record SubtractPre (n j : ℕ) (places : List ℕ) (lo hi panel acc : ℕ) :
   pub inside : (r : ℕ) → lo ≤ r → r < hi → In n (naturals places r) j panel
 
 -- target and descendant, with the places of the descendant's rows from lo on
-pub record ApplyPre (ncol nrow nk mk : ℕ) (bs places : List ℕ) (lo panel kpanel d sub : ℕ) : Type 0 where
-  pub few : ncol ≤ most_columns
-  pub area : panel ≡ nrow * ncol
-  pub numbers : NumbersPre nk mk kpanel d sub (length bs)
-  pub check : check_bytes bs ≡ Sound
-  pub room : mk ≤ length places
-  pub inside : (r : ℕ) → lo ≤ r → r < mk → naturals places r < nrow
+pub record ApplyPre (t : Target) (k : Descendant) (places : List ℕ) (lo panel : ℕ) : Type 0 where
+  pub few : t.ncol ≤ most_columns
+  pub area : panel ≡ t.nrow * t.ncol
+  pub numbers : NumbersPre k
+  pub check : check_bytes k.blocks ≡ Ok tt
+  pub room : k.mk ≤ length places
+  pub inside : (r : ℕ) → lo ≤ r → r < k.mk → naturals places r < t.nrow
 
 -- rows lo up to hi of the descendant, at or past the row c that lands on column j, and room for their acc
 pub record PartPre (ncol mk c j lo hi room : ℕ) : Type 0 where

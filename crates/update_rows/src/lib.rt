@@ -3,17 +3,17 @@
 // of `update_rows`; crates/update_rows/proofs/Closed.antt says that it is the definition's matrix.
 #![tactic(auto)]
 
-ghost use Rattle.std.specs.Prelude.{◌≡◌, ◌+◌, ◌-◌, ◌<◌, ◌≤◌, min, length};
+ghost use Rattle.std.specs.Prelude.{◌≡◌, ◌+◌, ◌-◌, ◌<◌, length};
 ghost use Rattle.model.specs.Matrix.{view, vec, naturals};
 ghost use Rattle.grid.specs.Grid.{In};
 ghost use Rattle.kernels.specs.Rules.{behind};
-ghost use Rattle.landing.specs.Nodes.{descendant_of};
-ghost use Rattle.update_sums.specs.Acc.{from_row, acc_of};
+ghost use Rattle.landing.specs.Nodes.{target_in, descendant_in};
+ghost use Rattle.update_sums.specs.Acc.{from_row, sums_of};
 ghost use Rattle.update_rows.specs.Apply.{less_at, less_from, row_applied, rows_applied};
 ghost use Rattle.update_rows.specs.Apply.{SubtractPre, ApplyPre, PartPre};
 
 use grid::column_start;
-use landing::Shapes;
+use landing::{Descendant, Target};
 use model::{Elim, GlobalRow, LocalRow};
 
 // How many of the descendant's rows are worked at a time: their acc is a local array, whatever the most rows are.
@@ -43,28 +43,24 @@ fn subtract(
     ensures { view nrow panel.new ≡ less_from (naturals places.now)
         (behind lo (vec acc.now)) column.0 (hi - lo) lo (view nrow panel.old) }
 {
-    let mut r = lo;
-    while r < hi {
+    // by places, since acc begins with row lo's
+    for r in lo..hi {
         less_at(
             panel,
             nrow,
-            LocalRow(places[r] as usize),
+            LocalRow(usize::from(places[r])),
             column,
             acc[r - lo],
         );
-        r += 1;
     }
 }
 
 // The landing row c's part in a column of the target, at rows lo up to hi of the descendant.
 // work: acc, a number for each of these rows, any on entry.
 fn update_part(
-    s: Shapes,
+    t: Target,
     panel: &mut [f64],
-    kpanel: &[f64],
-    kd: &[f64],
-    ksub: &[f64],
-    kblocks: &[u8],
+    k: Descendant,
     places: &[u16],
     acc: &mut [f64],
     c: usize,
@@ -72,107 +68,53 @@ fn update_part(
     lo: usize,
     hi: usize,
 )
-    requires apply_pre { ApplyPre s.ncol s.nrow s.nk s.mk kblocks.now places.now c (length panel.old)
-        (length kpanel.now) (length kd.now) (length ksub.now) }
-    requires part_pre { PartPre s.ncol s.mk c column.0 lo hi (length acc.old) }
-    ensures { view s.nrow panel.new ≡ less_from (naturals places.now)
-        (from_row (acc_of (s.nk + s.mk) s.nk kpanel.now kd.now ksub.now
-        kblocks.now (s.nk + c)) s.nk) column.0 (hi - lo) lo
-        (view s.nrow panel.old) }
+    requires apply_pre { ApplyPre (target_in t) (descendant_in k) places.now c (length panel.old) }
+    requires part_pre { PartPre t.ncol k.mk c column.0 lo hi (length acc.old) }
+    ensures { view t.entry.nrow panel.new ≡ less_from (naturals places.now)
+        (from_row (sums_of (descendant_in k.entry) k.entry.nk (k.entry.nk + c)) k.entry.nk) column.0 (hi - lo) lo
+        (view t.entry.nrow panel.old) }
 {
-    let nk = s.nk;
-    let all = nk + s.mk;
-    update_sums::sum(
-        acc,
-        kpanel,
-        all,
-        LocalRow(nk + c),
-        kd,
-        ksub,
-        kblocks,
-        nk,
-        nk + lo,
-        nk + hi,
-    );
-    subtract(panel, s.nrow, column, places, acc, lo, hi);
-}
-
-// Where the part of the rows that begins at lo ends.
-fn part_end(lo: usize, end: usize) -> usize
-    requires { lo ≤ end }
-    ensures { result ≡ lo + min 256 (end - lo) }
-{
-    if end - lo < PART {
-        return end;
-    }
-    lo + PART
+    let nk = k.nk;
+    update_sums::sum(acc, k, LocalRow(nk + c), nk + lo, nk + hi);
+    subtract(panel, t.nrow, column, places, acc, lo, hi);
 }
 
 // Row c of the descendant, if it lands.
 // work: acc, PART numbers, any on entry.
 fn update_row(
-    s: Shapes,
+    t: Target,
     panel: &mut [f64],
-    kpanel: &[f64],
-    kd: &[f64],
-    ksub: &[f64],
-    kblocks: &[u8],
-    krows: &[u32],
+    k: Descendant,
     places: &[u16],
     acc: &mut [f64],
     c: usize,
 )
-    requires apply_pre { ApplyPre s.ncol s.nrow s.nk s.mk kblocks.now places.now c (length panel.old)
-        (length kpanel.now) (length kd.now) (length ksub.now) }
-    requires krows_len { (length krows.now ≡ s.mk) × (c < s.mk) × (length acc.old ≡ 256) }
-    ensures { view s.nrow panel.new ≡ row_applied s.first.0 s.ncol
-        (descendant_of s.nk s.mk kpanel.now kd.now ksub.now
-        kblocks.now krows.now) (naturals places.now) c
-        (view s.nrow panel.old) }
+    requires apply_pre { ApplyPre (target_in t) (descendant_in k) places.now c (length panel.old) }
+    requires krows_len { (length k.rows.now ≡ k.mk) × (c < k.mk) × (length acc.old ≡ 256) }
+    ensures { view t.entry.nrow panel.new ≡ row_applied t.entry.first.0 t.entry.ncol
+        (descendant_in k.entry) (naturals places.now) c (view t.entry.nrow panel.old) }
 {
-    let g = GlobalRow(krows[c]);
-    if !landing::lands(s.first, s.ncol, g) {
+    let g = GlobalRow(k.rows[c]);
+    if !landing::lands(t, g) {
         return;
     }
-    let column = landing::column_of(s.first, g);
-    let mk = s.mk;
-    let mut lo = c;
-    while lo < mk {
-        let hi = part_end(lo, mk);
-        update_part(
-            s, panel, kpanel, kd, ksub, kblocks, places, acc, c, column, lo, hi,
-        );
-        lo = hi;
+    let column = landing::column_of(t, g);
+    let mk = k.mk;
+    for lo in (c..mk).step_by(PART) {
+        let hi = lo + PART.min(mk - lo);
+        update_part(t, panel, k, places, acc, c, column, lo, hi);
     }
 }
 
 // The descendant's rows from `start` on, each if it lands.
-pub fn update_rows(
-    s: Shapes,
-    panel: &mut [f64],
-    kpanel: &[f64],
-    kd: &[f64],
-    ksub: &[f64],
-    kblocks: &[u8],
-    krows: &[u32],
-    places: &[u16],
-    start: usize,
-)
-    requires apply_pre { ApplyPre s.ncol s.nrow s.nk s.mk kblocks.now places.now start (length panel.old)
-        (length kpanel.now) (length kd.now) (length ksub.now) }
-    requires krows_len { length krows.now ≡ s.mk }
-    ensures { view s.nrow panel.new ≡ rows_applied s.first.0 s.ncol
-        (descendant_of s.nk s.mk kpanel.now kd.now ksub.now
-        kblocks.now krows.now) (naturals places.now) (s.mk - start) start
-        (view s.nrow panel.old) }
+pub fn update_rows(t: Target, panel: &mut [f64], k: Descendant, places: &[u16], start: usize)
+    requires apply_pre { ApplyPre (target_in t) (descendant_in k) places.now start (length panel.old) }
+    requires krows_len { length k.rows.now ≡ k.mk }
+    ensures { view t.entry.nrow panel.new ≡ rows_applied t.entry.first.0 t.entry.ncol
+        (descendant_in k.entry) (naturals places.now) (k.entry.mk - start) start (view t.entry.nrow panel.old) }
 {
     let mut acc = [0.0; PART];
-    let mk = s.mk;
-    let mut c = start;
-    while c < mk {
-        update_row(
-            s, panel, kpanel, kd, ksub, kblocks, krows, places, &mut acc, c,
-        );
-        c += 1;
+    for c in start..k.mk {
+        update_row(t, panel, k, places, &mut acc, c);
     }
 }

@@ -1,16 +1,19 @@
 -- Laws of the update's sums as the loops take them: v, and the sums of a part of the rows. Assumes nothing.
 use mathlib.Core.Path.{◌≡◌, refl, sym, ◌∙◌, ap, fun_ext}
-use mathlib.Core.Bool.{true}
+use mathlib.Core.Bool.{Bool, true, false}
 use mathlib.Core.List.{List}
-use Prim.Native.Nat.{ℕ, zero, suc, ◌+◌, ◌-◌, ◌≤◌, ◌<◌}
+use Prim.Native.Nat.{ℕ, zero, suc, ◌+◌, ◌-◌, ◌*◌, ◌^◌, ◌≤◌, ◌<◌}
 use native.Mathlib.Omega.{arith}
-use borrow.Author.Tests.{eq-eqb, ne_eqb, le-ltb, lt-ltb, le-leb, ltb-true, ltb-false, leb-true}
+use borrow.Author.Tests.{lt-ltb, le-leb, ltb-true, leb-true}
 use borrow.Rule.Slice.PartMut.{mid_of}
 use lib.Dec.{leb, ltb}
 use lib.ListN.{length, get_or, set}
 use lib.Ieee.{Float, nan}
+use mir.Syntax.{w64}
+use mir.Val.{Fits}
 use Rattle.model.specs.Scalar.{◌⊕◌, ◌⊗◌, zero_f}
 use Rattle.model.specs.Matrix.{Row, column_start, view, vec, naturals, within, with_part}
+use Rattle.model.specs.Step.{begins, ends_block}
 use Rattle.model.specs.Panel.{times_d, sum_from}
 use Rattle.model.proofs.Cases.{test, and_left, and_right}
 use Rattle.grid.specs.Grid.{In}
@@ -20,53 +23,56 @@ use Rattle.grid.proofs.Laws.{in-col, col-in, view-read}
 use Rattle.kernels.proofs.Laws.{vec-set, with_part-past, with_part-step}
 use Rattle.grid.proofs.Parts.{column-at}
 use Rattle.checks.proofs.Bytes.{bytes-paired}
-use Rattle.update_sums.specs.Acc.{weighed, acc_of, from_row, two_added, WeightPre, SumPre}
+use Rattle.model.specs.Update.{Descendant}
+use Rattle.update_sums.specs.Acc.{weighed, acc_of, matrix_of, weights_of, sums_of, from_row, two_added, WeightPre, SumPre}
 
--- ---- v at one column: l is the row's number there
+-- ---- v at one column: l is the row's number there; b is whether a block begins at it, g whether it is a block's second
 
-module _ (d sub : List Float) (blocks : List ℕ) (r : Row) (s : ℕ) (l : Float) (e : l ≡ r s) where
-  pub weight-first : (b : Float) → naturals blocks s ≡ 1 → b ≡ r (s + 1) → l ⊗ vec d s ⊕ b ⊗ vec sub s ≡ weighed d sub blocks r s
+module _ (k : Descendant) (i s : ℕ) (l : Float) (e : l ≡ matrix_of k i s) (b : Bool) (h : b ≡ begins (naturals k.blocks) s) where
+  pub weight-first : (m : Float) → b ≡ true → m ≡ matrix_of k i (s + 1) → l ⊗ vec k.d s ⊕ m ⊗ vec k.sub s ≡ weights_of k i s
   unfolding weighed times_d
-  weight-first b h f = rw (eq-eqb (naturals blocks s) 1 h, e, f)
+  weight-first m x f = rw (← h, x, e, f)
 
-  module _ (h : naturals blocks s ≡ 1 → ⊥) where
-    pub weight-start : s ≡ 0 → l ⊗ vec d s ≡ weighed d sub blocks r s
+  module _ (x : b ≡ false) (g : Bool) (j : g ≡ ends_block (naturals k.blocks) s) where
+    pub weight-second : (a : Float) → g ≡ true → a ≡ matrix_of k i (s - 1) → a ⊗ vec k.sub (s - 1) ⊕ l ⊗ vec k.d s ≡ weights_of k i s
     unfolding weighed times_d
-    weight-start z = rw (ne_eqb (naturals blocks s) 1 h, le-ltb 0 s (omega arith), e)
+    weight-second a y f = rw (← h, x, ← j, y, e, f)
 
-    module _ (z : s ≡ 0 → ⊥) where
-      some : ltb 0 s ≡ true
-      some = test (ltb 0 s) (λ t. t) (λ t. absurd (z (omega (arith, ltb-false 0 s t))))
+    pub weight-plain : g ≡ false → l ⊗ vec k.d s ≡ weights_of k i s
+    unfolding weighed times_d
+    weight-plain y = rw (← h, x, ← j, y, e)
 
-      pub weight-second : (a : Float) → naturals blocks (s - 1) ≡ 1 → a ≡ r (s - 1) → a ⊗ vec sub (s - 1) ⊕ l ⊗ vec d s ≡ weighed d sub blocks r s
-      unfolding weighed times_d
-      weight-second a g f = rw (ne_eqb (naturals blocks s) 1 h, some, eq-eqb (naturals blocks (s - 1)) 1 g, e, f)
+module _ (k : Descendant) (i s : ℕ) (w : WeightPre k i s) where
+  abbrev all : ℕ
+  all = k.nk + k.mk
 
-      pub weight-plain : (naturals blocks (s - 1) ≡ 1 → ⊥) → l ⊗ vec d s ≡ weighed d sub blocks r s
-      unfolding weighed times_d
-      weight-plain g = rw (ne_eqb (naturals blocks s) 1 h, some, ne_eqb (naturals blocks (s - 1)) 1 g, e)
+  pub weight-here : In all i s (length k.panel)
+  weight-here = in-col all s i s (length k.panel) w.column w.row (omega arith)
 
-module _ (n i : ℕ) (bs : List ℕ) (s panel d sub : ℕ) (w : WeightPre n i bs s panel d sub) where
-  pub weight-next : naturals bs s ≡ 1 → In n i (s + 1) panel
-  weight-next h = in-col n (s + 1) i (s + 1) panel (w.next h) w.row (omega arith)
+  pub weight-next : naturals k.blocks s ≡ 1 → In all i (s + 1) (length k.panel)
+  weight-next h = in-col all (s + 1) i (s + 1) (length k.panel) (w.next h) w.row (omega arith)
 
-  pub weight-before : In n i (s - 1) panel
-  weight-before = in-col n s i (s - 1) panel w.column w.row (omega arith)
+  pub weight-before : In all i (s - 1) (length k.panel)
+  weight-before = in-col all s i (s - 1) (length k.panel) w.column w.row (omega arith)
 
-pub sum-weight : (nk n i lo hi : ℕ) (bs : List ℕ) (room panel d sub s : ℕ) → SumPre nk n i lo hi bs room panel d sub → s < nk
-    → WeightPre n i bs s panel d sub
-sum-weight nk n i lo hi bs room panel d sub s w h = record {
-  row = w.row;
-  column = col-in n nk s panel w.area h;
-  pivot = omega (arith, w.pivots);
-  subdiagonal = omega (arith, w.subdiagonal);
-  byte = omega (arith, w.blocks);
-  next = λ o. col-in n nk (s + 1) panel w.area (omega (arith, w.blocks, (bytes-paired bs w.check).room s (omega (arith, w.blocks)) o));
-}
+module _ (k : Descendant) (i lo hi room s : ℕ) (w : SumPre k i lo hi room) (h : s < k.nk) where
+  pub sum-weight : WeightPre k i s
+  sum-weight = record {
+    row = w.row;
+    column = col-in (k.nk + k.mk) k.nk s (length k.panel) w.area h;
+    pivot = omega (arith, w.pivots);
+    subdiagonal = omega (arith, w.subdiagonal);
+    byte = omega (arith, w.blocks);
+    next = λ o. col-in (k.nk + k.mk) k.nk (s + 1) (length k.panel) w.area
+        (omega (arith, w.blocks, (bytes-paired k.blocks w.check).room s (omega (arith, w.blocks)) o));
+  }
 
-pub sum_rows : (nk n i lo hi : ℕ) (bs : List ℕ) (room panel d sub s : ℕ) → SumPre nk n i lo hi bs room panel d sub → s < nk → RowsPre n s lo hi panel
-sum_rows nk n i lo hi bs room panel d sub s w h =
-    record { col = omega (arith, col-in n nk s panel w.area h, w.rows); up = w.up; rows = w.rows }
+  -- so many rows fit a machine word, where the panel's length does
+  pub sum_fits : length k.panel < 2 ^ 64 → Fits w64 (k.nk + k.mk)
+  sum_fits l = record { fits = omega (arith, col-in (k.nk + k.mk) k.nk s (length k.panel) w.area h) }
+
+  pub sum_rows : RowsPre (k.nk + k.mk) s lo hi (length k.panel)
+  sum_rows = record { col = omega (arith, col-in (k.nk + k.mk) k.nk s (length k.panel) w.area h, w.rows); up = w.up; rows = w.rows }
 
 -- ---- the sums
 
@@ -78,13 +84,11 @@ sum-last f c (suc n) acc =
     let g : c + suc n ≡ c + 1 + n = omega arith in
     rw (e, g) (sum-last f (c + 1) n (acc ⊕ f c))
 
-acc-last : (n s : ℕ) (panel d sub : List Float) (bs : List ℕ) (i r : ℕ)
-    → acc_of n (s + 1) panel d sub bs i r ≡ acc_of n s panel d sub bs i r ⊕ view n panel r s ⊗ weighed d sub bs (view n panel i) s
+sums-one : (k : Descendant) (s i r : ℕ) → sums_of k (s + 1) i r ≡ sums_of k s i r ⊕ matrix_of k r s ⊗ weights_of k i s
 unfolding acc_of
-acc-last n s panel d sub bs i r =
-    sum-last (λ t. view n panel r t ⊗ weighed d sub bs (view n panel i) t) 0 s zero_f
-    ∙ ap (λ (t : ℕ). sum_from (λ u. view n panel r u ⊗ weighed d sub bs (view n panel i) u) 0 s zero_f ⊕ view n panel r t ⊗ weighed d sub bs (view n panel i) t)
-    (omega arith)
+sums-one k s i r =
+    sum-last (λ t. matrix_of k r t ⊗ weights_of k i t) 0 s zero_f
+    ∙ ap (λ (t : ℕ). sum_from (λ u. matrix_of k r u ⊗ weights_of k i u) 0 s zero_f ⊕ matrix_of k r t ⊗ weights_of k i t) (omega arith)
 
 -- a rule for places lo up to hi, over a function that has another there
 part-over : (f : Row) (lo hi : ℕ) (N O : Row) → with_part (with_part f lo hi N) lo hi O ≡ with_part f lo hi O
@@ -143,46 +147,45 @@ unfolding with_part plus_times
 two-parts g m a b x y = fun_ext λ i. test (within 0 m i) (λ t. rw t) (λ t. rw t)
 
 -- rows lo up to hi of the panel, acc's number 0 for row lo
-module _ (n : ℕ) (panel d sub : List Float) (bs : List ℕ) (i lo hi : ℕ) where
-  pub sums_none : (f g : Row) → g ≡ with_part f 0 (hi - lo) zeroed → g ≡ with_part g 0 (hi - lo) (from_row (acc_of n 0 panel d sub bs i) lo)
+module _ (k : Descendant) (i lo hi : ℕ) where
+  pub sums_none : (f g : Row) → g ≡ with_part f 0 (hi - lo) zeroed → g ≡ with_part g 0 (hi - lo) (from_row (sums_of k 0 i) lo)
   unfolding from_row acc_of sum_from zeroed
   sums_none f g e = e ∙ sym (ap (λ (x : Row). with_part x 0 (hi - lo) (λ r. zero_f)) e ∙ part-over f 0 (hi - lo) (λ r. zero_f) (λ r. zero_f))
 
-  pub sums-step : (f g h : Row) (s : ℕ) (x : Float) → x ≡ weighed d sub bs (view n panel i) s
-      → g ≡ with_part f 0 (hi - lo) (from_row (acc_of n s panel d sub bs i) lo)
-      → h ≡ with_part g 0 (hi - lo) (plus_times g (from_row (column_of (view n panel) s) lo) x)
-      → h ≡ with_part f 0 (hi - lo) (from_row (acc_of n (s + 1) panel d sub bs i) lo)
+  sums-step : (f g h : Row) (s : ℕ) (x : Float) → x ≡ weights_of k i s
+      → g ≡ with_part f 0 (hi - lo) (from_row (sums_of k s i) lo)
+      → h ≡ with_part g 0 (hi - lo) (plus_times g (from_row (column_of (matrix_of k) s) lo) x)
+      → h ≡ with_part f 0 (hi - lo) (from_row (sums_of k (s + 1) i) lo)
   unfolding plus_times column_of from_row
   sums-step f g h s x w e p =
-      p ∙ part_same g 0 (hi - lo) _ (λ t. acc_of n (s + 1) panel d sub bs i (lo + t)) (λ t z l.
-      rw (w, acc-last n s panel d sub bs i (lo + t))
-      (ap (λ (y : Float). y ⊕ view n panel (lo + t) s ⊗ weighed d sub bs (view n panel i) s)
-      (ap (λ (q : Row). q t) e ∙ part_at f 0 (hi - lo) (λ r. acc_of n s panel d sub bs i (lo + r)) t z l)))
+      p ∙ part_same g 0 (hi - lo) _ (λ t. sums_of k (s + 1) i (lo + t)) (λ t z l.
+      rw (w, sums-one k s i (lo + t))
+      (ap (λ (y : Float). y ⊕ matrix_of k (lo + t) s ⊗ weights_of k i s)
+      (ap (λ (q : Row). q t) e ∙ part_at f 0 (hi - lo) (λ r. sums_of k s i (lo + r)) t z l)))
       ∙ rw e (part-over f 0 (hi - lo) _ _)
 
-  pub sums-two : (f g h : Row) (s : ℕ) (x y : Float) → x ≡ weighed d sub bs (view n panel i) s → y ≡ weighed d sub bs (view n panel i) (s + 1)
-      → g ≡ with_part f 0 (hi - lo) (from_row (acc_of n s panel d sub bs i) lo)
-      → h ≡ with_part g 0 (hi - lo) (two_added g (view n panel) s lo x y)
-      → h ≡ with_part f 0 (hi - lo) (from_row (acc_of n (s + 2) panel d sub bs i) lo)
+  pub sums-two : (f g h : Row) (pair : ℕ) (x y : Float) → x ≡ weights_of k i (2 * pair) → y ≡ weights_of k i (2 * pair + 1)
+      → g ≡ with_part f 0 (hi - lo) (from_row (sums_of k (2 * pair) i) lo)
+      → h ≡ with_part g 0 (hi - lo) (two_added g (matrix_of k) (2 * pair) lo x y)
+      → h ≡ with_part f 0 (hi - lo) (from_row (sums_of k (2 * (pair + 1)) i) lo)
   unfolding two_added
-  sums-two f g h s x y v w e p =
-      let z : s + 1 + 1 ≡ s + 2 = omega arith in
+  sums-two f g h pair x y v w e p =
+      let s : ℕ = 2 * pair in
+      let z : s + 1 + 1 ≡ 2 * (pair + 1) = omega arith in
       rw z at (sums-step f _ h (s + 1) y w (sums-step f g _ s x v e refl) (p ∙ two-parts g (hi - lo) _ _ x y))
 
-  -- from what was zeroed
-  pub sums-from : (f g h : Row) (s : ℕ) → g ≡ with_part f 0 (hi - lo) zeroed
-      → h ≡ with_part g 0 (hi - lo) (from_row (acc_of n s panel d sub bs i) lo) → h ≡ with_part f 0 (hi - lo) (from_row (acc_of n s panel d sub bs i) lo)
-  sums-from f g h s e p = p ∙ rw e (part-over f 0 (hi - lo) zeroed _)
+  -- z is what was zeroed: all columns were summed, an even number of them; or one was left, and is added
+  sums-from : (f z h : Row) (s : ℕ) → z ≡ with_part f 0 (hi - lo) zeroed
+      → h ≡ with_part z 0 (hi - lo) (from_row (sums_of k s i) lo) → h ≡ with_part f 0 (hi - lo) (from_row (sums_of k s i) lo)
+  sums-from f z h s e p = p ∙ rw e (part-over f 0 (hi - lo) zeroed _)
 
-  -- all columns were summed; or one was left
-  pub sums-all : (f g : Row) (s nk : ℕ) → nk ≤ s → s ≤ nk → g ≡ with_part f 0 (hi - lo) (from_row (acc_of n s panel d sub bs i) lo)
-      → g ≡ with_part f 0 (hi - lo) (from_row (acc_of n nk panel d sub bs i) lo)
-  sums-all f g s nk l m p = let e : s ≡ nk = omega arith in rw e at p
+  pub sums-even : (f z h : Row) (s : ℕ) → z ≡ with_part f 0 (hi - lo) zeroed → h ≡ with_part z 0 (hi - lo) (from_row (sums_of k s i) lo)
+      → s ≡ k.nk → h ≡ with_part f 0 (hi - lo) (from_row (sums_of k k.nk i) lo)
+  sums-even f z h s e p m = sums-from f z h k.nk e (rw m at p)
 
-  pub sums-last : (f g h : Row) (s nk : ℕ) (x : Float) → s < nk → nk ≤ s + 1 → x ≡ weighed d sub bs (view n panel i) s
-      → g ≡ with_part f 0 (hi - lo) (from_row (acc_of n s panel d sub bs i) lo)
-      → h ≡ with_part g 0 (hi - lo) (plus_times g (from_row (column_of (view n panel) s) lo) x)
-      → h ≡ with_part f 0 (hi - lo) (from_row (acc_of n nk panel d sub bs i) lo)
-  sums-last f g h s nk x l m w e p =
-      let k : s + 1 ≡ nk = omega arith in
-      rw k at (sums-step f g h s x w e p)
+  pub sums-odd : (f z g h : Row) (s : ℕ) (x : Float) → z ≡ with_part f 0 (hi - lo) zeroed → g ≡ with_part z 0 (hi - lo) (from_row (sums_of k s i) lo)
+      → s + 1 ≡ k.nk → x ≡ weights_of k i (k.nk - 1) → h ≡ with_part g 0 (hi - lo) (plus_times g (from_row (column_of (matrix_of k) (k.nk - 1)) lo) x)
+      → h ≡ with_part f 0 (hi - lo) (from_row (sums_of k k.nk i) lo)
+  sums-odd f z g h s x e p m w q =
+      let l : k.nk - 1 ≡ s = omega arith in
+      sums-from f z h k.nk e (rw m at (sums-step z g h s x (rw l at w) p (rw l at q)))

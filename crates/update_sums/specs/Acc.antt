@@ -1,12 +1,12 @@
 -- The sums of a landing row: 'v' and acc step by step, as the code takes them, and what its functions ask of their callers. From docs/SCOPE.md, "Update".
 -- Definitions only. Assumes nothing.
-use Rattle.std.specs.Prelude.{◌≡◌, List, ℕ, ◌+◌, ◌-◌, ◌*◌, ◌<◌, ◌≤◌, length, Float}
+use Rattle.std.specs.Prelude.{◌≡◌, List, ℕ, ◌+◌, ◌-◌, ◌*◌, ◌<◌, ◌≤◌, length, Float, Ok}
 use Rattle.model.specs.Scalar.{◌⊗◌, zero_f}
 use Rattle.model.specs.Matrix.{Row, Mat, view, naturals}
 use Rattle.model.specs.Step.{diagonals_of}
 use Rattle.model.specs.Panel.{times_d, sum_from}
 use Rattle.model.specs.Inertia.{check_bytes}
-use Rattle.model.specs.declared.Check.TheVariants.{Sound}
+use Rattle.model.specs.Update.{Descendant}
 use Rattle.grid.specs.Rules.{column_of}
 use Rattle.kernels.specs.Rules.{plus_times}
 
@@ -18,6 +18,16 @@ weighed d sub blocks = times_d (diagonals_of d sub blocks)
 unfoldable pub acc_of : (n m : ℕ) → (panel d sub : List Float) → (blocks : List ℕ) → (i : ℕ) → Row
 acc_of n m panel d sub blocks i = λ r. sum_from (λ s. view n panel r s ⊗ weighed d sub blocks (view n panel i) s) 0 m zero_f
 
+-- the descendant's panel by rows and columns; 'v' of its row i; acc of its row i over m columns
+abbrev pub matrix_of : Descendant → Mat
+matrix_of k = view (k.nk + k.mk) k.panel
+
+abbrev pub weights_of : Descendant → ℕ → Row
+weights_of k i = weighed k.d k.sub k.blocks (view (k.nk + k.mk) k.panel i)
+
+abbrev pub sums_of : Descendant → (m i : ℕ) → Row
+sums_of k m i = acc_of (k.nk + k.mk) m k.panel k.d k.sub k.blocks i
+
 -- f from n on
 unfoldable pub from_row : Row → ℕ → Row
 from_row f n = λ r. f (n + r)
@@ -28,23 +38,23 @@ two_added f a s lo v w = plus_times (plus_times f (from_row (column_of a s) lo) 
 
 -- ---- what the functions ask of their callers
 
--- row i of a panel of n rows has column s, and the next one where a block begins at s
-pub record WeightPre (n i : ℕ) (bs : List ℕ) (s panel d sub : ℕ) : Type 0 where
-  pub row : i < n
-  pub column : n + s * n ≤ panel
-  pub pivot : s < d
-  pub subdiagonal : s < sub
-  pub byte : s < length bs
-  pub next : naturals bs s ≡ 1 → n + (s + 1) * n ≤ panel
+-- row i of the descendant's panel has column s, and the next one where a block begins at s
+pub record WeightPre (k : Descendant) (i s : ℕ) : Type 0 where
+  pub row : i < k.nk + k.mk
+  pub column : k.nk + k.mk + s * (k.nk + k.mk) ≤ length k.panel
+  pub pivot : s < length k.d
+  pub subdiagonal : s < length k.sub
+  pub byte : s < length k.blocks
+  pub next : naturals k.blocks s ≡ 1 → k.nk + k.mk + (s + 1) * (k.nk + k.mk) ≤ length k.panel
 
--- rows lo up to hi of a panel of n rows and nk columns, with row i, the pivots, and room for acc
-pub record SumPre (nk n i lo hi : ℕ) (bs : List ℕ) (room panel d sub : ℕ) : Type 0 where
-  pub row : i < n
+-- rows lo up to hi of the descendant's panel, row i, the pivots, and room for acc
+pub record SumPre (k : Descendant) (i lo hi room : ℕ) : Type 0 where
+  pub row : i < k.nk + k.mk
   pub up : lo ≤ hi
-  pub rows : hi ≤ n
+  pub rows : hi ≤ k.nk + k.mk
   pub fits : hi - lo ≤ room
-  pub area : panel ≡ n * nk
-  pub pivots : d ≡ nk
-  pub subdiagonal : sub ≡ nk
-  pub blocks : length bs ≡ nk
-  pub check : check_bytes bs ≡ Sound
+  pub area : length k.panel ≡ (k.nk + k.mk) * k.nk
+  pub pivots : length k.d ≡ k.nk
+  pub subdiagonal : length k.sub ≡ k.nk
+  pub blocks : length k.blocks ≡ k.nk
+  pub check : check_bytes k.blocks ≡ Ok tt

@@ -9,142 +9,80 @@ ghost use Rattle.std.proofs.Common.{Fits};
 ghost use Rattle.model.specs.Matrix.{view, vec, with_part};
 ghost use Rattle.kernels.specs.Rules.{plus_times};
 ghost use Rattle.grid.specs.Rules.{column_of, RowsPre};
-ghost use Rattle.update_sums.specs.Acc.{weighed, from_row, acc_of, two_added, WeightPre, SumPre};
+ghost use Rattle.landing.specs.Nodes.{descendant_in};
+ghost use Rattle.update_sums.specs.Acc.{matrix_of, weights_of, sums_of, from_row, two_added, WeightPre, SumPre};
 
 use grid::{column_start, columns};
+use landing::Descendant;
 use model::{Elim, LocalRow};
 
 // v at a column: l·d; a·d11 + b·d21 in a block's first column, a·d21 + b·d22 in its second.
-fn weight(
-    kpanel: &[f64],
-    all: usize,
-    row: LocalRow,
-    kd: &[f64],
-    ksub: &[f64],
-    kblocks: &[u8],
-    column: Elim,
-) -> f64
-    requires { WeightPre all row.0 kblocks.now column.0 (length kpanel.now) (length kd.now)
-        (length ksub.now) }
-    ensures { result ≡ weighed kd.now ksub.now kblocks.now
-        (view all kpanel.now row.0) column.0 }
+fn weight(k: Descendant, row: LocalRow, column: Elim) -> f64
+    requires { WeightPre (descendant_in k) row.0 column.0 }
+    ensures { result ≡ weights_of (descendant_in k.entry) row.0 column.0 }
 {
+    let all = k.nk + k.mk;
     let s = column.0;
-    let l = grid::get(kpanel, all, row.0, s);
-    if kblocks[s] == 1 {
-        return l * kd[s] + grid::get(kpanel, all, row.0, s + 1) * ksub[s];
+    let l = grid::get(k.panel, all, row.0, s);
+    if diagonal::block_begins(k.blocks, column) {
+        return l * k.d[s] + grid::get(k.panel, all, row.0, s + 1) * k.sub[s];
     }
-    if s == 0 {
-        return l * kd[s];
+    if diagonal::ends_block(k.blocks, column) {
+        return grid::get(k.panel, all, row.0, s - 1) * k.sub[s - 1] + l * k.d[s];
     }
-    if kblocks[s - 1] == 1 {
-        return grid::get(kpanel, all, row.0, s - 1) * ksub[s - 1] + l * kd[s];
-    }
-    l * kd[s]
+    l * k.d[s]
 }
 
 // acc of rows lo up to hi of the panel gains those rows of a column times v; acc's number 0 is row lo's.
-fn add_column(
-    acc: &mut [f64],
-    kpanel: &[f64],
-    all: usize,
-    column: Elim,
-    lo: usize,
-    hi: usize,
-    v: f64,
-)
-    requires rows_pre { RowsPre all column.0 lo hi (length kpanel.now) }
-    requires lo_in_bounds { hi - lo ≤ length acc.old }
+fn add_column(acc: &mut [f64], k: Descendant, column: Elim, lo: usize, hi: usize, v: f64)
+    requires rows_pre { RowsPre (k.nk + k.mk) column.0 lo hi (length k.panel.now) }
+    requires lo_in_bounds { (hi - lo ≤ length acc.old) × Fits w64 (k.nk + k.mk) }
     ensures { vec acc.new ≡ with_part (vec acc.old) 0 (hi - lo)
-        (plus_times (vec acc.old) (from_row (column_of (view all kpanel.now) column.0) lo) v) }
+        (plus_times (vec acc.old) (from_row (column_of (matrix_of (descendant_in k.entry)) column.0) lo) v) }
 {
-    let start = column_start(all, column.0);
+    let start = column_start(k.nk + k.mk, column.0);
     let a = lo + start;
     let b = hi + start;
-    kernels::plus(acc, &kpanel[a..b], hi - lo, v);
+    kernels::plus(acc, &k.panel[a..b], hi - lo, v);
 }
 
-// It gains those rows of the column times v, then those of the next times w. The loop vectorises: no branch, no call.
-fn add_two(
-    acc: &mut [f64],
-    kpanel: &[f64],
-    all: usize,
-    column: Elim,
-    lo: usize,
-    hi: usize,
-    v: f64,
-    w: f64,
-)
-    requires rows_pre { RowsPre all column.0 lo hi (length kpanel.now) }
-    requires rows_pre_2 { RowsPre all (column.0 + 1) lo hi (length kpanel.now) }
-    requires lo_in_bounds { (hi - lo ≤ length acc.old) × Fits w64 (column.0 + 1) }
+// It gains those rows of the column times v, then those of the next times w. The loop vectorises: no branch, no call,
+// and an index into three lists at once, which a zip of three would say no plainer.
+fn add_two(acc: &mut [f64], k: Descendant, column: Elim, lo: usize, hi: usize, v: f64, w: f64)
+    requires rows_pre { RowsPre (k.nk + k.mk) column.0 lo hi (length k.panel.now) }
+    requires rows_pre_2 { RowsPre (k.nk + k.mk) (column.0 + 1) lo hi (length k.panel.now) }
+    requires lo_in_bounds { (hi - lo ≤ length acc.old) × Fits w64 (column.0 + 1) × Fits w64 (k.nk + k.mk) }
     ensures { vec acc.new ≡ with_part (vec acc.old) 0 (hi - lo)
-        (two_added (vec acc.old) (view all kpanel.now) column.0 lo v w) }
+        (two_added (vec acc.old) (matrix_of (descendant_in k.entry)) column.0 lo v w) }
 {
+    let panel = k.panel;
+    let all = k.nk + k.mk;
     let first = column_start(all, column.0);
     let second = column_start(all, column.0 + 1);
     let a = lo + first;
     let b = lo + second;
     for i in 0..hi - lo {
-        acc[i] = acc[i] + kpanel[a + i] * v + kpanel[b + i] * w;
+        acc[i] = acc[i] + panel[a + i] * v + panel[b + i] * w;
     }
 }
 
-// acc of rows lo up to hi of the panel, of the landing row `row`, over so many columns as the answer says: all, or all
-// but the last, since it takes two at a time.
-fn sum_pairs(
-    acc: &mut [f64],
-    kpanel: &[f64],
-    all: usize,
-    row: LocalRow,
-    kd: &[f64],
-    ksub: &[f64],
-    kblocks: &[u8],
-    nk: usize,
-    lo: usize,
-    hi: usize,
-) -> usize
-    requires { SumPre nk all row.0 lo hi kblocks.now (length acc.old) (length kpanel.now)
-        (length kd.now) (length ksub.now) }
-    ensures acc_after { vec acc.new ≡ with_part (vec acc.old) 0 (hi - lo)
-        (from_row (acc_of all result kpanel.now kd.now ksub.now kblocks.now
-        row.0) lo) }
-    ensures upper_bound { (result ≤ nk) × (nk ≤ result + 1) }
+// acc of rows lo up to hi of the panel, of the landing row `row`, over all columns: two in each pass, and the last
+// alone where their number is odd.
+pub fn sum(acc: &mut [f64], k: Descendant, row: LocalRow, lo: usize, hi: usize)
+    requires { SumPre (descendant_in k) row.0 lo hi (length acc.old) }
+    ensures { vec acc.new ≡ with_part (vec acc.old) 0 (hi - lo)
+        (from_row (sums_of (descendant_in k.entry) k.entry.nk row.0) lo) }
 {
     columns::zero(acc, 0, hi - lo);
-    let mut s = 0;
-    while s + 1 < nk {
-        let v = weight(kpanel, all, row, kd, ksub, kblocks, Elim(s));
-        let w = weight(kpanel, all, row, kd, ksub, kblocks, Elim(s + 1));
-        add_two(acc, kpanel, all, Elim(s), lo, hi, v, w);
-        s += 2;
+    for pair in 0..k.nk / 2 {
+        let s = 2 * pair;
+        let v = weight(k, row, Elim(s));
+        let w = weight(k, row, Elim(s + 1));
+        add_two(acc, k, Elim(s), lo, hi, v, w);
     }
-    s
-}
-
-// Over all columns.
-pub fn sum(
-    acc: &mut [f64],
-    kpanel: &[f64],
-    all: usize,
-    row: LocalRow,
-    kd: &[f64],
-    ksub: &[f64],
-    kblocks: &[u8],
-    nk: usize,
-    lo: usize,
-    hi: usize,
-)
-    requires { SumPre nk all row.0 lo hi kblocks.now (length acc.old) (length kpanel.now)
-        (length kd.now) (length ksub.now) }
-    ensures { vec acc.new ≡ with_part (vec acc.old) 0 (hi - lo)
-        (from_row (acc_of all nk kpanel.now kd.now ksub.now kblocks.now
-        row.0) lo) }
-{
-    let s = sum_pairs(acc, kpanel, all, row, kd, ksub, kblocks, nk, lo, hi);
-    if nk <= s {
-        return;
+    if k.nk % 2 == 1 {
+        let last = Elim(k.nk - 1);
+        let v = weight(k, row, last);
+        add_column(acc, k, last, lo, hi, v);
     }
-    let v = weight(kpanel, all, row, kd, ksub, kblocks, Elim(s));
-    add_column(acc, kpanel, all, Elim(s), lo, hi, v);
 }

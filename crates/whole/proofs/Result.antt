@@ -15,7 +15,7 @@ use Rattle.model.specs.Head.{State, Run, refused, done}
 use Rattle.model.specs.Factor.{start, head_run_of, every_from, column_sound, result_check, fails, judged, judged_run, head_answer_of, factor_row_of, mark_of, factor_entry}
 use Rattle.model.specs.declared.Pivoting.{Pivoting}
 use Rattle.model.specs.declared.Refusal.{Refusal}
-use Rattle.model.specs.declared.Check.{Check}
+use Rattle.model.specs.Answer.{Check}
 use Rattle.model.proofs.Cases.{test}
 use Rattle.whole.specs.Whole.{stopped_by, ended, whole_panels_of, cut_state, fell, tail_rows, cut_run, finished}
 use Rattle.whole.proofs.Masked.{within_in, head_at}

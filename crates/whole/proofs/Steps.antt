@@ -20,9 +20,10 @@ use Rattle.model.specs.declared.Pivot.{Pivot}
 use Rattle.model.specs.declared.Choice.{Choice}
 use Rattle.model.specs.declared.Choice.TheVariants as choice
 use Rattle.model.specs.declared.OneSettled.{OneSettled}
-use Rattle.model.specs.declared.OneSettled.TheVariants.{Zero, Number}
 use Rattle.model.specs.declared.TwoSettled.{TwoSettled}
-use Rattle.model.specs.declared.TwoSettled.TheVariants.{Low, OutOfRounds, Numbers}
+use Rattle.model.specs.declared.Unfit.{Unfit}
+use Rattle.model.specs.declared.Unfit.TheVariants.{Low, OutOfRounds}
+use Rattle.std.specs.Prelude.{Option, Some, None, Result, Ok, Err}
 use Rattle.model.proofs.Bounds.{GoodPivot, Good, try-good}
 use Rattle.model.proofs.Cases.{test}
 use Rattle.model.proofs.Exchanged.{exchanged-up, exchanged-past}
@@ -94,18 +95,18 @@ Keeps ke a (refused_by r) = Unit {0}
 Keeps ke a (took v b m) = (i j : ℕ) → Untouched ke i j → b i j ≡ a i j
 
 module _ (ke : ℕ) (a m : Mat) where
-  one-keeps : (k kp : ℕ) (s : OneSettled) → k < ke → Keeps ke a (after_one ke a m k kp s)
-  one-keeps k kp Zero hk = tt
-  one-keeps k kp (Number d lifted amount) hk = λ i j.
-      ⊎_elim (λ h. head_one-up ke k d (exchanged k kp ke a) i j h ∙ exchanged-up k kp ke a i j h)
-      (λ h. head_one-past ke k d (exchanged k kp ke a) i j (omega arith) h ∙ exchanged-past k kp ke a i j h)
+  one-keeps : (k kp : ℕ) (s : Option OneSettled) → k < ke → Keeps ke a (after_one ke a m k kp s)
+  one-keeps k kp None hk = tt
+  one-keeps k kp (Some s) hk = λ i j.
+      ⊎_elim (λ h. head_one-up ke k s.d (exchanged k kp ke a) i j h ∙ exchanged-up k kp ke a i j h)
+      (λ h. head_one-past ke k s.d (exchanged k kp ke a) i j (omega arith) h ∙ exchanged-past k kp ke a i j h)
 
-  two-keeps : (k p kp : ℕ) (s : TwoSettled) → Keeps ke a (after_two ke a m k p kp s)
-  two-keeps k p kp Low = tt
-  two-keeps k p kp OutOfRounds = tt
-  two-keeps k p kp (Numbers b lifted amount rounds) = λ i j.
-      ⊎_elim (λ h. head_two-up ke k b (exchanged (k + 1) kp ke a) i j h ∙ exchanged-up (k + 1) kp ke a i j h)
-      (λ h. head_two-past ke k b (exchanged (k + 1) kp ke a) i j h ∙ exchanged-past (k + 1) kp ke a i j h)
+  two-keeps : (k p kp : ℕ) (s : Result TwoSettled Unfit) → Keeps ke a (after_two ke a m k p kp s)
+  two-keeps k p kp (Err Low) = tt
+  two-keeps k p kp (Err OutOfRounds) = tt
+  two-keeps k p kp (Ok s) = λ i j.
+      ⊎_elim (λ h. head_two-up ke k s.block (exchanged (k + 1) kp ke a) i j h ∙ exchanged-up (k + 1) kp ke a i j h)
+      (λ h. head_two-past ke k s.block (exchanged (k + 1) kp ke a) i j h ∙ exchanged-past (k + 1) kp ke a i j h)
 
 -- what keeps a matrix that was exchanged keeps the matrix
 exchange-keeps : (ke k p : ℕ) (a : Mat) (t : Tried) → Keeps ke (exchanged k p ke a) t → Keeps ke a t

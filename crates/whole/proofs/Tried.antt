@@ -13,9 +13,10 @@ use Rattle.model.specs.declared.Greatest.{Greatest}
 use Rattle.model.specs.declared.Choice.{Choice}
 use Rattle.model.specs.declared.Choice.TheVariants as choice
 use Rattle.model.specs.declared.OneSettled.{OneSettled}
-use Rattle.model.specs.declared.OneSettled.TheVariants.{Zero, Number}
 use Rattle.model.specs.declared.TwoSettled.{TwoSettled}
-use Rattle.model.specs.declared.TwoSettled.TheVariants.{Low, OutOfRounds, Numbers}
+use Rattle.model.specs.declared.Unfit.{Unfit}
+use Rattle.model.specs.declared.Unfit.TheVariants.{Low, OutOfRounds}
+use Rattle.std.specs.Prelude.{Option, Some, None, Result, Ok, Err}
 use Rattle.model.proofs.Bounds.{column-in, Chosen, choose-in}
 use Rattle.whole.specs.Whole.{cut_tried}
 use Rattle.whole.proofs.Masked.{head_at, exchanged-masked, head_one-masked, head_two-masked, kept_one-masked, kept_two-masked}
@@ -50,18 +51,18 @@ module _ (c : ℕ) (a : Mat) (k ke : ℕ) (hk : k < ke) (hc : ke ≤ c) where
 -- ---- the step
 
 module _ (c ke : ℕ) (a m : Mat) (hc : ke ≤ c) where
-  one-tried : (k kp : ℕ) (s : OneSettled) → k < ke → kp < ke → after_one ke (head_of c a) m k kp s ≡ cut_tried c (after_one ke a m k kp s)
-  one-tried k kp Zero hk hp = refl
-  one-tried k kp (Number d lifted amount) hk hp =
+  one-tried : (k kp : ℕ) (s : Option OneSettled) → k < ke → kp < ke → after_one ke (head_of c a) m k kp s ≡ cut_tried c (after_one ke a m k kp s)
+  one-tried k kp None hk hp = refl
+  one-tried k kp (Some s) hk hp =
       let x = exchanged k kp ke a in
-      rw (exchanged-masked c k kp ke a hk hp hc, head_one-masked c ke k d x hk hc, kept_one-masked c ke k x m hc d)
+      rw (exchanged-masked c k kp ke a hk hp hc, head_one-masked c ke k s.d x hk hc, kept_one-masked c ke k x m hc s.d)
 
-  two-tried : (k p kp : ℕ) (s : TwoSettled) → k + 1 < ke → kp < ke → after_two ke (head_of c a) m k p kp s ≡ cut_tried c (after_two ke a m k p kp s)
-  two-tried k p kp Low hk hp = refl
-  two-tried k p kp OutOfRounds hk hp = refl
-  two-tried k p kp (Numbers b lifted amount rounds) hk hp =
+  two-tried : (k p kp : ℕ) (s : Result TwoSettled Unfit) → k + 1 < ke → kp < ke → after_two ke (head_of c a) m k p kp s ≡ cut_tried c (after_two ke a m k p kp s)
+  two-tried k p kp (Err Low) hk hp = refl
+  two-tried k p kp (Err OutOfRounds) hk hp = refl
+  two-tried k p kp (Ok s) hk hp =
       let x = exchanged (k + 1) kp ke a in
-      rw (exchanged-masked c (k + 1) kp ke a hk hp hc, head_two-masked c ke k b x hc, kept_two-masked c ke k x m hc b)
+      rw (exchanged-masked c (k + 1) kp ke a hk hp hc, head_two-masked c ke k s.block x hc, kept_two-masked c ke k x m hc s.block)
 
   single-tried : (mode : Mode) (k kp : ℕ) → k < ke → kp < ke
       → after_one ke (head_of c a) m k kp (settled_one mode (head_of c a kp kp)) ≡ cut_tried c (after_one ke a m k kp (settled_one mode (a kp kp)))

@@ -7,7 +7,7 @@ pub numbers_at-requires : goal.numbers_at-requires
 numbers_at-requires c = search (rules, panel-there)
 
 pub with_buffers-requires : goal.with_buffers-requires
-with_buffers-requires c = search (rules, sizes-pre)
+with_buffers-requires c = sizes-pre _ _ c.requires.stream_value
 
 pub returns : goal.returns
 returns c = search (rules, factor-printed)

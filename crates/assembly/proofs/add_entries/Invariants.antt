@@ -1,7 +1,7 @@
 -- `assembly::add_entries` meets its contract. The invariant: adding the entries from k on to the panel as it is makes what adding them all to the first
--- panel makes. The measure is what is left of the entries. Assumes nothing.
+-- panel makes. Assumes nothing.
 use mathlib.Core.Path.{◌≡◌}
-use Prim.Native.Nat.{◌-◌, ◌≤◌}
+use Prim.Native.Nat.{◌-◌}
 use lib.ListN.{length}
 use Rattle.model.specs.Matrix.{view, vec, naturals}
 use Rattle.model.specs.Assembly.{assembled_from}
@@ -9,9 +9,6 @@ use Rattle.assembly.proofs.add_entries.Given as goal
 
 abbrev pub invariant-loop-k : goal.invariant-loop-k
 invariant-loop-k l =
-    (l.k ≤ length l.rows) × (length l.panel ≡ length l.initial.panel)
-    × (assembled_from (naturals l.rows) (naturals l.cols) (vec l.numbers) (length l.rows - l.k) l.k (view l.nrow l.panel)
-    ≡ assembled_from (naturals l.rows) (naturals l.cols) (vec l.numbers) (length l.rows) 0 (view l.nrow l.initial.panel))
-
-abbrev pub decreases-loop-k : goal.decreases-loop-k
-decreases-loop-k l = length l.rows - l.k
+    (length l.panel ≡ length l.initial.panel)
+    × (assembled_from (naturals l.rows) (naturals l.columns) (vec l.numbers) (length l.rows - l.k) l.k (view l.nrow l.panel)
+    ≡ assembled_from (naturals l.rows) (naturals l.columns) (vec l.numbers) (length l.rows) 0 (view l.nrow l.initial.panel))

@@ -1,14 +1,10 @@
 -- `assembly::entries_sound` meets its contract: the definition by its tests. Assumes nothing.
 use Rattle.model.specs.Assembly.{entries_sound}
-use Rattle.checks.proofs.Shape.{area-of-shape}
 use Rattle.assembly.proofs.entries_sound.Goals as goal
 
 pub returns-then-not-shape_sound : goal.returns-then-not-shape_sound
 unfolding entries_sound
 returns-then-not-shape_sound c = rw (← c.shape_sound.ensures, c.if-not-shape_sound.true)
-
-pub overflow_mul-result : goal.overflow_mul-result
-overflow_mul-result c = search area-of-shape
 
 pub returns : goal.returns
 unfolding entries_sound

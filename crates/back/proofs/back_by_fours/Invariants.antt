@@ -1,6 +1,6 @@
--- `back::back_by_fours` meets its contract. The invariant: taking the first 4·f positions back makes what taking all 4·q of them makes; the measure is f.
+-- `back::back_by_fours` meets its contract. The invariant: taking the first 4·f positions back makes what taking all 4·q of them makes.
 -- Assumes nothing.
-use Prim.Native.Nat.{◌*◌, ◌≤◌}
+use Prim.Native.Nat.{◌*◌}
 use mathlib.Core.Path.{◌≡◌}
 use lib.ListN.{length}
 use Rattle.model.specs.Matrix.{view, vec, naturals}
@@ -9,9 +9,5 @@ use Rattle.back.proofs.back_by_fours.Given as goal
 
 abbrev pub invariant-loop-f : goal.invariant-loop-f
 invariant-loop-f l =
-    (l.f ≤ l.q) × (length l.x ≡ length l.initial.x)
-    × (steps_back (naturals l.blocks) (view (length l.initial.x) l.panel) (length l.initial.x) (4 * l.f) 0 (vec l.x)
-    ≡ steps_back (naturals l.blocks) (view (length l.initial.x) l.panel) (length l.initial.x) (4 * l.q) 0 (vec l.initial.x))
-
-abbrev pub decreases-loop-f : goal.decreases-loop-f
-decreases-loop-f l = l.f
+    steps_back (naturals l.blocks) (view (length l.initial.x) l.panel) (length l.initial.x) (4 * l.f) 0 (vec l.x)
+    ≡ steps_back (naturals l.blocks) (view (length l.initial.x) l.panel) (length l.initial.x) (4 * l.q) 0 (vec l.initial.x)

@@ -1,6 +1,6 @@
--- `back::back_by_ones` meets its contract. The invariant: taking the positions before k back makes what taking all of them makes; the measure is what is left.
+-- `back::back_by_ones` meets its contract. The invariant: taking the positions before k back makes what taking all of them makes.
 -- Assumes nothing.
-use Prim.Native.Nat.{◌-◌, ◌≤◌}
+use Prim.Native.Nat.{◌-◌}
 use mathlib.Core.Path.{◌≡◌}
 use lib.ListN.{length}
 use Rattle.model.specs.Matrix.{view, vec, naturals}
@@ -9,9 +9,5 @@ use Rattle.back.proofs.back_by_ones.Given as goal
 
 abbrev pub invariant-loop-k : goal.invariant-loop-k
 invariant-loop-k l =
-    (l.k ≤ l.n) × (length l.x ≡ length l.initial.x)
-    × (steps_back (naturals l.blocks) (view (length l.initial.x) l.panel) (length l.initial.x) (l.k - l.s) l.s (vec l.x)
-    ≡ steps_back (naturals l.blocks) (view (length l.initial.x) l.panel) (length l.initial.x) (length l.initial.x - l.s) l.s (vec l.initial.x))
-
-abbrev pub decreases-loop-k : goal.decreases-loop-k
-decreases-loop-k l = l.k - l.s
+    steps_back (naturals l.blocks) (view (length l.initial.x) l.panel) (length l.initial.x) (l.k - l.s) l.s (vec l.x)
+    ≡ steps_back (naturals l.blocks) (view (length l.initial.x) l.panel) (length l.initial.x) (length l.initial.x - l.s) l.s (vec l.initial.x)

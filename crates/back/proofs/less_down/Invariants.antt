@@ -1,5 +1,4 @@
--- `back::less_down` meets its contract. The invariant: the rows from i on before hi are taken; the measure is i.
--- Assumes nothing.
+-- `back::less_down` meets its contract. The invariant: the rows from i on before hi are taken. Assumes nothing.
 use Prim.Native.Nat.{◌-◌, ◌≤◌}
 use mathlib.Core.Path.{◌≡◌}
 use lib.ListN.{length}
@@ -9,7 +8,4 @@ use Rattle.back.proofs.less_down.Given as goal
 
 abbrev pub invariant-loop-i : goal.invariant-loop-i
 invariant-loop-i l =
-    (l.i ≤ l.hi) × (l.past ≤ l.i) × (l.s ≡ fallen (naturals l.blocks) (view (length l.x) l.panel) (vec l.x) l.k (l.hi - l.i) l.i l.v)
-
-abbrev pub decreases-loop-i : goal.decreases-loop-i
-decreases-loop-i l = l.i
+    (l.past ≤ l.i) × (l.s ≡ fallen (naturals l.blocks) (view (length l.x) l.panel) (vec l.x) l.k (l.hi - l.i) l.i l.v)

@@ -11,7 +11,7 @@ pub returns-then-not-byte_sound : goal.returns-then-not-byte_sound
 returns-then-not-byte_sound c = search first-bad
 
 pub loop-k-preserved : goal.loop-k-preserved
-loop-k-preserved c = (search rules, search first_step)
+loop-k-preserved c = search first_step
 
 pub returns : goal.returns
 returns c = search first-end

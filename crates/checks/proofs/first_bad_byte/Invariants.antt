@@ -1,7 +1,6 @@
--- `checks::first_bad_byte` meets its contract. The invariant: the scan from k on finds what the whole scan finds. The measure is what is left.
--- Assumes nothing.
+-- `checks::first_bad_byte` meets its contract. The invariant: the scan from k on finds what the whole scan finds. Assumes nothing.
 use mathlib.Core.Path.{◌≡◌}
-use Prim.Native.Nat.{◌-◌, ◌≤◌}
+use Prim.Native.Nat.{◌-◌}
 use lib.ListN.{length}
 use Rattle.model.specs.Matrix.{naturals}
 use Rattle.model.specs.Assembly.{first_not}
@@ -10,8 +9,4 @@ use Rattle.checks.proofs.Bytes.{byte_at}
 use Rattle.checks.proofs.first_bad_byte.Given as goal
 
 abbrev pub invariant-loop-k : goal.invariant-loop-k
-invariant-loop-k l =
-    (l.k ≤ length l.blocks) × (first_not (byte_sound (naturals l.blocks) (length l.blocks)) byte_at (length l.blocks - l.k) l.k ≡ check_bytes l.blocks)
-
-abbrev pub decreases-loop-k : goal.decreases-loop-k
-decreases-loop-k l = length l.blocks - l.k
+invariant-loop-k l = first_not (byte_sound (naturals l.blocks) (length l.blocks)) byte_at (length l.blocks - l.k) l.k ≡ check_bytes l.blocks

@@ -1,17 +1,17 @@
 -- What `deferred::defer_columns` owes. Assumes nothing.
-use Prim.Native.Nat.{◌-◌}
-use Rattle.deferred.proofs.Parts.{columns-still, rows_none, rows_step, rows_end}
+use Rattle.deferred.proofs.Parts.{rows_none, rows_step}
 use borrow.Author.Rules.{rules}
 use Rattle.deferred.proofs.defer_columns.Goals as goal
 
 pub loop-lo-init : goal.loop-lo-init
-loop-lo-init c = (search rules, search rules, search rules, search rows_none)
-
-pub defer_rows-requires : goal.defer_rows-requires
-defer_rows-requires c = record { columns_pre = search columns-still; rows_pre = search rules }
+loop-lo-init c = (search rules, search rules, search rows_none)
 
 pub loop-lo-preserved : goal.loop-lo-preserved
-loop-lo-preserved c = (search rules, search rules, search rules, search rows_step)
+loop-lo-preserved c = (
+  search rules,
+  search rules,
+  rows_step _ _ _ _ _ _ _ _ _ _ _ _ _ c.requires (search rules) (search rules) (search rules) c.loop-lo.invariant.2 c.defer_rows.ensures,
+)
 
-pub returns : goal.returns
-returns c = search rows_end
+pub returns-2 : goal.returns-2
+returns-2 c = rows_step _ _ _ _ _ _ _ _ _ _ _ _ _ c.requires (search rules) (search rules) (search rules) c.loop-lo.invariant.2 c.defer_rows.ensures

@@ -1,10 +1,7 @@
 -- `deferred::deferred_update` meets its contract: the products, then the later columns. Assumes nothing.
-use Rattle.deferred.proofs.Rows.{update-products, update-whole}
+use Rattle.deferred.proofs.Rows.{update-whole}
 use borrow.Author.Rules.{rules}
 use Rattle.deferred.proofs.deferred_update.Goals as goal
-
-pub products-requires : goal.products-requires
-products-requires c = search update-products
 
 pub returns : goal.returns
 returns c = record { panel_after = search update-whole; g_after = search rules }

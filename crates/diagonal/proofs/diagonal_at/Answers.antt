@@ -1,9 +1,6 @@
 -- `diagonal::diagonal_at` meets its contract: the definition by its test. Assumes nothing.
-use Rattle.diagonal.proofs.Laws.{block-pre, two_at, one_at}
+use Rattle.diagonal.proofs.Laws.{two_at, one_at}
 use Rattle.diagonal.proofs.diagonal_at.Goals as goal
-
-pub block_at-requires : goal.block_at-requires
-block_at-requires c = search block-pre
 
 pub returns-then-block_begins : goal.returns-then-block_begins
 returns-then-block_begins c = search two_at

@@ -1,7 +1,7 @@
 -- What `exchange::exchange_cross` owes. Assumes nothing.
 use native.Mathlib.Nat.{mul-le-mul_right}
 use native.Mathlib.Omega.{arith}
-use Rattle.exchange.proofs.Parts.{cross-none, cross-step, cross-end}
+use Rattle.exchange.proofs.Parts.{cross-none, cross-step}
 use borrow.Author.Rules.{rules}
 use Rattle.exchange.proofs.exchange_cross.Goals as goal
 
@@ -10,6 +10,3 @@ loop-i-init c = (omega arith, omega arith, mul-le-mul_right _ (omega arith), ome
 
 pub loop-i-preserved : goal.loop-i-preserved
 loop-i-preserved c = (omega arith, omega arith, mul-le-mul_right _ (omega arith), search rules, search cross-step)
-
-pub returns : goal.returns
-returns c = search (rules, cross-end)

@@ -1,5 +1,5 @@
--- `exchange::exchange_cross` meets its contract. The invariant: the pairs before i are exchanged. The measure is what is left. Assumes nothing.
-use Prim.Native.Nat.{◌+◌, ◌-◌, ◌*◌, ◌≤◌}
+-- `exchange::exchange_cross` meets its contract. The invariant: the pairs before i are exchanged. Assumes nothing.
+use Prim.Native.Nat.{◌+◌, ◌*◌, ◌≤◌}
 use mathlib.Core.Path.{◌≡◌}
 use lib.ListN.{length}
 use Rattle.model.specs.Matrix.{view}
@@ -8,8 +8,5 @@ use Rattle.exchange.proofs.exchange_cross.Given as goal
 
 abbrev pub invariant-loop-i : goal.invariant-loop-i
 invariant-loop-i l =
-    (l.p.0 + 1 ≤ l.i) × (l.i ≤ l.q.0) × (l.i * l.nrow ≤ l.q.0 * l.nrow) × (length l.panel ≡ length l.initial.panel)
-    × (view l.nrow l.panel ≡ cross_exchanged (view l.nrow l.initial.panel) l.p.0 l.q.0 (l.p.0 + 1) l.i)
-
-abbrev pub decreases-loop-i : goal.decreases-loop-i
-decreases-loop-i l = l.q.0 - l.i
+    (l.fn.p.0 + 1 ≤ l.i) × (l.i ≤ l.q.0) × (l.i * l.nrow ≤ l.q.0 * l.nrow) × (length l.panel ≡ length l.initial.panel)
+    × (view l.nrow l.panel ≡ cross_exchanged (view l.nrow l.initial.panel) l.fn.p.0 l.q.0 (l.fn.p.0 + 1) l.i)

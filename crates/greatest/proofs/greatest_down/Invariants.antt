@@ -1,6 +1,6 @@
 -- `greatest::greatest_down` meets its contract. The invariant: what is left of the scan, on top of the best so far, is the whole of it.
--- The measure is what is left. Assumes nothing.
-use Prim.Native.Nat.{◌-◌, ◌≤◌}
+-- Assumes nothing.
+use Prim.Native.Nat.{◌≤◌}
 use mathlib.Core.Path.{◌≡◌}
 use Rattle.model.specs.Matrix.{view}
 use Rattle.greatest.specs.Greatest.{greatest_down}
@@ -9,6 +9,3 @@ use Rattle.greatest.proofs.greatest_down.Given as goal
 abbrev pub invariant-loop-i : goal.invariant-loop-i
 invariant-loop-i l =
     (l.lo ≤ l.i) × (l.i ≤ l.hi) × (greatest_down (view l.nrow l.panel) l.column l.i l.hi l.g ≡ greatest_down (view l.nrow l.panel) l.column l.lo l.hi l.initial.g)
-
-abbrev pub decreases-loop-i : goal.decreases-loop-i
-decreases-loop-i l = l.hi - l.i

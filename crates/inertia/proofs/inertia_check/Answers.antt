@@ -2,10 +2,10 @@
 use Rattle.model.specs.Inertia.{inertia_check}
 use Rattle.inertia.proofs.inertia_check.Goals as goal
 
-pub returns-then-not-sub-n : goal.returns-then-not-sub-n
+pub returns-then-not-x-n : goal.returns-then-not-x-n
 unfolding inertia_check
-returns-then-not-sub-n c = rw c.if-not-sub-n.true
+returns-then-not-x-n c = rw c.if-not-x-n.true
 
 pub returns : goal.returns
 unfolding inertia_check
-returns c = rw c.if-not-sub-n.false c.first_bad_byte.ensures
+returns c = rw c.if-not-x-n.false c.first_bad_byte.ensures

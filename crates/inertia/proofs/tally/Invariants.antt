@@ -10,8 +10,10 @@ use Rattle.inertia.proofs.tally.Given as goal
 
 abbrev pub invariant-loop-k : goal.invariant-loop-k
 invariant-loop-k l =
-    (l.k ≤ length l.d) × (total l.t ≡ l.k)
-    × (tallied_from (vec l.d) (vec l.sub) (naturals l.blocks) (length l.d) (length l.d - l.k) l.k l.t ≡ tallied_of (length l.d) (vec l.d) (vec l.sub) (naturals l.blocks))
+    let d = l.x.d.now in
+    let sub = vec l.x.sub.now in
+    let blocks = naturals l.x.blocks.now in
+    (l.k ≤ length d) × (total l.t ≡ l.k) × (tallied_from (vec d) sub blocks (length d) (length d - l.k) l.k l.t ≡ tallied_of (length d) (vec d) sub blocks)
 
 abbrev pub decreases-loop-k : goal.decreases-loop-k
-decreases-loop-k l = length l.d - l.k
+decreases-loop-k l = length l.x.d.now - l.k

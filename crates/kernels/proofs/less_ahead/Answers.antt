@@ -1,26 +1,42 @@
 -- What `kernels::less_ahead` owes. Assumes nothing.
-use Prim.Native.Nat.{◌+◌, ◌≤◌}
-use mathlib.Core.Path.{◌≡◌}
-use lib.ListN.{length}
-use Rattle.kernels.specs.Rules.{pick, less_all}
-use Rattle.kernels.proofs.Rules.{from-none, less-step, pick-each, from_end}
+use native.Mathlib.Omega.{arith}
+use native.Mathlib.Nat.{le_antisymm}
+use native.Mathlib.Numerals.{add-one}
+use mathlib.Core.Path.{◌≡◌, refl}
+use Rattle.model.specs.Matrix.{vec, naturals}
+use Rattle.kernels.specs.Rules.{less_all}
+use Rattle.kernels.proofs.Rules.{from-none, less-step}
 use borrow.Author.Rules.{rules}
 use Rattle.kernels.proofs.less_ahead.Goals as goal
 
 pub loop-i-init : goal.loop-i-init
-loop-i-init c = search (rules, from-none)
+loop-i-init g c = search (rules, from-none)
+
+pub loop-u-init : goal.loop-u-init
+unfolding less_all
+loop-u-init g c = refl
+
+pub overflow_add-y-in-loop-u : goal.overflow_add-y-in-loop-u
+unfolding naturals
+overflow_add-y-in-loop-u g c = let run = c.requires.apart c.loop-u.u c.loop-u-test.true in search rules
+
+pub offset_bounds-x-at : goal.offset_bounds-x-at
+unfolding naturals
+offset_bounds-x-at g c = let run = c.requires.apart c.loop-u.u c.loop-u-test.true in search rules
+
+pub bounds-x-at : goal.bounds-x-at
+unfolding naturals
+bounds-x-at g c = let run = c.requires.apart c.loop-u.u c.loop-u-test.true in search rules
+
+pub loop-u-preserved : goal.loop-u-preserved
+unfolding less_all naturals vec
+loop-u-preserved g c = rw (add-one c.loop-u.u) (rw c.loop-u.invariant)
 
 pub loop-i-preserved : goal.loop-i-preserved
-unfolding less_all pick
-loop-i-preserved c = let g = c.args in
-    let i = c.loop-i.i in (
+loop-i-preserved g c = let i = c.loop-i.i in
+    let done : c.loop-u.u ≡ g.row.N = le_antisymm c.loop-u.auto.u-end (omega arith) in (
       search rules,
       search rules,
-      less-step 1 _ c.loop-i.x g.q i g.n (length g.x.now) (pick 0 0 0 0) (pick i i i i)
-          (pick g.m g.m g.m g.m) (search rules)
-          (pick-each (λ t z. (t ≡ z + i) × (z + g.n ≤ g.q)) _ _ _ _ 0 0 0 0 (search rules) (search rules) (search rules) (search rules))
-          (search rules) (search rules) (search rules),
+      less-step g.row.N _ c.loop-i.x c.args.q i c.args.n _ (naturals c.args.at) (vec c.args.m) c.loop-u.y
+          (search rules) c.requires.apart c.requires.out c.loop-i.invariant.1 c.loop-i.invariant.2 (rw done at c.loop-u.invariant),
     )
-
-pub returns : goal.returns
-returns c = search (rules, from_end)

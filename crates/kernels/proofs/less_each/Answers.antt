@@ -1,5 +1,4 @@
 -- What `kernels::less_each` owes. Assumes nothing.
-use Rattle.kernels.proofs.Laws.{with_part-end}
 use Rattle.kernels.proofs.Rules.{rule-none, less-each-step}
 use borrow.Author.Rules.{rules}
 use Rattle.kernels.proofs.less_each.Goals as goal
@@ -9,6 +8,3 @@ loop-i-init c = search (rules, rule-none)
 
 pub loop-i-preserved : goal.loop-i-preserved
 loop-i-preserved c = search (rules, less-each-step)
-
-pub returns : goal.returns
-returns c = search (rules, with_part-end)

@@ -1,5 +1,5 @@
--- `kernels::plus` meets its contract. The invariant: the places before i are done by the rule; the measure is what is left. Assumes nothing.
-use Prim.Native.Nat.{◌≤◌, ◌-◌}
+-- `kernels::plus` meets its contract. The invariant: the places before i are done by the rule. Assumes nothing.
+use Prim.Native.Nat.{◌≤◌}
 use mathlib.Core.Path.{◌≡◌}
 use lib.ListN.{length}
 use Rattle.model.specs.Matrix.{vec, with_part}
@@ -8,6 +8,3 @@ use Rattle.kernels.proofs.plus.Given as goal
 
 abbrev pub invariant-loop-i : goal.invariant-loop-i
 invariant-loop-i l = (l.i ≤ l.n) × (length l.x ≡ length l.initial.x) × (vec l.x ≡ with_part (vec l.initial.x) 0 l.i (plus_times (vec l.initial.x) (vec l.g) l.l))
-
-abbrev pub decreases-loop-i : goal.decreases-loop-i
-decreases-loop-i l = l.n - l.i

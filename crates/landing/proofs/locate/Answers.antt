@@ -1,43 +1,29 @@
 -- What `landing::locate` owes. Assumes nothing.
-use mathlib.Core.Path.{◌≡◌}
-use Prim.Native.Nat.{ℕ, ◌+◌, ◌-◌}
+use mathlib.Core.Path.{refl}
+use Prim.Native.Nat.{◌+◌}
 use native.Mathlib.Omega.{arith}
 use lib.ListN.{length, set}
 use Rattle.model.specs.Matrix.{naturals}
-use Rattle.landing.proofs.Order.{Locating, locating-none, locating-step, locating-bad, locating-end, locating-all}
-use borrow.Author.Rules.{rules}
+use Rattle.landing.proofs.Order.{Locating, locating-step, locating-bad, locating-end}
+use Rattle.landing.proofs.locate.Goals.{In-Some}
 use Rattle.landing.proofs.locate.Goals as goal
 
 -- a turn that goes on keeps the invariant
-step : (c : goal.Else-p-rows)
+step : (c : In-Some)
     → Locating c.args.rows.now c.args.krows.now c.args.start (length c.args.places.now)
-    (set c.loop-i.places c.loop-i.i c.local_row-place.result.0) (c.local_row-place.result.0 + 1) (c.loop-i.i + 1)
+    (set c.loop-i.places c.loop-i.i c.in-Some.found.0) (c.in-Some.found.0 + 1) (c.loop-i.i + 1)
 unfolding naturals
 step c =
-    locating-step _ _ _ _ _ c.requires _ _ _ c.loop-i.invariant c.loop-i-test.true c.local_row-place.ensures
-    c.if-p-rows.false
+    locating-step _ _ _ _ _ c.requires _ _ _ c.loop-i.invariant c.loop-i-test.true c.in-Some.ensures.place
+    (λ x. omega (arith, c.in-Some.ensures.inside))
 
-pub loop-i-init : goal.loop-i-init
-loop-i-init c = search (rules, locating-none)
-
-pub returns-then-p-rows : goal.returns-then-p-rows
+pub returns-in_default-clause-value : goal.returns-in_default-clause-value
 unfolding naturals
-returns-then-p-rows c = record {
-  value = locating-bad _ _ _ _ _ c.requires _ _ _ c.loop-i.invariant c.loop-i-test.true c.local_row-place.ensures c.if-p-rows.true;
-  located = λ e. absurd (let z : ◌≡◌ {A = ℕ} 0 1 = cc in omega arith);
-}
-
-pub overflow_cast-places : goal.overflow_cast-places
-overflow_cast-places c = omega (arith, (step c).next, c.requires.few)
-
-pub overflow_add-from : goal.overflow_add-from
-overflow_add-from c = omega (arith, (step c).next)
+returns-in_default-clause-value c =
+    locating-bad _ _ _ _ _ c.requires _ _ _ c.loop-i.invariant c.loop-i-test.true c.in_default.ensures.place refl
 
 pub loop-i-preserved : goal.loop-i-preserved
-loop-i-preserved c = step c
+loop-i-preserved c = step (goal.at.loop-i-preserved c).In-Some
 
-pub returns : goal.returns
-returns c = record {
-  value = locating-end _ _ _ _ _ c.requires _ _ c.loop-i.invariant c.loop-i-test.false;
-  located = λ e. locating-all _ _ _ _ _ c.requires _ _ c.loop-i.invariant c.loop-i-test.false;
-}
+pub returns-clause-value : goal.returns-clause-value
+returns-clause-value c = locating-end _ _ _ _ _ c.requires _ _ c.loop-i.invariant c.loop-i-test.false

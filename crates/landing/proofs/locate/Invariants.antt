@@ -1,12 +1,7 @@
--- `landing::locate` meets its contract. The invariant: `Locating` of Order.antt. The measure is what is left of the descendant's rows.
--- Assumes nothing.
-use Prim.Native.Nat.{◌-◌}
+-- `landing::locate` meets its contract. The invariant: `Locating` of Order.antt. Assumes nothing.
 use lib.ListN.{length}
 use Rattle.landing.proofs.Order.{Locating}
 use Rattle.landing.proofs.locate.Given as goal
 
 abbrev pub invariant-loop-i : goal.invariant-loop-i
 invariant-loop-i l = Locating l.rows l.krows l.start (length l.initial.places) l.places l.from l.i
-
-abbrev pub decreases-loop-i : goal.decreases-loop-i
-decreases-loop-i l = length l.krows - l.i

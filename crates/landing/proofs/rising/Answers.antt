@@ -1,17 +1,10 @@
--- What `landing::rising` owes. Assumes nothing.
-use Prim.Native.Nat.{◌-◌}
-use Rattle.landing.proofs.Scans.{every-none, every-step, every-bad, every-end}
+-- `landing::rising` meets its contract: std's test of each row and the next is the definition's. Assumes nothing.
+use lib.Dec.{ltb}
 use borrow.Author.Rules.{rules}
+use borrow.Author.Tests.{tests}
+use Rattle.std.proofs.lemmas.List.Sorted.{answers_always}
+use Rattle.landing.proofs.Order.{rising-says}
 use Rattle.landing.proofs.rising.Goals as goal
 
-pub loop-i-init : goal.loop-i-init
-loop-i-init c = search (rules, every-none)
-
-pub returns-then-not-rises_at : goal.returns-then-not-rises_at
-returns-then-not-rises_at c = search every-bad
-
-pub loop-i-preserved : goal.loop-i-preserved
-loop-i-preserved c = (search rules, search every-step)
-
 pub returns : goal.returns
-returns c = search every-end
+returns c = rising-says _ _ (c.is_sorted_by.ensures.cases ltb (answers_always _ _ _ (λ f a r g k. search (rules, tests))))

@@ -1,11 +1,6 @@
 -- `lines::put_mark` meets its contract: nothing for a head row, a field for a tail row. Assumes nothing.
-use native.Mathlib.Omega.{arith}
-use Rattle.lines.proofs.Laws.{mark-none, mark-some}
-use borrow.Author.Rules.{rules}
+use Rattle.lines.proofs.Laws.{mark-some}
 use Rattle.lines.proofs.put_mark.Goals as goal
 
-pub returns-then-i-ncol : goal.returns-then-i-ncol
-returns-then-i-ncol c = record { writes = search (rules, mark-none); upper_bound = omega arith }
-
-pub returns : goal.returns
-returns c = record { writes = search (rules, mark-some); upper_bound = omega arith }
+pub returns-then-i-left-clause-writes : goal.returns-then-i-left-clause-writes
+returns-then-i-left-clause-writes c = mark-some _ _ _ _ _ c.if-i-left.true c.from.ensures c.put_field.ensures.writes

@@ -1,14 +1,10 @@
--- What `lines::put_pivots` owes. Assumes nothing.
-use Prim.Native.Nat.{◌-◌}
-use Rattle.lines.proofs.Laws.{each_none, pivots-step, each-end}
-use borrow.Author.Rules.{rules}
+-- What `lines::put_pivots` owes at its loop. Assumes nothing.
+use native.Mathlib.Omega.{arith}
+use Rattle.lines.proofs.Laws.{each_none, each_step}
 use Rattle.lines.proofs.put_pivots.Goals as goal
 
 pub loop-k-init : goal.loop-k-init
-loop-k-init c = search (rules, each_none)
+loop-k-init c = record { text = each_none _ _; room = omega arith }
 
 pub loop-k-preserved : goal.loop-k-preserved
-loop-k-preserved c = search (rules, pivots-step)
-
-pub returns : goal.returns
-returns c = record { writes = search (rules, each-end); upper_bound = search rules }
+loop-k-preserved c = record { text = each_step _ _ _ _ c.loop-k.invariant.text c.put_pivot.ensures.writes; room = omega arith }

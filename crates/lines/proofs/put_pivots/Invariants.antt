@@ -1,12 +1,11 @@
--- `lines::put_pivots` meets its contract.
--- The invariant: the first k lines stand from `at` on, in at most 120 bytes each. Assumes nothing.
-use mathlib.Core.Path.{◌≡◌}
-use Prim.Native.Nat.{◌+◌, ◌*◌, ◌-◌, ◌≤◌}
-use lib.ListN.{length}
-use Rattle.text.specs.Text.{Writes}
-use Rattle.lines.specs.Lines.{each, pivot_at}
+-- `lines::put_pivots` meets its contract. The invariant: the first k lines stand after what was there, in at most 120 bytes each. Assumes nothing.
+use Rattle.std.proofs.Common.{◌≡◌, ◌++◌, ◌+◌, ◌*◌, ◌≤◌, length}
+use Rattle.lines.specs.Lines.{each, pivot_of}
+use Rattle.lines.specs.Left.{left_in}
 use Rattle.lines.proofs.put_pivots.Given as goal
 
 abbrev pub invariant-loop-k : goal.invariant-loop-k
-invariant-loop-k l =
-    (l.k ≤ l.k-end) × (l.k-end ≡ length l.d) × (length l.out ≡ length l.initial.out) × (l.end ≤ l.at + 120 * l.k) × Writes l.initial.out l.at (each (pivot_at l.d l.sub l.blocks l.lifts l.amounts) l.k) l.out l.end
+invariant-loop-k l = record {
+  text : l.out ≡ l.initial.out ++ each (pivot_of (left_in l.left)) l.k;
+  room : length l.out ≤ length l.initial.out + 120 * l.k;
+}

@@ -1,14 +1,10 @@
--- What `lines::put_places` owes. Assumes nothing.
-use Prim.Native.Nat.{◌-◌}
-use Rattle.lines.proofs.Laws.{each_none, places-step, each-end}
-use borrow.Author.Rules.{rules}
+-- What `lines::put_places` owes at its loop. Assumes nothing.
+use native.Mathlib.Omega.{arith}
+use Rattle.lines.proofs.Laws.{each_none, places-step}
 use Rattle.lines.proofs.put_places.Goals as goal
 
-pub loop-i-init : goal.loop-i-init
-loop-i-init c = search (rules, each_none)
+pub loop-place-init : goal.loop-place-init
+loop-place-init c = record { text = each_none _ _; room = omega arith }
 
-pub loop-i-preserved : goal.loop-i-preserved
-loop-i-preserved c = search (rules, places-step)
-
-pub returns : goal.returns
-returns c = record { writes = search (rules, each-end); upper_bound = search rules }
+pub loop-place-preserved : goal.loop-place-preserved
+loop-place-preserved c = record { text = places-step _ _ _ _ c.loop-place.invariant.text c.put_field.ensures.writes; room = omega arith }

@@ -1,14 +1,10 @@
--- What `lines::put_rows` owes. Assumes nothing.
-use Prim.Native.Nat.{◌-◌}
-use Rattle.lines.proofs.Laws.{each_none, each_step, each-end}
-use borrow.Author.Rules.{rules}
+-- What `lines::put_rows` owes at its loop. Assumes nothing.
+use native.Mathlib.Omega.{arith}
+use Rattle.lines.proofs.Laws.{each_none, each_step}
 use Rattle.lines.proofs.put_rows.Goals as goal
 
 pub loop-i-init : goal.loop-i-init
-loop-i-init c = search (rules, each_none)
+loop-i-init c = record { text = each_none _ _; room = omega arith }
 
 pub loop-i-preserved : goal.loop-i-preserved
-loop-i-preserved c = search (rules, each_step)
-
-pub returns : goal.returns
-returns c = record { writes = search (rules, each-end); upper_bound = search rules }
+loop-i-preserved c = record { text = each_step _ _ _ _ c.loop-i.invariant.text c.put_row.ensures.writes; room = omega arith }

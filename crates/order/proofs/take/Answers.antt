@@ -1,6 +1,4 @@
 -- What `order::take` owes. Assumes nothing.
-use Prim.Native.Nat.{◌-◌}
-use Rattle.kernels.proofs.Laws.{with_part-end}
 use Rattle.kernels.proofs.Rules.{rule-none}
 use Rattle.order.proofs.Laws.{row-there, take_step}
 use borrow.Author.Rules.{rules}
@@ -16,7 +14,4 @@ pub bounds-vector-row : goal.bounds-vector-row
 bounds-vector-row c = search (rules, row-there)
 
 pub loop-k-preserved : goal.loop-k-preserved
-loop-k-preserved c = (search rules, search rules, search (rules, take_step))
-
-pub returns : goal.returns
-returns c = search (rules, with_part-end)
+loop-k-preserved c = search (rules, take_step)

@@ -1,10 +1,14 @@
--- `pairs::last_column` meets its contract, for a block and for a 1x1. Assumes nothing.
-use mathlib.Core.Path.{sym}
-use Rattle.model.proofs.Recorded.{last_block, last-single}
+-- `pairs::last_column` meets its contract: a block's second column is one further. Assumes nothing.
+use mathlib.Core.Path.{◌≡◌, refl, ◌∙◌}
+use mathlib.Core.Bool.{Bool, true, false}
+use Rattle.std.specs.Int.{from_bool}
+use Rattle.model.specs.Head.{last_of}
 use Rattle.pairs.proofs.last_column.Goals as goal
 
-pub returns-then-block : goal.returns-then-block
-returns-then-block c = sym (last_block 0 _ c.if-block.true)
+last_byte : (b : Bool) → from_bool b ≡ last_of 0 b
+unfolding last_of
+last_byte true = refl
+last_byte false = refl
 
 pub returns : goal.returns
-returns c = sym (last-single 0 _ c.if-block.false)
+returns c = c.from.ensures ∙ last_byte _

@@ -1,7 +1,7 @@
 -- What `pairs::sweep_both` owes. Assumes nothing.
 use mathlib.Core.Path.{refl}
 use native.Mathlib.Omega.{arith}
-use Rattle.swept.proofs.Sweeps.{placed, both-none, both_end}
+use Rattle.swept.proofs.Sweeps.{placed, both-none}
 use Rattle.swept.proofs.Several.{both-join}
 use borrow.Author.Rules.{rules}
 use Rattle.pairs.proofs.sweep_both.Goals as goal
@@ -19,6 +19,3 @@ loop-j-preserved c = let inv = c.loop-j.invariant in
       both-join _ _ _ _ _ _ _ _ _ _ _ _ _ _ _ (omega (arith, pre.next)) (omega (arith, pre.last)) inv.0 (search rules) inv.3
           c.sweep_next-j.ensures.part_after,
     )
-
-pub returns : goal.returns
-returns c = search (rules, both_end)

@@ -3,11 +3,11 @@ use Rattle.scan.proofs.Finite.{all_none, all-step, all_end}
 use borrow.Author.Rules.{rules}
 use Rattle.scan.proofs.all_finite.Goals as goal
 
-pub loop-i-init : goal.loop-i-init
-loop-i-init c = search (rules, all_none)
+pub loop-x-init : goal.loop-x-init
+loop-x-init c = search (rules, all_none)
 
-pub loop-i-preserved : goal.loop-i-preserved
-loop-i-preserved c = search (rules, all-step)
+pub loop-x-preserved : goal.loop-x-preserved
+loop-x-preserved c = search (rules, all-step)
 
 pub returns : goal.returns
 returns c = search (rules, all_end)

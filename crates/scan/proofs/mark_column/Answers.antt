@@ -1,5 +1,5 @@
 -- What `scan::mark_column` owes. Assumes nothing.
-use Rattle.scan.proofs.Marks.{part_none, part_step, part_end}
+use Rattle.scan.proofs.Marks.{part_none, part_step}
 use borrow.Author.Rules.{rules}
 use Rattle.scan.proofs.mark_column.Goals as goal
 
@@ -8,6 +8,3 @@ loop-i-init c = search (rules, part_none)
 
 pub loop-i-preserved : goal.loop-i-preserved
 loop-i-preserved c = search (rules, part_step)
-
-pub returns : goal.returns
-returns c = search (rules, part_end)

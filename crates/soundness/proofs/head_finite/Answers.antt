@@ -1,10 +1,6 @@
 -- `soundness::head_finite` meets its contract: a panel that is known to be finite has no other column. Assumes nothing.
-use Rattle.soundness.proofs.Result.{column-down, column-known}
-use borrow.Author.Rules.{rules}
+use Rattle.soundness.proofs.Result.{column-known}
 use Rattle.soundness.proofs.head_finite.Goals as goal
 
-pub returns-then-finite : goal.returns-then-finite
-returns-then-finite c = search (rules, column-known)
-
-pub column_finite-requires : goal.column_finite-requires
-column_finite-requires c = search (rules, column-down)
+pub returns-then-s : goal.returns-then-s
+returns-then-s c = column-known _ _ _ _ _ _ c.args.s.shape c.args.s.known c.if-s.true c.requires

@@ -1,9 +1,6 @@
 -- `soundness::pivot_sound` meets its contract: a block has its second column, so that d22 is there. Assumes nothing.
-use Rattle.soundness.proofs.Result.{block-pre, pivot-two, pivot-one}
+use Rattle.soundness.proofs.Result.{pivot-two, pivot-one}
 use Rattle.soundness.proofs.pivot_sound.Goals as goal
-
-pub block_at-requires : goal.block_at-requires
-block_at-requires c = search block-pre
 
 pub returns-then-block_begins : goal.returns-then-block_begins
 returns-then-block_begins c = search pivot-two

@@ -9,9 +9,6 @@ use Rattle.square_root.proofs.Steps.{halved-even, halved-odd}
 use Rattle.square_root.proofs.scaled.Goals as goal
 use Rattle.square_root.proofs.scaled.Goals.{then-e-eq0, else-e-eq0}
 
-pub near_root-requires : goal.near_root-requires
-near_root-requires c = elim c.if-e-eq0.branch [ then-e-eq0 w ↦ omega arith | else-e-eq0 w ↦ omega arith ]
-
 pub float_from_bits-result : goal.float_from_bits-result
 float_from_bits-result c = let near = c.near_root.ensures in
     subst (λ (b : Bool). T (not b)) (sym (units-no-nan _ (c.args.e / 2) near.from near.to (omega arith))) tt

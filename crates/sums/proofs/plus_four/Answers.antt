@@ -1,16 +1,20 @@
 -- What `sums::plus_four` owes. Assumes nothing.
-use Prim.Native.Nat.{◌-◌}
-use Rattle.kernels.proofs.Laws.{with_part-end}
+use lib.ListN.{length}
+use Rattle.model.specs.Matrix.{vec, naturals}
 use Rattle.kernels.proofs.Rules.{rule-none}
-use Rattle.sums.proofs.Sum.{four-step}
+use Rattle.sums.proofs.Sum.{four-step, runs_there}
 use borrow.Author.Rules.{rules}
 use Rattle.sums.proofs.plus_four.Goals as goal
 
 pub loop-i-init : goal.loop-i-init
-loop-i-init c = search (rules, rule-none)
+unfolding naturals
+loop-i-init c = (runs_there _ _ _ _ _ c.requires, search rule-none, search rule-none)
 
 pub loop-i-preserved : goal.loop-i-preserved
-loop-i-preserved c = (search rules, search rules, search rules, search four-step, search four-step)
-
-pub returns : goal.returns
-returns c = search (rules, with_part-end)
+unfolding vec naturals
+loop-i-preserved c = let g = c.args in
+    let (there, x, y) = c.loop-i.invariant in (
+      there,
+      four-step _ c.loop-i.x g.g.now (naturals g.at) c.loop-i.i g.n (length g.x.now) (vec g.l) (search rules) c.requires.first (search rules) x,
+      four-step _ c.loop-i.y g.g.now (naturals g.at) c.loop-i.i g.n (length g.y.now) (vec g.m) (search rules) c.requires.second (search rules) y,
+    )

@@ -1,11 +1,7 @@
 -- `tail::arrive` meets its contract: by the block byte. Assumes nothing.
-use Rattle.tail.proofs.Asked.{block_in, first-ahead, arrive-pre}
+use Rattle.tail.proofs.Asked.{first-ahead, arrive-pre}
 use Rattle.tail.proofs.Laws.{arrive-block, arrive-single}
-use borrow.Author.Rules.{rules}
 use Rattle.tail.proofs.arrive.Goals as goal
-
-pub partner-p-requires : goal.partner-p-requires
-partner-p-requires c = let inside = block_in _ _ _ _ _ c.requires.here_pre c.block_begins.ensures c.if-block_begins.true in search rules
 
 pub column_from-requires : goal.column_from-requires
 column_from-requires c =

@@ -3,28 +3,15 @@
 use mathlib.Core.Path.{refl}
 use native.Mathlib.Omega.{arith}
 use Rattle.model.proofs.Past.{starts-past}
-use Rattle.tail.proofs.Asked.{here-pre, lent-start, lent-place, lent-pre, read-pre, past-later, still-first}
+use Rattle.tail.proofs.Asked.{here-pre, lent-place, lent-pre, read-pre, past-later, still-first}
 use Rattle.tail.proofs.Lent.{part_count, lent_rows}
 use Rattle.tail.proofs.Laws.{stepped-since, both-since, turned-step, turned-both}
-use borrow.Author.Rules.{rules}
 use Rattle.tail.proofs.one_or_two_steps.Goals as goal
-
-pub place-start-requires : goal.place-start-requires
-place-start-requires c = let room = lent-start _ _ _ _ _ _ _ _ _ _ _ _ c.requires.tail_pre c.requires.begins_pre.inside in search rules
 
 -- the step at l, which begins where the one at k ends
 pub stays-requires-clause-here_pre : goal.stays-requires-clause-here_pre
 stays-requires-clause-here_pre c = let paired = c.requires.steps_pre.recorded.paired in
-    here-pre _ _ _ _ _ c.requires.steps_pre c.if-l-ke.true (starts-past _ _ _ _ paired c.requires.begins_pre.inside c.past-l.ensures)
-
-pub offset_bounds-panel-start : goal.offset_bounds-panel-start
-offset_bounds-panel-start c = let room = lent-start _ _ _ _ _ _ _ _ _ _ _ _ c.requires.tail_pre c.requires.begins_pre.inside in search rules
-
-pub slice_bounds-tail_pair-count : goal.slice_bounds-tail_pair-count
-slice_bounds-tail_pair-count c = let room = lent-start _ _ _ _ _ _ _ _ _ _ _ _ c.requires.tail_pre c.requires.begins_pre.inside in search rules
-
-pub slice_bounds-tail_pair-start : goal.slice_bounds-tail_pair-start
-slice_bounds-tail_pair-start c = let room = lent-start _ _ _ _ _ _ _ _ _ _ _ _ c.requires.tail_pre c.requires.begins_pre.inside in search rules
+    here-pre _ _ _ _ _ c.requires.steps_pre c.if-l-at.true (starts-past _ _ _ _ paired c.requires.begins_pre.inside c.past-l.ensures)
 
 pub tail_pair-requires : goal.tail_pair-requires
 tail_pair-requires c =
@@ -36,10 +23,10 @@ tail_pair-requires c =
       both_pre = record {
         first = here-pre _ _ _ _ _ c.requires.steps_pre c.requires.begins_pre.inside c.requires.begins_pre.starts;
         second =
-            here-pre _ _ _ _ _ c.requires.steps_pre c.if-l-ke.true
+            here-pre _ _ _ _ _ c.requires.steps_pre c.if-l-at.true
             (starts-past _ _ _ _ c.requires.steps_pre.recorded.paired c.requires.begins_pre.inside c.past-l.ensures);
         next = c.past-l.ensures;
-        inside = c.if-l-ke.true;
+        inside = c.if-l-at.true;
         stays = still-first _ _ _ c.stays.ensures c.if-stays.true;
       };
     }
@@ -50,25 +37,16 @@ returns-then-stays-clause-panel_after c = let steps = c.requires.steps_pre in
     let room = lent-place _ _ _ _ _ _ _ _ _ _ _ _ c.requires.tail_pre k-in _ c.place-start.ensures in
     let more = past-later _ _ _ c.past-l.ensures in
     let here = here-pre _ _ _ _ _ steps k-in c.requires.begins_pre.starts in
-    let there = here-pre _ _ _ _ _ steps c.if-l-ke.true (starts-past _ _ _ _ steps.recorded.paired k-in c.past-l.ensures) in
+    let there = here-pre _ _ _ _ _ steps c.if-l-at.true (starts-past _ _ _ _ steps.recorded.paired k-in c.past-l.ensures) in
     let pair = both-since _ _ _ _ _ _ _ _ here there (omega arith) in
     let rows = lent-pre _ _ _ _ _ _ _ _ _ _ _ _ c.requires.tail_pre k-in _ (part_count _ _ c.args.panel.now refl _ c.place-start.ensures) in
-    turned-both _ _ _ _ _ _ _ _ _ _ _ k-in c.past-l.ensures _ c.if-l-ke.true c.past.ensures
+    turned-both _ _ _ _ _ _ _ _ _ _ _ k-in c.past-l.ensures _ c.if-l-at.true c.past.ensures
     (lent_rows _ _ _ _ _ _ rows.height c.place-start.ensures refl _ _ room c.tail_pair.auto.part pair c.tail_pair.ensures)
 
 pub returns-then-stays-clause-lower_bound : goal.returns-then-stays-clause-lower_bound
 returns-then-stays-clause-lower_bound c = let more = past-later _ _ _ c.past-l.ensures in
     let after = past-later _ _ _ c.past.ensures in
-    (omega arith, starts-past _ _ _ _ c.requires.steps_pre.recorded.paired c.if-l-ke.true c.past.ensures)
-
-pub offset_bounds-panel-start-2 : goal.offset_bounds-panel-start-2
-offset_bounds-panel-start-2 c = let room = lent-start _ _ _ _ _ _ _ _ _ _ _ _ c.requires.tail_pre c.requires.begins_pre.inside in search rules
-
-pub slice_bounds-tail_step-count : goal.slice_bounds-tail_step-count
-slice_bounds-tail_step-count c = let room = lent-start _ _ _ _ _ _ _ _ _ _ _ _ c.requires.tail_pre c.requires.begins_pre.inside in search rules
-
-pub slice_bounds-tail_step-start : goal.slice_bounds-tail_step-start
-slice_bounds-tail_step-start c = let room = lent-start _ _ _ _ _ _ _ _ _ _ _ _ c.requires.tail_pre c.requires.begins_pre.inside in search rules
+    (omega arith, starts-past _ _ _ _ c.requires.steps_pre.recorded.paired c.if-l-at.true c.past.ensures)
 
 pub tail_step-requires : goal.tail_step-requires
 tail_step-requires c =

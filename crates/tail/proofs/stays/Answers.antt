@@ -1,10 +1,6 @@
 -- `tail::stays` meets its contract: by the block byte. Assumes nothing.
-use Rattle.tail.proofs.Asked.{block_in, stays-block, stays-single}
-use borrow.Author.Rules.{rules}
+use Rattle.tail.proofs.Asked.{stays-block, stays-single}
 use Rattle.tail.proofs.stays.Goals as goal
-
-pub partner-p-requires : goal.partner-p-requires
-partner-p-requires c = let inside = block_in _ _ _ _ _ c.requires.here_pre c.block_begins.ensures c.if-block_begins.true in search rules
 
 pub returns-then-block_begins : goal.returns-then-block_begins
 returns-then-block_begins c = stays-block _ _ _ _ _ c.block_begins.ensures c.if-block_begins.true c.partner-p.ensures

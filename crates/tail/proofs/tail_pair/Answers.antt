@@ -1,37 +1,14 @@
 -- `tail::tail_pair` meets its contract: the exchange before the first step, then the record's two steps, on the columns from k on. Assumes nothing.
 use mathlib.Core.Path.{refl}
 use native.Mathlib.Omega.{arith}
-use Rattle.tail.proofs.Asked.{start_fits, pivot-pre, pair-pre, lent-kept, column-is, row-ahead, past-later}
+use Rattle.tail.proofs.Asked.{pair-pre, lent-kept, column-is, row-ahead, past-later}
 use Rattle.tail.proofs.Lent.{part_count, kept_from}
 use Rattle.tail.proofs.Laws.{pair-done}
 use borrow.Author.Rules.{rules}
 use Rattle.tail.proofs.tail_pair.Goals as goal
 
-pub diagonal_at-x-requires : goal.diagonal_at-x-requires
-diagonal_at-x-requires c = pivot-pre _ _ _ _ _ _ _ _ _ _ _ _ c.requires.read_pre refl c.requires.lent_pre.here c.requires.both_pre.first
-
-pub diagonal_at-y-requires : goal.diagonal_at-y-requires
-diagonal_at-y-requires c = let both = c.requires.both_pre in
-    pivot-pre _ _ _ _ _ _ _ _ _ _ _ _ c.requires.read_pre refl both.inside both.second
-
 pub overflow_sub-last : goal.overflow_sub-last
 overflow_sub-last c = let more = past-later _ _ _ c.past-last.ensures in search rules
-
-pub place-start-requires : goal.place-start-requires
-place-start-requires c = let room = start_fits _ _ _ _ _ _ _ _ _ c.requires.read_pre c.requires.lent_pre.here in
-    search rules
-
-pub offset_bounds-mult-start : goal.offset_bounds-mult-start
-offset_bounds-mult-start c = let room = start_fits _ _ _ _ _ _ _ _ _ c.requires.read_pre c.requires.lent_pre.here in
-    search rules
-
-pub slice_bounds-below_pair-count : goal.slice_bounds-below_pair-count
-slice_bounds-below_pair-count c = let room = start_fits _ _ _ _ _ _ _ _ _ c.requires.read_pre c.requires.lent_pre.here in
-    search rules
-
-pub slice_bounds-below_pair-start : goal.slice_bounds-below_pair-start
-slice_bounds-below_pair-start c = let room = start_fits _ _ _ _ _ _ _ _ _ c.requires.read_pre c.requires.lent_pre.here in
-    search rules
 
 pub overflow_sub-l : goal.overflow_sub-l
 overflow_sub-l c = let more = past-later _ _ _ c.requires.both_pre.next in
@@ -52,24 +29,19 @@ column_from-requires-2 c = let both = c.requires.both_pre in
 
 pub below_pair-requires-clause-pair_pre : goal.below_pair-requires-clause-pair_pre
 below_pair-requires-clause-pair_pre c = let both = c.requires.both_pre in
-    (pair-pre _ _ _ _ _ _ _ _ _ _ _ _ _ _ (lent-kept _ _ _ _ _ c.requires.lent_pre c.arrive.auto.part) c.requires.read_pre both.first
-    (part_count _ _ c.args.mult.now refl _ c.place-start.ensures) _ _ _ _ _ _ _ _ _ _ both.next both.inside both.second
+    rw c.lent_from.ensures ((pair-pre _ _ _ _ _ _ _ _ _ _ _ _ _ _ (lent-kept _ _ _ _ _ c.requires.lent_pre c.arrive.auto.part) c.requires.read_pre both.first
+    (part_count _ _ c.args.steps.mult.now refl _ c.place-start.ensures) _ _ _ _ _ _ _ _ _ _ both.next both.inside both.second
     c.diagonal_at-x.ensures c.diagonal_at-y.ensures c.past-last.ensures refl refl
     (column-is _ _ _ _ c.column_from.ensures c.partner-kp.ensures)
-    (column-is _ _ _ _ c.column_from-2.ensures c.partner-kq.ensures)).0
-
-pub below_pair-requires-clause-kp_lt_columns : goal.below_pair-requires-clause-kp_lt_columns
-below_pair-requires-clause-kp_lt_columns c = let both = c.requires.both_pre in
-    let ahead = row-ahead _ _ _ c.args.k.0 _ _ both.first (omega arith) c.partner-kp.ensures in
-    omega (arith, both.first.partner, c.requires.lent_pre.here)
+    (column-is _ _ _ _ c.column_from-2.ensures c.partner-kq.ensures)).0)
 
 pub returns : goal.returns
 returns c = let r = c.requires.read_pre in
     let both = c.requires.both_pre in
     let more = past-later _ _ _ both.next in
-    pair-done _ _ _ _ (kept_from _ _ _ _ _ _ c.args.mult.now r.from r.width c.place-start.ensures refl)
+    pair-done _ _ _ _ (kept_from _ _ _ _ _ _ c.args.steps.mult.now r.from r.width c.place-start.ensures refl)
     _ _ _ _ _ _ _ _ both.first c.arrive.ensures _ _ _ _ _ _
     (omega arith) both.second both.stays c.diagonal_at-x.ensures c.diagonal_at-y.ensures
     (column-is _ _ _ _ c.column_from.ensures c.partner-kp.ensures)
     (column-is _ _ _ _ c.column_from-2.ensures c.partner-kq.ensures) refl
-    c.below_pair.ensures
+    (rw c.lent_from.ensures at c.below_pair.ensures)

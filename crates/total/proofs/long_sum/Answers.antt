@@ -1,50 +1,26 @@
 -- What `total::long_sum` owes. Assumes nothing.
+use Prim.Native.Nat.{◌<◌}
+use mathlib.Core.Path.{◌≡◌, ◌∙◌, ap}
 use native.Mathlib.Omega.{arith}
-use Rattle.total.proofs.Sums.{sum-none, even-turn, odd-turn, long-end}
-use borrow.Author.Rules.{rules}
+use lib.ListN.{length}
+use Rattle.total.proofs.Sums.{sixteen-turn, sixteen_end, long-end}
 use Rattle.total.proofs.long_sum.Goals as goal
 
-pub overflow_sub-rest : goal.overflow_sub-rest
-overflow_sub-rest c = omega arith
-
-pub overflow_mul-rest : goal.overflow_mul-rest
-overflow_mul-rest c = omega arith
-
-pub overflow_sub-from : goal.overflow_sub-from
-overflow_sub-from c = omega arith
-
-pub every_second-s-requires : goal.every_second-s-requires
-every_second-s-requires c = omega arith
-
-pub every_second-t-requires : goal.every_second-t-requires
-every_second-t-requires c = omega arith
-
-pub loop-i-init : goal.loop-i-init
-loop-i-init c = search (rules, sum-none)
-
-pub overflow_add-from : goal.overflow_add-from
-overflow_add-from c = omega arith
-
-pub every_second-s-requires-in-loop-i : goal.every_second-s-requires-in-loop-i
-every_second-s-requires-in-loop-i c = omega arith
-
-pub overflow_add-from-in-loop-i : goal.overflow_add-from-in-loop-i
-overflow_add-from-in-loop-i c = omega arith
-
-pub overflow_add-from-in-loop-i-2 : goal.overflow_add-from-in-loop-i-2
-overflow_add-from-in-loop-i-2 c = omega arith
-
-pub every_second-t-requires-in-loop-i : goal.every_second-t-requires-in-loop-i
-every_second-t-requires-in-loop-i c = omega arith
-
-pub overflow_add-i : goal.overflow_add-i
-overflow_add-i c = omega arith
-
-pub loop-i-smaller : goal.loop-i-smaller
-loop-i-smaller c = omega arith
-
-pub loop-i-preserved : goal.loop-i-preserved
-loop-i-preserved c = (omega arith, omega arith, search (rules, even-turn), search (rules, odd-turn))
+pub loop-sixteen-preserved : goal.loop-sixteen-preserved
+loop-sixteen-preserved c =
+    let next = c.in-Some.ensures.steps in
+    let w = c.loop-sixteen.invariant in
+    let sixteen = next.1.1 ∙ w.0 in (
+      next.0 ∙ w.0,
+      sixteen-turn _ _ _ 0 _ _ _ next.1.0 sixteen (omega arith) c.every_second-s-in-loop-sixteen.ensures w.1,
+      sixteen-turn _ _ _ 1 _ _ _ next.1.0 sixteen (omega arith) c.every_second-t-in-loop-sixteen.ensures w.2,
+    )
 
 pub returns : goal.returns
-returns c = search (rules, long-end)
+returns c =
+    let w = c.loop-sixteen.invariant in
+    let steps = c.in-None.ensures.steps in
+    let few : length c.loop-sixteen.sixteen-iterator.rest.now < 16 = omega (arith, steps.1.0, w.0) in
+    let over : c.into_iter-sixteen-iterator.result.rest.now ≡ _ =
+    ap (λ x. x.rest.now) c.into_iter-sixteen-iterator.ensures.into_iter_gives ∙ c.chunks_exact-sixteen-items.ensures.rest in
+    long-end _ _ _ _ _ _ c.requires c.every_second-s.ensures c.every_second-t.ensures over (sixteen_end _ 0 _ _ few w.1) (sixteen_end _ 1 _ _ few w.2)

@@ -1,32 +1,28 @@
 -- `update::update_columns` meets its contract: the scans of refusals 17 and 18 answer, or the rows that were located are applied. Assumes nothing.
-use mathlib.Core.Path.{refl}
-use Rattle.model.specs.Update.{descendant_sound}
-use Rattle.update.proofs.Called.{locate-pre, apply-pre, panel-is, columns-absent, columns-number, columns-done}
+use mathlib.Core.Path.{refl, sym}
+use Rattle.std.proofs.lemmas.Result.{err_from_is_err_and}
+use Rattle.update.proofs.Called.{locate-pre, panel-is, columns-absent, columns-number, columns-done}
 use borrow.Author.Rules.{rules}
 use Rattle.update.proofs.update_columns.Goals as goal
 
-pub locate-located-requires : goal.locate-located-requires
-locate-located-requires c = locate-pre _ _ _ c.requires _ _ c.first_landing-start.ensures refl
+pub locate-requires : goal.locate-requires
+locate-requires c = locate-pre _ _ _ c.requires _ _ c.first_landing-start.ensures refl
 
-pub returns-in_default : goal.returns-in_default
-returns-in_default c = columns-absent _ _ _ c.requires _ c.first_landing-start.ensures _ c.locate-located.ensures.value _ c.answer.result
-    c.in_default.is c.answer.ensures
+pub returns-in_err-locate : goal.returns-in_err-locate
+returns-in_err-locate c =
+    let p = err_from_is_err_and c.from_residual.result c.from_residual.ensures.1 in
+    rw (p.1, p.2) (columns-absent _ _ _ c.requires _ c.first_landing-start.ensures _ c.locate.ensures.value _ _
+    c.in_err-locate.was (sym c.in_err-locate.was))
 
-pub returns-in_default-checked : goal.returns-in_default-checked
-unfolding descendant_sound
-returns-in_default-checked c = columns-number _ _ _ c.requires _ c.first_landing-start.ensures _ c.locate-located.ensures.value _ c.in-Sound.is
-    c.first_bad_column-checked.ensures _ c.answer-in_default-checked.result c.in_default-checked.is c.answer-in_default-checked.ensures
-
-pub update_rows-requires : goal.update_rows-requires
-update_rows-requires c = record {
-  apply_pre = apply-pre _ _ _ c.requires _ c.first_landing-start.ensures _ (c.locate-located.ensures.located c.in-Sound.is) (search rules);
-  krows_len = c.requires.sizes.descendant;
-}
+pub returns-in_err-first_bad_column : goal.returns-in_err-first_bad_column
+returns-in_err-first_bad_column c =
+    let p = err_from_is_err_and c.from_residual-in_err-first_bad_column.result c.from_residual-in_err-first_bad_column.ensures.1 in
+    rw (p.1, p.2) (columns-number _ _ _ c.requires _ c.first_landing-start.ensures _ c.locate.ensures.value _ c.in_ok-locate.was
+    c.first_bad_column.ensures _ _ c.in_err-first_bad_column.was (sym c.in_err-first_bad_column.was))
 
 pub returns : goal.returns
-unfolding descendant_sound
 returns c =
-    columns-done _ _ _ c.requires _ c.first_landing-start.ensures _ c.locate-located.ensures.value _ c.in-Sound.is
-    c.first_bad_column-checked.ensures _ c.in-Sound-checked.is
-    (panel-is _ _ _ c.requires _ c.first_landing-start.ensures _ (c.locate-located.ensures.located c.in-Sound.is)
+    columns-done _ _ _ c.requires _ c.first_landing-start.ensures _ c.locate.ensures.value _ c.in_ok-locate.was
+    c.first_bad_column.ensures _ c.in_ok-first_bad_column.was
+    (panel-is _ _ _ c.requires _ c.first_landing-start.ensures _ (c.locate.ensures.located c.in_ok-locate.was)
     _ _ (search rules) refl c.update_rows.ensures)

@@ -1,6 +1,5 @@
 -- `update_checks::lengths_sound` meets its contract: the definition by its tests. Assumes nothing.
-use Rattle.checks.proofs.Shape.{area-of-shape}
-use Rattle.update_checks.proofs.Listed.{rows_fit, numbers_fit, lengths-shape, lengths-sizes, lengths-rest}
+use Rattle.update_checks.proofs.Listed.{lengths-shape, lengths-sizes, lengths-rest}
 use Rattle.update_checks.proofs.lengths_sound.Goals as goal
 
 pub returns-then-not-shape_sound : goal.returns-then-not-shape_sound
@@ -8,15 +7,6 @@ returns-then-not-shape_sound c = search lengths-shape
 
 pub returns-then-not-nk-mk : goal.returns-then-not-nk-mk
 returns-then-not-nk-mk c = search lengths-sizes
-
-pub overflow_add-all : goal.overflow_add-all
-overflow_add-all c = search rows_fit
-
-pub overflow_mul-panels : goal.overflow_mul-panels
-overflow_mul-panels c = search area-of-shape
-
-pub overflow_mul-panels-2 : goal.overflow_mul-panels-2
-overflow_mul-panels-2 c = search numbers_fit
 
 pub returns : goal.returns
 returns c = lengths-rest _ _ _ _ c.shape_sound.ensures c.if-not-shape_sound.false c.if-not-nk-mk.false

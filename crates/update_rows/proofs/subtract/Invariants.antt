@@ -1,5 +1,5 @@
--- `update_rows::subtract` meets its contract. The invariant: going on from row r with the panel as it is gives what the whole loop gives. The measure is
--- what is left of the rows. Assumes nothing.
+-- `update_rows::subtract` meets its contract. The invariant: going on from row r with the panel as it is gives what the whole loop gives. Assumes
+-- nothing.
 use mathlib.Core.Path.{◌≡◌}
 use Prim.Native.Nat.{◌-◌, ◌≤◌}
 use lib.ListN.{length}
@@ -13,6 +13,3 @@ invariant-loop-r l =
     (l.lo ≤ l.r) × (l.r ≤ l.hi) × (length l.panel ≡ length l.initial.panel)
     × (less_from (naturals l.places) (behind l.lo (vec l.acc)) l.column.0 (l.hi - l.r) l.r (view l.nrow l.panel)
     ≡ less_from (naturals l.places) (behind l.lo (vec l.acc)) l.column.0 (l.hi - l.lo) l.lo (view l.nrow l.initial.panel))
-
-abbrev pub decreases-loop-r : goal.decreases-loop-r
-decreases-loop-r l = l.hi - l.r

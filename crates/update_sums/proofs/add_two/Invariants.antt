@@ -1,4 +1,4 @@
--- `update_sums::add_two` meets its contract. The invariant: the first i numbers have gained both terms. The measure is what is left. Assumes nothing.
+-- `update_sums::add_two` meets its contract. The invariant: the first i numbers have gained both terms. Assumes nothing.
 use mathlib.Core.Path.{◌≡◌}
 use Prim.Native.Nat.{◌-◌, ◌≤◌}
 use lib.ListN.{length}
@@ -10,7 +10,4 @@ use Rattle.update_sums.proofs.add_two.Given as goal
 abbrev pub invariant-loop-i : goal.invariant-loop-i
 invariant-loop-i l =
     (l.i ≤ l.i-end) × (length l.acc ≡ length l.initial.acc)
-    × (vec l.acc ≡ with_part (vec l.initial.acc) 0 l.i (plus_times (plus_times (vec l.initial.acc) (from_row (vec l.kpanel) l.a) l.v) (from_row (vec l.kpanel) l.b) l.w))
-
-abbrev pub decreases-loop-i : goal.decreases-loop-i
-decreases-loop-i l = l.i-end - l.i
+    × (vec l.acc ≡ with_part (vec l.initial.acc) 0 l.i (plus_times (plus_times (vec l.initial.acc) (from_row (vec l.panel) l.a) l.v) (from_row (vec l.panel) l.b) l.w))

@@ -1,27 +1,17 @@
 -- `update_sums::weight` meets its contract: the definition by its tests. Assumes nothing.
-use Rattle.model.specs.Matrix.{vec, naturals}
-use Rattle.update_sums.proofs.Numbers.{weight-first, weight-start, weight-second, weight-plain, weight-next, weight-before}
+use Rattle.model.specs.Matrix.{vec}
+use Rattle.landing.specs.Nodes.{descendant_in}
+use Rattle.update_sums.proofs.Numbers.{weight-first, weight-second, weight-plain}
 use Rattle.update_sums.proofs.weight.Goals as goal
 
-pub get-requires : goal.get-requires
-unfolding naturals
-get-requires c = search weight-next
+pub returns-then-block_begins : goal.returns-then-block_begins
+unfolding vec
+returns-then-block_begins c = weight-first (descendant_in c.args.k) _ _ _ c.get-l.ensures _ c.block_begins.ensures _ c.if-block_begins.true c.get.ensures
 
-pub returns-then-kblocks-s-eq1 : goal.returns-then-kblocks-s-eq1
-unfolding vec naturals
-returns-then-kblocks-s-eq1 c = search weight-first
-
-pub returns-then-s-eq0 : goal.returns-then-s-eq0
-unfolding vec naturals
-returns-then-s-eq0 c = search weight-start
-
-pub get-requires-then-kblocks-s-eq1-2 : goal.get-requires-then-kblocks-s-eq1-2
-get-requires-then-kblocks-s-eq1-2 c = search weight-before
-
-pub returns-then-kblocks-s-eq1-2 : goal.returns-then-kblocks-s-eq1-2
-unfolding vec naturals
-returns-then-kblocks-s-eq1-2 c = search weight-second
+pub returns-then-ends_block : goal.returns-then-ends_block
+unfolding vec
+returns-then-ends_block c = weight-second (descendant_in c.args.k) _ _ _ c.get-l.ensures _ c.block_begins.ensures c.if-block_begins.false _ c.ends_block.ensures _ c.if-ends_block.true c.get-then-ends_block.ensures
 
 pub returns : goal.returns
-unfolding vec naturals
-returns c = search weight-plain
+unfolding vec
+returns c = weight-plain (descendant_in c.args.k) _ _ _ c.get-l.ensures _ c.block_begins.ensures c.if-block_begins.false _ c.ends_block.ensures c.if-ends_block.false

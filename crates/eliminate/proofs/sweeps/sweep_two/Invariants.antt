@@ -9,6 +9,7 @@ use Rattle.eliminate.proofs.sweeps.sweep_two.Given as goal
 
 abbrev pub invariant-loop-j : goal.invariant-loop-j
 invariant-loop-j l =
-    (l.k + 2 ≤ l.j) × (l.j ≤ l.ke) × (length l.panel ≡ length l.initial.panel) ×
-    (view l.at.nrow l.panel ≡ swept_two (view l.at.nrow l.initial.panel) (column_of (in_panel l.kb l.ke (view l.at.nb l.mult)) l.k)
-    (column_of (in_panel l.kb l.ke (view l.at.nb l.mult)) (l.k + 1)) l.k l.j l.lo l.hi)
+    let at = l.s.at in
+    (l.s.k + 2 ≤ l.j) × (l.j ≤ at.ke) × (length l.panel ≡ length l.initial.panel) ×
+    (view at.nrow l.panel ≡ swept_two (view at.nrow l.initial.panel) (column_of (in_panel at.kb at.ke (view at.nb l.mult)) l.s.k)
+    (column_of (in_panel at.kb at.ke (view at.nb l.mult)) (l.s.k + 1)) l.s.k l.j l.s.lo l.s.hi)

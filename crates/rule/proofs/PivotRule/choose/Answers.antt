@@ -1,11 +1,8 @@
 -- `rule::PivotRule::choose` meets its contract: each return is one way through the tests. Assumes nothing.
 use Rattle.model.specs.declared.Choice.TheVariants.{ZeroColumn, Single}
-use Rattle.rule.proofs.Ways.{diagonal-in, below_in, square-read, chosen, unsigned-both, way-reached, way-zero, way-own, way-rest}
+use Rattle.rule.proofs.Ways.{chosen, unsigned-both, way-reached, way-zero, way-own, way-rest}
 use borrow.Author.Rules.{rules}
 use Rattle.rule.proofs.PivotRule.choose.Goals as goal
-
-pub get-requires : goal.get-requires
-get-requires c = search (rules, diagonal-in)
 
 pub reaches-requires : goal.reaches-requires
 reaches-requires c = search (rules, unsigned-both)
@@ -13,12 +10,6 @@ reaches-requires c = search (rules, unsigned-both)
 pub returns-then-reaches : goal.returns-then-reaches
 returns-then-reaches c = let h = chosen _ _ _ (Single _) (search rules) (search (rules, way-reached, c.reaches.ensures c.if-reaches.true)) in
     record { value = h.0; chosen_within = h.1 }
-
-pub get-requires-2 : goal.get-requires-2
-get-requires-2 c = search (rules, below_in)
-
-pub root_of-colmax-requires : goal.root_of-colmax-requires
-root_of-colmax-requires c = search (rules, square-read)
 
 pub returns-then-maximum : goal.returns-then-maximum
 returns-then-maximum c = let h = chosen _ _ _ ZeroColumn (search rules) (search (rules, way-zero)) in

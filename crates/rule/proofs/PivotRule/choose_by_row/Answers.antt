@@ -1,19 +1,10 @@
 -- `rule::PivotRule::choose_by_row` meets its contract: each return is one way through the tests of row imax. Assumes nothing.
-use Rattle.rule.proofs.Ways.{diagonal-in, across-in, square-read, way-row, way-other, way_block}
+use Rattle.rule.proofs.Ways.{way-row, way-other, way_block}
 use borrow.Author.Rules.{rules}
 use Rattle.rule.proofs.PivotRule.choose_by_row.Goals as goal
 
-pub across-requires : goal.across-requires
-across-requires c = search (rules, across-in)
-
-pub root_of-rowmax-requires : goal.root_of-rowmax-requires
-root_of-rowmax-requires c = search (rules, square-read)
-
 pub returns-then-own-threshold : goal.returns-then-own-threshold
 returns-then-own-threshold c = search (rules, way-row)
-
-pub get-requires : goal.get-requires
-get-requires c = search (rules, diagonal-in)
 
 pub returns-then-magnitude-threshold : goal.returns-then-magnitude-threshold
 returns-then-magnitude-threshold c = way-other _ _ _ _ _ _ _ _ _ c.threshold.ensures c.row_greatest-row.ensures.value c.root_of-rowmax.ensures _ _ _

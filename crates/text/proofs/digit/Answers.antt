@@ -1,9 +1,0 @@
--- `text::digit` meets its contract: the definition by its test. Assumes nothing.
-use borrow.Author.Tests.{lt-ltb, le-ltb}
-use Rattle.text.proofs.digit.Goals as goal
-
-pub returns-then-d-lt10 : goal.returns-then-d-lt10
-returns-then-d-lt10 c = rw (lt-ltb _ 10 c.if-d-lt10.true)
-
-pub returns : goal.returns
-returns c = rw (le-ltb _ 10 c.if-d-lt10.false)
