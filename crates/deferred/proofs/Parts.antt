@@ -101,12 +101,10 @@ rows_more a P Q G kb w c end lo mid hi g h l p q =
 pub columns-still : (n m kb ke glen len len' : ℕ) → ColumnsPre n m kb ke glen len → len' ≡ len → ColumnsPre n m kb ke glen len'
 columns-still n m kb ke glen len len' h e = record { start = h.start; stop = h.stop; rows = h.rows; panel = e ∙ h.panel; out = h.out }
 
-pub columns-step : (a P Q G : Mat) (n m kb ke c end lo hi to glen len : ℕ) → ColumnsPre n m kb ke glen len → ke ≤ c → c < end → min (c + 2) end ≡ to
-    → P ≡ part_deferred a G kb (ke - kb) ke c lo hi → Q ≡ part_deferred P G kb (ke - kb) c (min (c + 2) end) lo hi
-    → Q ≡ part_deferred a G kb (ke - kb) ke to lo hi
-columns-step a P Q G n m kb ke c end lo hi to glen len h l g e p q =
-    columns-more a P Q G kb (ke - kb) ke c (min (c + 2) end) lo hi (omega arith) l (omega arith) p q
-    ∙ ap (λ (k : ℕ). part_deferred a G kb (ke - kb) ke k lo hi) e
+pub columns-step : (a P Q G : Mat) (n m kb ke c r end lo hi glen len : ℕ) → ColumnsPre n m kb ke glen len → ke ≤ c → c < end → r ≡ min (c + 2) end
+    → P ≡ part_deferred a G kb (ke - kb) ke c lo hi → Q ≡ part_deferred P G kb (ke - kb) c r lo hi → Q ≡ part_deferred a G kb (ke - kb) ke r lo hi
+columns-step a P Q G n m kb ke c r end lo hi glen len h l g e p q =
+    columns-more a P Q G kb (ke - kb) ke c r lo hi (omega arith) l (omega arith) p q
 
 pub rows_step : (a P Q G : Mat) (n m kb ke lo hi to glen len : ℕ) → ColumnsPre n m kb ke glen len → ke ≤ lo → lo ≤ hi → hi ≡ to
     → P ≡ part_deferred a G kb (ke - kb) ke m ke lo → Q ≡ part_deferred P G kb (ke - kb) ke m lo hi → Q ≡ part_deferred a G kb (ke - kb) ke m ke to
@@ -142,13 +140,12 @@ rows_none a G kb w c end lo =
     (λ p. rw (p, no (leb j i), no (leb c j && ltb j end)))
 
 -- rows that stand above the diagonal of every column from c on are none
-pub from-diagonal : (a P G : Mat) (kb w c e m end from lo hi : ℕ) → from ≡ max lo c → lo ≤ hi → c < end → end ≡ min m hi → e ≡ min (c + 1) (end - 1)
-    → P ≡ part_deferred a G kb w c (e + 1) from (from + (hi - from)) → P ≡ part_deferred a G kb w c (min (c + 2) end) lo hi
+pub from-diagonal : (a P G : Mat) (kb w c m end r from lo hi : ℕ) → from ≡ max lo c → lo ≤ hi → c < end → end ≡ min m hi
+    → P ≡ part_deferred a G kb w c r from (from + (hi - from)) → P ≡ part_deferred a G kb w c r lo hi
 unfolding part_deferred
-from-diagonal a P G kb w c e m end from lo hi f u l g s p =
+from-diagonal a P G kb w c m end r from lo hi e u l g p =
     let back : from + (hi - from) ≡ hi = omega arith in
-    let last : e + 1 ≡ min (c + 2) end = omega arith in
-    p ∙ rw (back, last) (fun_ext λ i. fun_ext λ j.
+    p ∙ rw back (fun_ext λ i. fun_ext λ j.
     test (leb c j)
     (λ x. test (leb j i)
     (λ y. let ci : c ≤ i = omega (arith, leb-true c j x, leb-true j i y) in

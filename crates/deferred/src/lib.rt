@@ -54,7 +54,8 @@ fn defer_two(panel: &mut [f64], g: &[f64], x: &mut [f64], y: &mut [f64], at: Ter
     lose(panel, at.nrow, at.e, at.lo, hi, y);
 }
 
-// Column c and, if it stands before end, the next lose their sums in rows lo up to hi.
+// Column c and, if it stands before end, the next lose their sums in rows lo up to hi. The answer is the first column
+// left.
 // work: x and y, as above.
 fn defer_next(
     panel: &mut [f64],
@@ -66,14 +67,15 @@ fn defer_next(
     end: usize,
     lo: usize,
     hi: usize,
-)
+) -> usize
     requires columns_pre { ColumnsPre at.nrow at.ncol at.kb at.ke (length g.now) (length panel.old) }
     requires rows_pre { RowsPre at.nrow lo hi (length x.old) }
     requires rows_pre_2 { RowsPre at.nrow lo hi (length y.old) }
     requires ke_le_c { (at.ke ≤ c) × (c < end) × (end ≡ min at.ncol hi) }
-    ensures { view at.nrow panel.new
+    ensures panel_after { view at.nrow panel.new
         ≡ part_deferred (view at.nrow panel.old) (view at.nrow g.now) at.kb
-        (at.ke - at.kb) c (min (c + 2) end) lo hi }
+        (at.ke - at.kb) c result lo hi }
+    ensures value { result ≡ min (c + 2) end }
 {
     let nrow = at.nrow;
     let kb = at.kb;
@@ -91,6 +93,7 @@ fn defer_next(
         n,
     };
     defer_two(panel, g, x, y, terms);
+    e + 1
 }
 
 // Rows lo up to hi of the columns from ke on, each from its diagonal down, lose their sums.
@@ -104,8 +107,11 @@ fn defer_rows(panel: &mut [f64], g: &[f64], at: Frame, lo: usize, hi: usize)
     let mut x = [0.0; PART];
     let mut y = [0.0; PART];
     let end = at.ncol.min(hi);
-    for c in (at.ke..end).step_by(2) {
-        defer_next(panel, g, &mut x, &mut y, at, c, end, lo, hi);
+    let mut c = at.ke;
+    // the next column is the answer of each turn: over a `step_by` the compiler worked the ends of a turn out several
+    // times, and heads of 16 and 32 columns took 4 and 5 in 100 longer
+    while c < end {
+        c = defer_next(panel, g, &mut x, &mut y, at, c, end, lo, hi);
     }
 }
 
