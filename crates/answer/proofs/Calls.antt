@@ -17,7 +17,6 @@ use Rattle.record.specs.Record.{Asked, fault_number, panel_length, panel_of, ask
 use Rattle.record.specs.declared.Fault.{Fault}
 use Rattle.record.proofs.Laws.{asked-sizes, asked-length, asked-prefix}
 use Rattle.lines.specs.Lines.{refused_line, accepted_lines, said_lines}
-use Rattle.lines.specs.Lengths.{LinesPre}
 use Rattle.answer.specs.Lines.{outcome_lines, cleared, printed}
 use Rattle.answer.specs.Lengths.{SizesPre}
 
@@ -43,12 +42,6 @@ said-told (refused n a b) c x = refl
 said-told (accepted r) c x = refl
 
 -- ---- the factor call
-
--- a call that keeps the lengths
-pub lines-kept : {c : Settings} {panel d sub blocks lifts amounts order marks panel' d' sub' blocks' lifts' amounts' order' marks' : ℕ}
-    → LinesPre c panel d sub blocks lifts amounts order marks → panel' ≡ panel → d' ≡ d → sub' ≡ sub → blocks' ≡ blocks → lifts' ≡ lifts
-    → amounts' ≡ amounts → order' ≡ order → marks' ≡ marks → LinesPre c panel' d' sub' blocks' lifts' amounts' order' marks'
-lines-kept h p d s b l a o m = rw (p, d, s, b, l, a, o, m) h
 
 pub run_is : {xs ys : List ℕ} (c : Settings) (answer : Factored) (x : Buffers) (o : Outcome) → outcome_of answer x ≡ o
     → ys ≡ xs ++ said_lines (factored_says answer) c (told x) → xs ≡ [] → ys ≡ outcome_lines c o

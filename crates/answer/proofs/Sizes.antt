@@ -1,8 +1,7 @@
--- Laws of the buffers of the stated lengths: parts of local arrays, at the program's sizes. Assumes nothing.
+-- Laws of the buffers of the stated lengths: parts of local arrays. Assumes nothing.
 use mathlib.Core.Path.{◌≡◌, refl}
 use mathlib.Core.List.{List}
-use Prim.Native.Nat.{ℕ, zero, suc, ◌+◌, ◌-◌, ◌*◌, ◌≤◌}
-use native.Mathlib.Nat.{mul-le-mul}
+use Prim.Native.Nat.{ℕ, zero, suc, ◌-◌, ◌*◌, ◌≤◌}
 use native.Mathlib.Omega.{arith}
 use borrow.Rule.Slice.PartMut.{mid_of}
 use lib.ListN.{take, replicate}
@@ -11,20 +10,6 @@ use Rattle.model.specs.Scalar.{zero_f}
 use Rattle.model.specs.Factor.{work_length, factor_of}
 use Rattle.model.specs.declared.Settings.{Settings}
 use Rattle.answer.specs.Lines.{outcome_lines, cleared}
-
--- ---- the program's sizes
-
-pub panel-few : (nrow ncol : ℕ) → nrow ≤ 64 → ncol ≤ 16 → nrow * ncol ≤ 1024
-panel-few nrow ncol h l = mul-le-mul h l
-
-pub rows_few : (nrow nb : ℕ) → nrow ≤ 64 → nb ≤ 16 → 3 * nrow * (nb + 1) ≤ 3264
-rows_few nrow nb h l =
-    let three : 3 * nrow ≤ 192 = omega arith in
-    let one : nb + 1 ≤ 17 = omega arith in
-    mul-le-mul three one
-
-pub square-few : (nb : ℕ) → nb ≤ 16 → nb * nb ≤ 256
-square-few nb l = mul-le-mul l l
 
 -- ---- the first part of an array
 

@@ -26,8 +26,11 @@ const NUMBERS: usize = ROWS * COLUMNS;
 
 const WORK: usize = 3 * ROWS * (COLUMNS + 1) + COLUMNS * COLUMNS;
 
+// Enough for the longest answer.
+pub const ROOM: usize = 32768;
+
 // The factor call, and what it says.
-fn run(c: Settings, input: &[f64], b: &mut LentBuffers) -> Text
+fn run(c: Settings, input: &[f64], b: &mut LentBuffers) -> Text<ROOM>
     requires { LinesPre c (length b.old.panel.now) (length b.old.d.now) (length b.old.sub.now)
         (length b.old.blocks.now) (length b.old.lifts.now) (length b.old.amounts.now)
         (length b.old.order.now) (length b.old.marks.now) }
@@ -76,7 +79,7 @@ fn work_size(nrow: usize, nb: usize) -> usize
 
 // The factor call with buffers of the stated lengths, which are parts of arrays of the program's sizes: there is no
 // heap.
-fn with_buffers(c: Settings, input: &[f64]) -> Text
+fn with_buffers(c: Settings, input: &[f64]) -> Text<ROOM>
     requires { SizesPre c }
     ensures { result ≡ outcome_lines c (factor_of c input.now (cleared c)) }
 {
@@ -109,7 +112,7 @@ fn with_buffers(c: Settings, input: &[f64]) -> Text
 }
 
 // The panel of a stream that asks for a factor, read into its place and factored.
-fn read_and_factor(c: Settings, stream: &[u8], input: &mut [f64]) -> Text
+fn read_and_factor(c: Settings, stream: &[u8], input: &mut [f64]) -> Text<ROOM>
     requires stream_value { asked_of stream.now ≡ Ok c }
     requires input_len { length input.old ≡ panel_length c }
     ensures { result ≡ printed stream.now }
@@ -119,7 +122,7 @@ fn read_and_factor(c: Settings, stream: &[u8], input: &mut [f64]) -> Text
 }
 
 // A stream that asks for a factor.
-fn factored(c: Settings, stream: &[u8]) -> Text
+fn factored(c: Settings, stream: &[u8]) -> Text<ROOM>
     requires { asked_of stream.now ≡ Ok c }
     ensures { result ≡ printed stream.now }
 {
@@ -129,7 +132,7 @@ fn factored(c: Settings, stream: &[u8]) -> Text
 }
 
 // A stream that is turned away, with no place named.
-fn refused(fault: Fault) -> Text
+fn refused(fault: Fault) -> Text<ROOM>
     ensures { result ≡ refused_line (fault_number fault) 0 0 }
 {
     let mut out = Text::new();
@@ -139,7 +142,7 @@ fn refused(fault: Fault) -> Text
 
 // What is printed for a stream.
 // in: stream, any bytes
-pub fn respond(stream: &[u8]) -> Text
+pub fn respond(stream: &[u8]) -> Text<ROOM>
     ensures { result ≡ printed stream.now }
 {
     match record::asked_by(stream) {

@@ -107,9 +107,6 @@ pub place_in : (n : ℕ) (is js : List ℕ) (xs : List Float) (k len m : ℕ) �
 place_in n is js xs k len m w h e = rw e (w.places k h)
 
 module _ (rows cols : ℕ → ℕ) (numbers : Row) (n : ℕ) where
-  pub entries_none : (a : Mat) → assembled_from rows cols numbers (n - 0) 0 a ≡ assembled_from rows cols numbers n 0 a
-  entries_none a = let e : n - 0 ≡ n = omega arith in rw e
-
   pub entries-step : (k : ℕ) (a b w : Mat) → k < n → b ≡ added_at a (rows k) (cols k) (numbers k) → assembled_from rows cols numbers (n - k) k a ≡ w
       → assembled_from rows cols numbers (n - (k + 1)) (k + 1) b ≡ w
   unfolding assembled_from

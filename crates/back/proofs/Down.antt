@@ -1,5 +1,5 @@
 -- Laws of sums down a column: one row more, in two parts, with other numbers, and the loops that form them. Assumes nothing.
-use Prim.Native.Nat.{ℕ, zero, suc, ◌+◌, ◌-◌, ◌*◌, ◌<◌, ◌≤◌, ◌^◌}
+use Prim.Native.Nat.{ℕ, zero, suc, ◌+◌, ◌-◌, ◌*◌, ◌<◌, ◌≤◌}
 use mathlib.Core.Path.{◌≡◌, refl, sym, ◌∙◌, ap}
 use mathlib.Core.Bool.{Bool, false}
 use mathlib.Core.List.{List}
@@ -8,24 +8,16 @@ use native.Mathlib.Nat.{le_antisymm}
 use borrow.Author.Tests.{le-leb, lt-leb}
 use lib.ListN.{get_or}
 use lib.Ieee.{Float, nan}
-use mir.Syntax.{w64}
-use mir.Val.{Fits}
 use Rattle.model.specs.Scalar.{◌⊖◌, ◌⊗◌}
 use Rattle.model.specs.Matrix.{Row, column_start, view, vec}
 use Rattle.model.specs.Step.{past_of}
 use Rattle.model.specs.Solve.{less_later}
 use Rattle.model.proofs.Past.{past-above}
 use Rattle.grid.proofs.Laws.{col-in, view-at}
-use Rattle.forward.specs.Forward.{ColumnPre, BelowPre}
+use Rattle.forward.specs.Forward.{BelowPre}
 use Rattle.back.specs.Back.{fallen, fallen_whole}
 
 -- ---- rows of a column are there; i is the row after the one that is read
-
-pub row_in : (blocks : List ℕ) (n k hi lo i s len : ℕ) → ColumnPre blocks n k hi len → s ≡ column_start n k → lo < i → i ≤ hi → i - 1 + s < len
-row_in blocks n k hi lo i s len w e h g = omega (arith, w.rows, col-in n n k len w.area w.column)
-
-pub row_fits : (blocks : List ℕ) (n k hi lo i s len : ℕ) → ColumnPre blocks n k hi len → s ≡ column_start n k → lo < i → i ≤ hi → len < 2 ^ 64 → Fits w64 (i - 1 + s)
-row_fits blocks n k hi lo i s len w e h g o = record { fits = omega (arith, row_in blocks n k hi lo i s len w e h g) }
 
 -- four columns, of which the u-th begins at `from u`, are there
 pub four-there : (n k lo len : ℕ) (from : ℕ → ℕ) → BelowPre n k lo len → ((u : ℕ) → u < 4 → from u ≡ 0 + column_start n (k + u))

@@ -99,20 +99,8 @@ two-pre blocks n m k j hi len w e h o p = record {
   second = column-pre blocks n m k (k + 4) hi (j + 1) len (beside-pre blocks n k hi len w h) e (omega arith);
 }
 
-pub second-of-two : (blocks : List ℕ) (n k hi len : ℕ) → TwoPre blocks n k hi len → ColumnPre blocks n (k + 1) hi len
-second-of-two blocks n k hi len w = w.second
-
-pub first-of-two : (blocks : List ℕ) (n m k hi len : ℕ) → TwoPre blocks n k hi len → m ≡ n → ColumnPre blocks m k hi len
-first-of-two blocks n m k hi len w e = rw e w.first
-
 pub ones-pre : (blocks : List ℕ) (n m s k len : ℕ) → ForwardPre blocks n len → m ≡ n → s < k → k ≤ n → ColumnPre blocks m (k - 1) n len
 ones-pre blocks n m s k len w e h g = column-pre blocks n m 0 n n (k - 1) len (rest-pre blocks n n 0 len w refl (omega arith)) e (omega arith)
-
-pub same-pre : (blocks : List ℕ) (n m len : ℕ) → ForwardPre blocks n len → m ≡ n → ForwardPre blocks m len
-same-pre blocks n m len w e = rw e w
-
-pub fours-pre : (blocks : List ℕ) (n m q f len : ℕ) → ForwardPre blocks n len → m ≡ n → 4 * q ≤ n → f ≤ q → 0 < f → TogetherPre blocks m (4 * (f - 1)) len
-fours-pre blocks n m q f len w e h g o = rw e (record { whole = w; columns = omega arith })
 
 -- ---- the loops and the calls
 

@@ -36,6 +36,8 @@ pub fn begin(input: &[f64], b: &mut LentBuffers)
 
 // What a run refusal (7, 8, 9, 23 or 24) leaves: every output and the working buffer hold zeros.
 // out: all nine
+// (Inlined: as a call it would have every factor call, refused or not, store the buffers' addresses on the stack.)
+#[inline(always)]
 pub fn zero_all(b: &mut LentBuffers)
     ensures same { SameLent b.old b.new }
     ensures zeros { lent_in b.new ≡ zeros (lent_in b.old) }

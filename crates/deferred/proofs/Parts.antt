@@ -98,9 +98,6 @@ rows_more a P Q G kb w c end lo mid hi g h l p q =
 
 -- ---- as the loops have it
 
-pub columns-still : (n m kb ke glen len len' : ℕ) → ColumnsPre n m kb ke glen len → len' ≡ len → ColumnsPre n m kb ke glen len'
-columns-still n m kb ke glen len len' h e = record { start = h.start; stop = h.stop; rows = h.rows; panel = e ∙ h.panel; out = h.out }
-
 pub columns-step : (a P Q G : Mat) (n m kb ke c r end lo hi glen len : ℕ) → ColumnsPre n m kb ke glen len → ke ≤ c → c < end → r ≡ min (c + 2) end
     → P ≡ part_deferred a G kb (ke - kb) ke c lo hi → Q ≡ part_deferred P G kb (ke - kb) c r lo hi → Q ≡ part_deferred a G kb (ke - kb) ke r lo hi
 columns-step a P Q G n m kb ke c r end lo hi glen len h l g e p q =

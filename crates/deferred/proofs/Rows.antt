@@ -1,9 +1,7 @@
--- Laws of all later columns: by rows they are the definition's, and what the products ask. Assumes nothing.
+-- Laws of all later columns: by rows they are the definition's. Assumes nothing.
 use Prim.Native.Nat.{ℕ, ◌+◌, ◌-◌, ◌<◌, ◌≤◌, min}
 use mathlib.Core.Path.{◌≡◌, ◌∙◌, ap, fun_ext}
 use mathlib.Core.Bool.{◌&&◌}
-use mathlib.Core.List.{List}
-use native.Mathlib.Nat.{mul-le-mul_right, mul_comm}
 use native.Mathlib.Omega.{arith}
 use borrow.Author.Tests.{lt-ltb, le-ltb, le-leb, ltb-true, ltb-false, leb-true, leb-false}
 use lib.Dec.{ltb, leb}
@@ -16,9 +14,8 @@ use Rattle.model.proofs.Cases.{test, no}
 use Rattle.model.proofs.Summed.{sum_same}
 use Rattle.kernels.specs.Rules.{zeroed}
 use Rattle.whole.specs.Whole.{deferred_rows}
-use Rattle.products.specs.Products.{column_product, with_products, ProductsPre}
+use Rattle.products.specs.Products.{column_product, with_products}
 use Rattle.sums.specs.Sums.{later_row, gathered}
-use Rattle.deferred.specs.Deferred.{DeferredPre}
 use Rattle.deferred.specs.Columns.{column_deferred, part_deferred}
 
 -- ---- all later columns, by rows
@@ -57,19 +54,3 @@ module _ (G H a : Mat) (D : Diagonals) (n c kb ke : ℕ) (e : H ≡ with_product
 pub update-whole : (G H a P : Mat) (D : Diagonals) (n c kb ke : ℕ) → kb ≤ ke → H ≡ with_products G D a kb ke n (ke - kb)
     → P ≡ part_deferred a H kb (ke - kb) ke c ke n → P ≡ deferred_rows n c D kb ke a
 update-whole G H a P D n c kb ke h e p = p ∙ by_rows G H a D n c kb ke e h
-
--- ---- what the parts ask
-
-pub update-products : (n c kb ke glen len dlen slen : ℕ) (bs : List ℕ) → DeferredPre n c kb ke glen len dlen slen bs
-    → ProductsPre n kb ke glen len dlen slen bs
-update-products n c kb ke glen len dlen slen bs h =
-    record {
-      start = h.start;
-      rows = omega arith;
-      out = h.out;
-      columns = omega (arith, mul-le-mul_right n h.stop, mul_comm n c);
-      pivots = h.pivots;
-      subs = h.subs;
-      flags = h.flags;
-      closed = h.closed;
-    }

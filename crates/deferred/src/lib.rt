@@ -108,23 +108,27 @@ fn defer_rows(panel: &mut [f64], g: &[f64], at: Frame, lo: usize, hi: usize)
     let mut y = [0.0; PART];
     let end = at.ncol.min(hi);
     let mut c = at.ke;
-    // the next column is the answer of each turn: over a `step_by` the compiler worked the ends of a turn out several
-    // times, and heads of 16 and 32 columns took 4 and 5 in 100 longer
+    // the next column is the answer of each turn: over a `step_by` the compiler works the ends of a turn out several
+    // times, 2 in 100 more instructions on panels of 16 columns, 8 on narrower ones
     while c < end {
         c = defer_next(panel, g, &mut x, &mut y, at, c, end, lo, hi);
     }
 }
 
-// The columns from ke on, each from its diagonal down, lose their sums, a part of the rows at a time.
+// The columns from ke on, each from its diagonal down, lose their sums, a part of the rows at a time. A part begins
+// where the one before it ended: over a `step_by` 9 in 100 more instructions on panels of 4 columns, for the same reason
+// as in defer_rows.
 fn defer_columns(panel: &mut [f64], g: &[f64], at: Frame)
     requires { ColumnsPre at.nrow at.ncol at.kb at.ke (length g.now) (length panel.old) }
     ensures { view at.nrow panel.new
         ≡ part_deferred (view at.nrow panel.old) (view at.nrow g.now) at.kb
         (at.ke - at.kb) at.ke at.ncol at.ke at.nrow }
 {
-    for lo in (at.ke..at.nrow).step_by(PART) {
+    let mut lo = at.ke;
+    while lo < at.nrow {
         let hi = lo + PART.min(at.nrow - lo);
         defer_rows(panel, g, at, lo, hi);
+        lo = hi;
     }
 }
 
@@ -132,6 +136,8 @@ fn defer_columns(panel: &mut [f64], g: &[f64], at: Frame)
 // each term L.D of x's row times L of x's column's row.
 // work: g (ke − kb)·nrow numbers, any on entry; L.D of the rows from ke on afterwards.
 // origin: src/numeric/ldlt/bunch_kaufman.rs, fn ll_cdiv_emit
+// (Not inlined: in one function with the panel's steps the compiler keeps these loops' variables on the stack.)
+#[inline(never)]
 pub fn deferred_update(panel: &mut [f64], x: DiagonalLists, g: &mut [f64], at: Frame)
     requires { DeferredPre at.nrow at.ncol at.kb at.ke (length g.old) (length panel.old)
         (length x.d.now) (length x.sub.now) x.blocks.now }

@@ -4,7 +4,7 @@ use mathlib.Core.Bool.{Bool, true, false}
 use mathlib.Core.List.{List}
 use Prim.Native.Nat.{ℕ, ◌+◌, ◌-◌}
 use native.Mathlib.Omega.{arith}
-use borrow.Author.Tests.{eqb-true, lt-ltb}
+use borrow.Author.Tests.{lt-ltb}
 use lib.Dec.{eqb}
 use lib.ListN.{get_or}
 use lib.Ieee.{Float, nan}
@@ -12,12 +12,8 @@ use Rattle.model.specs.Matrix.{vec, naturals}
 use Rattle.model.specs.Step.{begins, ends_block, past_of, block_at, diagonal_at}
 use Rattle.model.specs.declared.Block.{Block}
 use Rattle.model.specs.declared.Diagonal.TheVariants.{One, Two}
-use Rattle.diagonal.specs.Diagonal.{BlockPre, PivotPre}
 
 -- ---- a block's second column
-
-pub ends-first : (bs : List ℕ) (k : ℕ) → k ≡ 0 → false ≡ ends_block (naturals bs) k
-ends-first bs k e = rw e
 
 pub ends-later : (bs : List ℕ) (k : ℕ) → (k ≡ 0 → ⊥) → eqb (get_or bs (k - 1) 0) 1 ≡ ends_block (naturals bs) k
 unfolding naturals
@@ -43,7 +39,3 @@ module _ (ds subs : List Float) (bs : List ℕ) (k : ℕ) (t : Bool) (e : t ≡ 
   pub one_at : t ≡ false → One (get_or ds k nan) ≡ diagonal_at (vec ds) (vec subs) (naturals bs) k
   unfolding diagonal_at vec
   one_at z = rw (sym e ∙ z)
-
--- a block's two columns are there
-pub block-pre : (k ld ls : ℕ) (bs : List ℕ) (t : Bool) → PivotPre k ld ls bs → t ≡ begins (naturals bs) k → t ≡ true → BlockPre k ld ls
-block-pre k ld ls bs t h e z = record { d = h.next (eqb-true (naturals bs k) 1 (sym e ∙ z)); sub = h.sub }

@@ -13,11 +13,10 @@ use Rattle.model.specs.Scalar.{◌⊖◌, ◌⊗◌}
 use Rattle.model.specs.Matrix.{Row, Mat, column_start, view, vec, within, with_column, with_part}
 use Rattle.model.proofs.Cases.{test, no}
 use Rattle.grid.specs.Rules.{column_of}
-use Rattle.kernels.specs.Rules.{times, combined, ThreePre}
-use Rattle.kernels.proofs.Parts.{mid-count}
+use Rattle.kernels.specs.Rules.{times, combined}
 use Rattle.grid.proofs.Parts.{column-at, column-lent}
 use Rattle.whole.proofs.Masked.{within_in, within-before, within-past, ranged}
-use Rattle.eliminate.specs.Eliminate.{in_panel, KeepPre, SourcePre}
+use Rattle.eliminate.specs.Eliminate.{in_panel, KeepPre}
 
 pub kept_at : (kb ke : ℕ) (B : Mat) (j c : ℕ) → kb ≤ j → j < ke → kb ≤ c → c < ke → B (j - kb) (c - kb) ≡ in_panel kb ke B j c
 unfolding in_panel
@@ -83,21 +82,6 @@ keep-one-lent nb n xs ys zs kb ke c lo s u r kept source pre h ly e =
     (column-lent nb xs ys (c - kb) s (lo - kb) (ke - kb) _ _ (λ a. view n zs (a + kb) c ⊗ r) kept (omega (arith, pre.col, pre.width)) (omega (arith, pre.up)) (omega (arith, pre.width)) ly e
     (λ t l. rw (column-at n zs c u lo ke t source h (omega arith), shift lo kb t above)))
     ∙ kept-column kb ke (view nb xs) c lo _ _ pre.from pre.here above (λ a g m. ap (λ (x : ℕ). view n zs x c ⊗ r) (omega arith))
-
--- the parts of the buffer and of the panel are as long as they are to be
-pub keep-parts : (nb n : ℕ) (xs zs : List Float) (kb ke c t lo s u v : ℕ) → s ≡ column_start nb (c - kb) → u ≡ column_start n c
-    → v ≡ column_start n t → KeepPre nb kb ke c lo (length xs) → SourcePre n ke c (length zs)
-    → SourcePre n ke t (length zs)
-    → ThreePre (ke - kb - (lo - kb)) (length (mid_of (lo - kb + s) (ke - kb + s - (lo - kb + s)) xs))
-    (length (mid_of (lo + u) (ke + u - (lo + u)) zs)) (length (mid_of (lo + v) (ke + v - (lo + v)) zs))
-keep-parts nb n xs zs kb ke c t lo s u v kept source other pre first second =
-    let above = pre.above in
-    let up = pre.up in
-    record {
-      out = omega (arith, mid-count (lo - kb + s) (ke - kb + s) xs (omega arith) (omega (arith, pre.col, pre.width)));
-      first = omega (arith, mid-count (lo + u) (ke + u) zs (omega arith) (omega (arith, first.rows, first.col)));
-      second = omega (arith, mid-count (lo + v) (ke + v) zs (omega arith) (omega (arith, second.rows, second.col)));
-    }
 
 pub keep-two-lent : (nb n : ℕ) (xs ys zs : List Float) (kb ke c t lo s u v : ℕ) (p q r : Float) → s ≡ column_start nb (c - kb) → u ≡ column_start n c
     → v ≡ column_start n t → KeepPre nb kb ke c lo (length xs) → ke ≤ n

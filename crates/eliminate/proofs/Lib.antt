@@ -2,4 +2,3 @@
 pub mod Region
 pub mod Buffer
 pub mod Rows
-pub mod Calls

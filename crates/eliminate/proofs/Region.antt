@@ -1,18 +1,15 @@
 -- The sweeps over columns: one law for both, that a turn is one column more. Assumes nothing.
-use Prim.Native.Nat.{ℕ, ◌+◌, ◌-◌, ◌*◌, ◌<◌, ◌≤◌, max}
+use Prim.Native.Nat.{ℕ, ◌+◌, ◌-◌, ◌<◌, ◌≤◌, max}
 use mathlib.Core.Path.{◌≡◌, refl, ◌∙◌, ap, fun_ext}
 use mathlib.Core.Bool.{◌&&◌, cond}
 use mathlib.Core.List.{[], ◌∷◌}
 use native.Mathlib.Omega.{arith}
-use native.Mathlib.Nat.{le_antisymm}
 use borrow.Author.Tests.{lt-ltb, le-ltb, le-leb, lt-leb, eq-eqb, ne_eqb, leb-true, leb-false}
 use lib.Dec.{leb}
 use lib.Ieee.{Float}
 use Rattle.model.specs.Matrix.{Row, Mat, vec, within, with_column}
 use Rattle.model.proofs.Cases.{test, cmp}
-use Rattle.grid.specs.Grid.{In}
-use Rattle.grid.specs.Rules.{column_of, less_columns, less_times_if, less_two, LaterPre}
-use Rattle.grid.proofs.Laws.{in-panel, col-in}
+use Rattle.grid.specs.Rules.{column_of, less_columns, less_times_if, less_two}
 use Rattle.grid.proofs.Together.{columns-two}
 use Rattle.eliminate.specs.Eliminate.{in_panel, region, swept_one, swept_two}
 use Rattle.eliminate.proofs.Buffer.{kept_at}
@@ -74,9 +71,6 @@ sweep-one-step M P Q B kb ke k j lo hi top m h g f p t e q =
     one-turn M P Q B kb ke k j lo hi top m h g f p t e
     (q ∙ ap (λ (s : Row). with_column P j top hi (less_times_if (column_of P j) s m)) (sweep-one-source M P _ k j lo hi p))
 
-pub sweep-one-end : (M P : Mat) (m : Row) (k j ke lo hi : ℕ) → j ≤ ke → ke ≤ j → P ≡ swept_one M m k j lo hi → P ≡ swept_one M m k ke lo hi
-sweep-one-end M P m k j ke lo hi h g e = e ∙ ap (λ (z : ℕ). swept_one M m k z lo hi) (le_antisymm h g)
-
 -- ---- after a block
 
 pub sweep-two-none : (M : Mat) (m1 m2 : Row) (k lo hi : ℕ) → M ≡ swept_two M m1 m2 k (k + 2) lo hi
@@ -108,23 +102,3 @@ sweep-two-step M P Q B kb ke k j lo hi top m1 m2 h g f p o e1 e2 q =
     (q ∙ ap (λ (N : Row). with_column P j top hi N) (columns-two P k j (vec (m1 ∷ m2 ∷ [])))
     ∙ ap (λ (s : Row). with_column P j top hi (less_two (column_of P j) s (column_of P (k + 1)) m1 m2)) (sweep-two-source M P _ _ k j lo hi k (omega arith) p)
     ∙ ap (λ (t : Row). with_column P j top hi (less_two (column_of P j) (column_of M k) t m1 m2)) (sweep-two-source M P _ _ k j lo hi (k + 1) (omega arith) p))
-
-pub sweep-two-end : (M P : Mat) (m1 m2 : Row) (k j ke lo hi : ℕ) → j ≤ ke → ke ≤ j → P ≡ swept_two M m1 m2 k j lo hi → P ≡ swept_two M m1 m2 k ke lo hi
-sweep-two-end M P m1 m2 k j ke lo hi h g e = e ∙ ap (λ (z : ℕ). swept_two M m1 m2 k z lo hi) (le_antisymm h g)
-
--- ---- what a turn asks
-
-pub later-pre : (n c ke lo hi k j top len len' : ℕ) → len ≡ n * c → ke ≤ c → k + 1 ≤ j → j < ke → lo ≤ hi → ke ≤ hi → hi ≤ n → len' ≡ len
-    → top ≡ max j lo → LaterPre n k j top hi len'
-later-pre n c ke lo hi k j top len len' e f h l u v w y z =
-    record { col = omega (arith, col-in n c j len e (omega arith)); past = omega arith; up = omega arith; rows = w }
-
-pub later-pre-next : (n c ke lo hi k j top len len' : ℕ) → len ≡ n * c → ke ≤ c → k + 2 ≤ j → j < ke → lo ≤ hi → ke ≤ hi → hi ≤ n → len' ≡ len
-    → top ≡ max j lo → LaterPre n (k + 1) j top hi len'
-later-pre-next n c ke lo hi k j top len len' e f h l u v w y z = later-pre n c ke lo hi (k + 1) j top len len' e f (omega arith) l u v w y z
-
-pub multiplier-in : (nb kb ke j k d len : ℕ) → len ≡ nb * nb → ke ≤ kb + nb → k + d ≤ j → j < ke → kb ≤ k → In nb (j - kb) (k - kb) len
-multiplier-in nb kb ke j k d len e w h l f = in-panel nb nb (j - kb) (k - kb) len e (omega arith) (omega arith)
-
-pub multiplier-in-next : (nb kb ke j k len : ℕ) → len ≡ nb * nb → ke ≤ kb + nb → k + 2 ≤ j → j < ke → kb ≤ k → In nb (j - kb) (k + 1 - kb) len
-multiplier-in-next nb kb ke j k len e w h l f = in-panel nb nb (j - kb) (k + 1 - kb) len e (omega arith) (omega arith)

@@ -4,7 +4,7 @@ use mathlib.Core.Bool.{Bool, true, false, not, ◌&&◌}
 use mathlib.Core.List.{List}
 use Prim.Native.Nat.{ℕ, ◌+◌, ◌*◌, ◌≤◌}
 use native.Mathlib.Omega.{arith}
-use borrow.Author.Tests.{not-false, leb-true, eqb-true}
+use borrow.Author.Tests.{leb-true, eqb-true}
 use lib.Dec.{leb}
 use lib.Ieee.{Float, lt}
 use mir.Syntax.{w64}
@@ -25,7 +25,6 @@ use Rattle.model.proofs.Cases.{and_left, and_right}
 use Rattle.model.proofs.Entry.{first-sound, second-sound, not-refused}
 use Rattle.total.specs.Finite.{PanelPre}
 use Rattle.checks.proofs.Shape as shape
-use Rattle.checks.proofs.Answers.{first-refuses, second-decides}
 use Rattle.entry.specs.Entry.{LengthsPre}
 
 -- ---- the stated lengths fit a machine word
@@ -91,17 +90,6 @@ module _ (c : Settings) (n : Lengths) (s : Bool) (h : s ≡ shape_sound c.ncol c
     unfolding settings_check
     settings-mode r y e = rw (← h, x, w, ← g, y) e
 
-  -- past the first two, no stated length overflows
-  pub settings-sizes : not s ≡ false → not (leb 1 c.nb && leb c.nb widest_panel) ≡ false → LengthsPre c.ncol c.nrow c.nb
-  settings-sizes x w =
-      let shape : shape_sound c.ncol c.nrow ≡ true = sym h ∙ not-false s x in
-      let width : leb 1 c.nb && leb c.nb widest_panel ≡ true = not-false (leb 1 c.nb && leb c.nb widest_panel) w in
-      record {
-        rows = leb-true c.ncol c.nrow (search (and_left, and_right));
-        few_rows = leb-true c.nrow most_rows (search (and_left, and_right));
-        narrow = leb-true c.nb widest_panel (search (and_left, and_right));
-      }
-
 -- past all five, the input is a panel of its stated length
 pub settings-panel : (c : Settings) (n : Lengths) (e : Check) (len : ℕ) → e ≡ settings_check c n → e ≡ Ok tt → n.input ≡ len
     → PanelPre c.nrow c.ncol len
@@ -114,15 +102,6 @@ settings-panel c n e len h s l =
       rows = leb-true c.ncol c.nrow (search (and_left, and_right));
       panel = sym l ∙ eqb-true n.input (c.nrow * c.ncol) (search and_left);
     }
-
--- ---- 1 to 5, then 6: e is what the first five say
-
-module _ (c : Settings) (n : Lengths) (rest : Check) (e : Check) (h : e ≡ settings_check c n) where
-  pub check-refused : (r : Refusal) → e ≡ Err r → e ≡ or_else (settings_check c n) rest
-  check-refused r x = first-refuses e r (settings_check c n) rest x h
-
-  pub check_sound : (f : Check) → e ≡ Ok tt → f ≡ rest → f ≡ or_else (settings_check c n) rest
-  check_sound f x g = second-decides e f (settings_check c n) rest x h g
 
 -- ---- the factor call: e is what `check` answers over the lengths of its buffers
 

@@ -4,7 +4,6 @@ use mathlib.Core.Path.{◌≡◌, refl, sym, ◌∙◌, ap, subst, fun_ext}
 use mathlib.Core.Bool.{false, ◌&&◌}
 use mathlib.Core.List.{List}
 use native.Mathlib.Omega.{arith}
-use native.Mathlib.Nat.{le_antisymm}
 use borrow.Author.Tests.{lt-ltb, le-ltb, le-leb, lt-leb, eq-eqb, ne_eqb, eqb-true, eqb-false, ltb-true, ltb-false}
 use lib.Dec.{ltb, leb, eqb}
 use lib.ListN.{length, get_or, set, length-set}
@@ -123,9 +122,3 @@ pub diagonal-step : (xs ys : List Float) (n p q s t : ℕ) → s ≡ column_star
 diagonal-step xs ys n p q s t first second d b rp rq y =
     let r = in_both n (length xs) p p q q xs (omega arith) (omega arith) (omega arith) (omega arith) refl in
     rw y (view-swapped n xs p p s q q t first second r.0 r.1 ∙ diagonal-is (view n xs) p q d)
-
-pub rows_end : (M P : Mat) (p q lo i hi : ℕ) → i ≤ hi → hi ≤ i → P ≡ rows_exchanged M p q lo i → P ≡ rows_exchanged M p q lo hi
-rows_end M P p q lo i hi h l e = e ∙ ap (λ (k : ℕ). rows_exchanged M p q lo k) (le_antisymm h l)
-
-pub cross-end : (M P : Mat) (p q lo i hi : ℕ) → i ≤ hi → hi ≤ i → P ≡ cross_exchanged M p q lo i → P ≡ cross_exchanged M p q lo hi
-cross-end M P p q lo i hi h l e = e ∙ ap (λ (k : ℕ). cross_exchanged M p q lo k) (le_antisymm h l)

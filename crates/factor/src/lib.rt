@@ -36,6 +36,7 @@ fn eliminate(c: Settings, input: &[f64], b: &mut LentBuffers) -> Result<usize, R
     let amounts = &mut *b.amounts;
     let order = &mut *b.order;
     let work = &mut *b.work;
+    // a limit's length: there is no heap
     let mut partners = [0u16; COLUMNS_MAX];
     let mut r = PivotRecord {
         d,

@@ -1,12 +1,10 @@
 -- Laws of the kernels and of parts of the vector that are lent to them: one place more, one column, four columns. Assumes nothing.
-use Prim.Native.Nat.{ℕ, ◌+◌, ◌-◌, ◌*◌, ◌<◌, ◌≤◌, ◌^◌}
+use Prim.Native.Nat.{ℕ, ◌+◌, ◌-◌, ◌*◌, ◌<◌, ◌≤◌}
 use mathlib.Core.Path.{◌≡◌, refl, sym, ◌∙◌, ap}
 use mathlib.Core.List.{List, [], ◌∷◌}
 use native.Mathlib.Omega.{arith}
 use lib.ListN.{length, get_or, set}
 use lib.Ieee.{Float, nan}
-use mir.Syntax.{w64}
-use mir.Val.{Fits}
 use Rattle.model.specs.Scalar.{◌⊖◌, ◌⊗◌}
 use Rattle.model.specs.Matrix.{Row, column_start, view, vec, naturals, with_part}
 use Rattle.model.specs.Step.{past_of}
@@ -26,18 +24,6 @@ less-step c f xs gs i n len from m v l h r e g =
     store f xs i n len _ _ l h r e (g ∙ all_same c _ _ _ _ m (reached f xs i _ e) (λ u o. refl))
 
 -- ---- where columns stand in a panel of n rows and columns
-
-pub start_fits : (blocks : List ℕ) (n k hi len : ℕ) → ColumnPre blocks n k hi len → len < 2 ^ 64 → Fits w64 (column_start n k)
-start_fits blocks n k hi len w g = record { fits = omega (arith, col-in n n k len w.area w.column) }
-
-pub from-fits : (blocks : List ℕ) (n k lo hi s len : ℕ) → ColumnPre blocks n k hi len → s ≡ column_start n k → lo ≡ past_of (naturals blocks) k → len < 2 ^ 64
-    → Fits w64 (lo + s)
-from-fits blocks n k lo hi s len w a e g = record { fits = omega (arith, col-in n n k len w.area w.column, w.past, w.rows) }
-
-pub four-fit : (n k lo len : ℕ) → BelowPre n k lo len → len < 2 ^ 64 → Fits w64 (k + 3) × Fits w64 (lo + (k + 3) * n)
-four-fit n k lo len w g =
-    let last : n + (k + 3) * n ≤ len = col-in n n (k + 3) len w.area (omega (arith, w.columns)) in
-    (record { fits = omega (arith, w.columns) }, record { fits = omega (arith, w.rows) })
 
 -- rows lo up to hi of column k are there
 rows-there : (n k lo hi s len : ℕ) → s ≡ lo + column_start n k → len ≡ n * n → k < n → lo ≤ hi → hi ≤ n → s + (hi - lo) ≤ len

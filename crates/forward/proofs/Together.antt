@@ -16,7 +16,7 @@ use Rattle.model.proofs.Past.{past-above, past_near, past-within}
 use Rattle.kernels.specs.Rules.{less_all}
 use Rattle.kernels.proofs.Laws.{with_part-before, with_part-past}
 use Rattle.kernels.proofs.Rules.{all_same}
-use Rattle.forward.specs.Forward.{column_lost, columns_lost, four_lost, ForwardPre, ColumnPre, ColumnsPre, BelowPre, TogetherPre}
+use Rattle.forward.specs.Forward.{column_lost, columns_lost, four_lost, ForwardPre, ColumnPre, ColumnsPre, TogetherPre}
 
 -- a place that is written
 pub part_in : (f N : Row) (lo hi i : ℕ) → lo ≤ i → i < hi → with_part f lo hi N i ≡ N i
@@ -134,12 +134,6 @@ column-pre blocks n m s e hi k len w q h =
 pub beside-pre : (blocks : List ℕ) (n k hi len : ℕ) → TogetherPre blocks n k len → hi ≡ min (k + 5) n → ColumnsPre blocks n k (k + 4) hi len
 beside-pre blocks n k hi len w h = record { whole = w.whole; up = omega arith; columns = w.columns; past = omega arith; rows = omega arith }
 
-pub below-pre : (blocks : List ℕ) (n m k hi len : ℕ) → TogetherPre blocks n k len → m ≡ n → hi ≡ min (k + 5) n → BelowPre m k hi len
-below-pre blocks n m k hi len w e h = rw e (record { columns = w.columns; rows = omega arith; area = w.whole.area })
-
-pub fours-pre : (blocks : List ℕ) (n m k len : ℕ) → ForwardPre blocks n len → m ≡ n → k % 4 ≡ 0 → k < n - n % 4 → TogetherPre blocks m k len
-fours-pre blocks n m k len w e f h = rw e (record { whole = w; columns = omega arith })
-
 pub rest-pre : (blocks : List ℕ) (n m s len : ℕ) → ForwardPre blocks n len → m ≡ n → s ≤ n → ColumnsPre blocks m s m m len
 rest-pre blocks n m s len w e h = rw e (record { whole = w; up = h; columns = omega arith; past = omega arith; rows = omega arith })
 
@@ -157,10 +151,6 @@ module _ (blocks : ℕ → ℕ) (gs : List Float) (n : ℕ) where
       let a : k + 1 - s ≡ suc (k - s) = omega arith in
       let b : s + (k - s) ≡ k = omega arith in
       rw (a, b) (q ∙ rw (e, p))
-
-  pub columns-end : (hi s k e : ℕ) (x y : Row) → k ≤ e → e ≤ k → y ≡ columns_lost blocks (view n gs) hi (k - s) s x
-      → y ≡ columns_lost blocks (view n gs) hi (e - s) s x
-  columns-end hi s k e x y h g p = p ∙ ap (λ (q : ℕ). columns_lost blocks (view n gs) hi (q - s) s x) (le_antisymm h g)
 
   pub four-columns : (m k hi : ℕ) (y v w : Row) → k + 4 ≤ n → hi ≡ min (k + 5) n → m ≡ n → v ≡ columns_lost blocks (view n gs) hi (k + 4 - k) k y
       → w ≡ four_lost (view m gs) hi m k v → w ≡ columns_lost blocks (view n gs) n 4 k y

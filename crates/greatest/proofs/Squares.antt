@@ -1,9 +1,9 @@
 -- Laws of the greatest square: one place more, the end, and the two scans that the choice of a pivot makes. Assumes nothing.
-use Prim.Native.Nat.{ℕ, zero, suc, max, min, ◌+◌, ◌-◌, ◌*◌, ◌<◌, ◌≤◌}
+use Prim.Native.Nat.{ℕ, zero, suc, max, min, ◌+◌, ◌-◌, ◌<◌, ◌≤◌}
 use mathlib.Core.Path.{◌≡◌, refl, sym, ◌∙◌, ap, subst}
 use mathlib.Core.Logic.{inl, inr}
 use mathlib.Core.List.{List}
-use native.Mathlib.Nat.{mul-le-mul_right, suc-mul, max-eq_left, max-eq_right, min-eq_left, min-eq_right}
+use native.Mathlib.Nat.{max-eq_left, max-eq_right, min-eq_left, min-eq_right}
 use native.Mathlib.Omega.{arith}
 use borrow.Author.Tests.{lt-ltb, le-ltb, ltb-true, ltb-false}
 use lib.Dec.{ltb}
@@ -14,9 +14,8 @@ use Rattle.model.specs.Matrix.{Row, Mat, column_start, view}
 use Rattle.model.specs.Choice.{greatest, none_yet, column_greatest, row_greatest}
 use Rattle.model.specs.declared.Greatest.{Greatest}
 use Rattle.model.proofs.Cases.{test, one_left, none_left}
-use Rattle.grid.specs.Grid.{In, DownPre}
-use Rattle.grid.proofs.Laws.{view-read, col-in, in-col}
-use Rattle.greatest.specs.Greatest.{better, greatest_down, greatest_along, across, FoundIn, AlongPre, ColumnPre, RowPre, AcrossPre}
+use Rattle.grid.proofs.Laws.{view-read}
+use Rattle.greatest.specs.Greatest.{better, greatest_down, greatest_along, across, FoundIn}
 
 -- ---- the two directions: g is the best before place i, G the whole scan's
 
@@ -108,21 +107,3 @@ row-found a k ke r F G h l e p =
 pub row_is : (a : Mat) (k ke r : ℕ) (F G : Greatest) → F ≡ greatest_along a r k r (none_yet k) → G ≡ greatest_down a r (r + 1) ke F → G ≡ row_greatest a k ke r
 unfolding greatest_down greatest_along row_greatest
 row_is a k ke r F G e p = p ∙ rw e
-
--- ---- what the parts ask
-
-pub column-down : (n c k ke len : ℕ) → ColumnPre n c k ke len → DownPre n k (k + 1) ke len
-column-down n c k ke len h = record { up = omega arith; rows = omega arith; there = col-in n c k len h.panel (omega arith) }
-
-pub row-along : (n c k ke r len : ℕ) → RowPre n c k ke r len → AlongPre n r k r len
-row-along n c k ke r len h = record { up = h.here; inside = omega arith; there = omega (arith, col-in n c r len h.panel (omega arith)) }
-
-pub across-in : (n r i len : ℕ) → AcrossPre n r i len → In n (max r i) (min r i) len
-across-in n r i len h = in-col n r (max r i) (min r i) len h.column (omega (arith, h.row, h.inside)) (omega arith)
-
-pub row-down : (n c k ke r len : ℕ) → RowPre n c k ke r len → DownPre n r (r + 1) ke len
-row-down n c k ke r len h = record { up = omega arith; rows = omega arith; there = col-in n c r len h.panel (omega arith) }
-
--- a row's entry in the columns before hi
-pub row_in : (n hi i j len : ℕ) → i < n → j < hi → hi * n ≤ len → In n i j len
-row_in n hi i j len r g h = record { row = r; off = omega (arith, mul-le-mul_right n g, suc-mul j n) }

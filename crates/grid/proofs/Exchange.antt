@@ -4,9 +4,9 @@ use mathlib.Core.Path.{◌≡◌, refl, sym, ◌∙◌, ap, fun_ext}
 use mathlib.Core.Bool.{◌&&◌}
 use mathlib.Core.List.{List, ◌++◌}
 use native.Mathlib.Omega.{arith}
-use borrow.Author.Tests.{lt-ltb, le-ltb, le-leb, lt-leb, ne_eqb, eqb-true, eqb-false, ltb-true, ltb-false, leb-true}
+use borrow.Author.Tests.{lt-ltb, le-ltb, le-leb, lt-leb, ne_eqb, eqb-true, ltb-true, ltb-false, leb-true}
 use lib.Dec.{ltb, leb, eqb}
-use lib.ListN.{length, get_or, take, drop, get_or-append, length-drop}
+use lib.ListN.{length, take, drop, get_or-append, length-drop}
 use lib.Seq.{get_or-take, get_or-drop, get_or-append_right, length-take-le}
 use borrow.Rule.Slice.PartMut.{mid_of, put_mid, same_len_mid}
 use lib.Ieee.{Float, nan}

@@ -45,10 +45,6 @@ col-fits n c i j len e hi hj h = record { fits = omega (arith, off-in n c i j le
 
 pub ruleset offsets = (off-in, off-fits, col-fits, in-panel)
 
--- the columns up to q are there
-pub in-col : (n q i j len : ℕ) → n + q * n ≤ len → i < n → j ≤ q → In n i j len
-in-col n q i j len h hi hj = record { row = hi; off = omega (arith, mul-le-mul_right n hj) }
-
 pub col-in : (n c j len : ℕ) → len ≡ n * c → j < c → n + j * n ≤ len
 col-in n c j len e hj = omega (arith, mul-le-mul_right n hj, suc-mul j n, mul_comm n c)
 

@@ -1,5 +1,5 @@
 -- Laws of columns that one column loses together. Assumes nothing.
-use Prim.Native.Nat.{ℕ, ◌+◌, ◌-◌, ◌*◌, ◌<◌, ◌≤◌}
+use Prim.Native.Nat.{ℕ, ◌+◌, ◌-◌, ◌<◌}
 use mathlib.Core.Path.{◌≡◌, sym, ◌∙◌, ap, fun_ext}
 use mathlib.Core.List.{List}
 use native.Mathlib.Omega.{arith}

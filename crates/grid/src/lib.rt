@@ -1,7 +1,8 @@
 // A column-major panel: where its columns begin, and one number read and written, here; parts of columns lent to the
 // slice kernels in columns.rt. Whoever needs an address asks column_start for it: no other code knows how the columns
 // lie. (A panel and its nrow stay two parameters here and above: a struct of both, lent by `&mut`, would have each
-// function promise besides that both stay, which is no plainer.)
+// function promise besides that both stay, which is no plainer. The same holds here and above of other buffers that are
+// lent together: sizes go into structs, what is lent by `&mut` does not.)
 #![tactic(auto)]
 
 ghost use Rattle.std.specs.Prelude.{ℕ, ◌≡◌, ◌+◌, ◌-◌, ◌*◌, ◌<◌, length};

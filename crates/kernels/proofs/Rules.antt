@@ -3,7 +3,6 @@ use Prim.Native.Nat.{ℕ, zero, suc, ◌+◌, ◌-◌, ◌<◌, ◌≤◌}
 use mathlib.Core.Path.{◌≡◌, refl, sym, ◌∙◌, ap, fun_ext}
 use mathlib.Core.List.{List}
 use native.Mathlib.Omega.{arith}
-use native.Mathlib.Nat.{le_antisymm}
 use borrow.Author.Tests.{lt-leb, eqb-true}
 use lib.Dec.{eqb}
 use lib.ListN.{length, get_or, set, length-set}
@@ -32,9 +31,6 @@ store f xs i n len N v l h r e w = with_part-step f (vec xs) _ 0 i N v (omega ar
 
 pub from-none : (f N : Row) (q : ℕ) → f ≡ with_part f q (q + 0) N
 from-none f N q = sym (ap (λ (k : ℕ). with_part f q k N) (omega arith) ∙ with_part-none f q N)
-
-pub from_end : (f : Row) (xs : List Float) (q i n : ℕ) (N : Row) → i ≤ n → n ≤ i → vec xs ≡ with_part f q (q + i) N → vec xs ≡ with_part f q (q + n) N
-from_end f xs q i n N h l e = e ∙ ap (λ (k : ℕ). with_part f q (q + k) N) (le_antisymm h l)
 
 -- a place that is not yet reached, and one before all that are written
 reached-from : (f : Row) (xs : List Float) (q i : ℕ) (N : Row) → vec xs ≡ with_part f q (q + i) N → get_or xs (q + i) nan ≡ f (q + i)
@@ -137,10 +133,6 @@ combine-own-step f xs p i n len d11 d21 d22 r l g h o e =
     both-step f xs p i n len _ _ _ _ l g h o e
     (rw (s, t, ap f {x = i + p} {y = p + i} (omega arith)))
     (rw (s, t, ap f {x = p + i - p} {y = i} (omega arith)))
-
-pub combine-own-end : (f : Row) (xs : List Float) (p i n : ℕ) (N O : Row) → i ≤ n → n ≤ i → vec xs ≡ with_part (with_part f 0 i N) p (p + i) O
-    → vec xs ≡ with_part (with_part f 0 n N) p (p + n) O
-combine-own-end f xs p i n N O h l e = e ∙ ap (λ (k : ℕ). with_part (with_part f 0 k N) p (p + k) O) (le_antisymm h l)
 
 pub blend-step : (f : Row) (xs zs ws : List Float) (i n len : ℕ) (p q : Float) → i < n → n ≤ len → length xs ≡ len
     → vec xs ≡ with_part f 0 i (blended (vec zs) (vec ws) p q)

@@ -147,17 +147,6 @@ pub record Locating (rows krows : List ℕ) (start room : ℕ) (places : List �
   pub located : Located rows krows start i places
 
 module _ (rows krows : List ℕ) (start room : ℕ) (places : List ℕ) (w : LocatePre rows krows start room) where
-  pub locating-none : length places ≡ room → Locating rows krows start room places 0 start
-  locating-none s = record {
-    low = omega arith;
-    high = w.begin;
-    next = omega arith;
-    size = s;
-    scan = refl;
-    passed = record { below = λ q e h l m. absurd (omega arith) };
-    located = record { inside = λ r h l. absurd (omega arith); same = λ r h l. absurd (omega arith) };
-  }
-
   module _ (from i p : ℕ) (v : Locating rows krows start room places from i) (h : i < length krows)
       (e : p ≡ place_from (naturals rows) (naturals krows i) (length rows - from) from) where
     pub locating-step : (p ≡ length rows → ⊥) → Locating rows krows start room (set places i p) (p + 1) (i + 1)
@@ -180,6 +169,3 @@ module _ (rows krows : List ℕ) (start room : ℕ) (places : List ℕ) (w : Loc
   module _ (from i : ℕ) (v : Locating rows krows start room places from i) (h : length krows ≤ i) where
     pub locating-end : Ok tt ≡ first_not (there_at rows (naturals krows)) AbsentRow (length krows - start) start
     locating-end = first-end (there_at rows (naturals krows)) AbsentRow (length krows) i _ h v.scan
-
-    pub locating-all : Located rows krows start (length krows) places
-    locating-all = let e : i ≡ length krows = omega (arith, v.high) in rw e at v.located

@@ -1,15 +1,14 @@
 -- Laws of scans as a loop takes them: k is the place, w what the whole scan finds. And what a scan's result says of each place. Assumes nothing.
 use mathlib.Core.Path.{◌≡◌, sym, ◌∙◌}
-use mathlib.Core.Bool.{Bool, true, false, not}
+use mathlib.Core.Bool.{Bool, true, false}
 use mathlib.Core.List.{List}
 use Prim.Native.Nat.{ℕ, zero, suc, ◌+◌, ◌-◌, ◌≤◌, ◌<◌}
 use native.Mathlib.Omega.{arith}
-use borrow.Author.Tests.{eq-eqb, ne_eqb, eqb-true, eqb-false, ltb-true, ltb-false, not-true, not-false}
+use borrow.Author.Tests.{eq-eqb, ne_eqb, eqb-true, eqb-false, ltb-true, ltb-false}
 use lib.Dec.{ltb, eqb}
 use lib.ListN.{length, get_or}
 use Rattle.std.specs.List.{position_or_len}
 use Rattle.std.proofs.lemmas.List.Sums.{position_or_len_is}
-use Rattle.model.specs.Factor.{every_from}
 use Rattle.model.specs.Update.{place_from}
 use Rattle.model.proofs.Cases.{test, one_left}
 use Rattle.landing.specs.Rows.{first_from}
@@ -17,20 +16,6 @@ use Rattle.landing.specs.Rows.{first_from}
 -- ---- f holds at each of n places: b is the test's answer at k
 
 module _ (f : ℕ → Bool) (n k : ℕ) (w : Bool) where
-  pub every-step : (b : Bool) → k < n → b ≡ f k → not b ≡ false → every_from f (n - k) k ≡ w → every_from f (n - (k + 1)) (k + 1) ≡ w
-  unfolding every_from
-  every-step b h s t e = let y : f k ≡ true = sym s ∙ not-false b t in rw (one_left n k h, y) at e
-
-  pub every-bad : (b : Bool) → k < n → b ≡ f k → not b ≡ true → every_from f (n - k) k ≡ w → false ≡ w
-  unfolding every_from
-  every-bad b h s t e = let y : f k ≡ false = sym s ∙ not-true b t in rw (one_left n k h, y) at e
-
-  pub every-end : n ≤ k → every_from f (n - k) k ≡ w → true ≡ w
-  unfolding every_from
-  every-end h e = let m : n - k ≡ 0 = omega arith in rw m at e
-
-pub every-none : (f : ℕ → Bool) (n : ℕ) → every_from f (n - 0) 0 ≡ every_from f n 0
-every-none f n = let e : n - 0 ≡ n = omega arith in rw e
 
 -- ---- the first place where f holds
 

@@ -58,12 +58,10 @@ pub fn begins_at(t: Target) -> bool
     requires { ColumnsPre t.ncol (length t.rows.now) }
     ensures { result ≡ every_from (stands_at t.entry.first.0 (naturals t.entry.rows.now)) t.entry.ncol 0 }
 {
-    for (j, g) in t.rows[..t.ncol].iter().enumerate() {
-        if !stands_at(t.first, Elim(j), GlobalRow(*g)) {
-            return false;
-        }
-    }
-    true
+    t.rows[..t.ncol]
+        .iter()
+        .enumerate()
+        .all(|(j, g)| stands_at(t.first, Elim(j), GlobalRow(*g)))
 }
 
 // Whether g is the row of one of the target's columns.

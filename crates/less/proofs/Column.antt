@@ -58,9 +58,6 @@ three-times f s t u m1 m2 m3 = refl
 pub block-pre : (n j lo hi len : ℕ) (block : Bool) → LaterPre n (last_of 0 block) j lo hi len → block ≡ true → LaterPre n 1 j lo hi len
 block-pre n j lo hi len block h e = later-at n (last_of 0 block) 1 j lo hi len h (omega (arith, last_block 0 block e))
 
-pub single-pre : (n j lo hi len : ℕ) (block : Bool) → LaterPre n (last_of 0 block) j lo hi len → block ≡ false → LaterPre n 0 j lo hi len
-single-pre n j lo hi len block h e = later-at n (last_of 0 block) 0 j lo hi len h (omega arith)
-
 pub step_block : (M Q : Mat) (j lo hi : ℕ) (m1 m2 : Float) (block : Bool) → block ≡ true
     → Q ≡ with_column M j lo hi (less_two (column_of M j) (column_of M 0) (column_of M 1) m1 m2) → Q ≡ with_column M j lo hi (stepped block M 0 j m1 m2)
 unfolding stepped less_at less_two column_of

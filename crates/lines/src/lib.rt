@@ -25,8 +25,8 @@ const NEWLINE: u8 = b'\n';
 
 // A space and a number in decimal.
 #[tactic(auto, unfolding(crate::specs::Lines::field))]
-fn put_field(n: usize, out: &mut Text)
-    requires { length out.old + 21 ≤ 32768 }
+fn put_field<const ROOM: usize>(n: usize, out: &mut Text<ROOM>)
+    requires { length out.old + 21 ≤ ROOM }
     ensures writes { out.new ≡ out.old ++ field n }
     ensures upper_bound { length out.new ≤ length out.old + 21 }
 {
@@ -36,8 +36,8 @@ fn put_field(n: usize, out: &mut Text)
 
 // A space and a number's bits.
 #[tactic(auto, unfolding(crate::specs::Lines::number))]
-fn put_number(x: f64, out: &mut Text)
-    requires { length out.old + 17 ≤ 32768 }
+fn put_number<const ROOM: usize>(x: f64, out: &mut Text<ROOM>)
+    requires { length out.old + 17 ≤ ROOM }
     ensures writes { out.new ≡ out.old ++ number x }
     ensures value { length out.new ≡ length out.old + 17 }
 {
@@ -47,8 +47,8 @@ fn put_number(x: f64, out: &mut Text)
 
 // Three numbers in decimal.
 #[tactic(auto, unfolding(crate::specs::Lines::three))]
-fn put_three(x: usize, y: usize, z: usize, out: &mut Text)
-    requires { length out.old + 63 ≤ 32768 }
+fn put_three<const ROOM: usize>(x: usize, y: usize, z: usize, out: &mut Text<ROOM>)
+    requires { length out.old + 63 ≤ ROOM }
     ensures writes { out.new ≡ out.old ++ three x y z }
     ensures upper_bound { length out.new ≤ length out.old + 63 }
 {
@@ -61,8 +61,8 @@ fn put_three(x: usize, y: usize, z: usize, out: &mut Text)
 
 // A refusal's line: its number and place.
 #[tactic(auto, unfolding(crate::specs::Lines::refused_line))]
-pub fn put_refused(number: usize, a: usize, b: usize, out: &mut Text)
-    requires { length out.old + 71 ≤ 32768 }
+pub fn put_refused<const ROOM: usize>(number: usize, a: usize, b: usize, out: &mut Text<ROOM>)
+    requires { length out.old + 71 ≤ ROOM }
     ensures { out.new ≡ out.old ++ refused_line number a b }
 {
     out.push_word(b"refused");
@@ -71,8 +71,8 @@ pub fn put_refused(number: usize, a: usize, b: usize, out: &mut Text)
 }
 
 // The first line of an accepted call: its rounds.
-pub fn put_accepted(rounds: usize, out: &mut Text)
-    requires { length out.old + 37 ≤ 32768 }
+pub fn put_accepted<const ROOM: usize>(rounds: usize, out: &mut Text<ROOM>)
+    requires { length out.old + 37 ≤ ROOM }
     ensures writes { out.new ≡ out.old ++ accepted_line rounds }
     ensures upper_bound { length out.new ≤ length out.old + 37 }
 {
@@ -83,8 +83,8 @@ pub fn put_accepted(rounds: usize, out: &mut Text)
 
 // The counts.
 #[tactic(auto, unfolding(crate::specs::Lines::inertia_line))]
-pub fn put_inertia(t: Tally, out: &mut Text)
-    requires { length out.old + 71 ≤ 32768 }
+pub fn put_inertia<const ROOM: usize>(t: Tally, out: &mut Text<ROOM>)
+    requires { length out.old + 71 ≤ ROOM }
     ensures writes { out.new ≡ out.old ++ inertia_line t }
     ensures upper_bound { length out.new ≤ length out.old + 71 }
 {
@@ -96,8 +96,8 @@ pub fn put_inertia(t: Tally, out: &mut Text)
 // ---- order
 
 // The order's places.
-fn put_places(order: &[usize], out: &mut Text)
-    requires { length out.old + 21 * length order.now ≤ 32768 }
+fn put_places<const ROOM: usize>(order: &[usize], out: &mut Text<ROOM>)
+    requires { length out.old + 21 * length order.now ≤ ROOM }
     ensures writes { out.new ≡ out.old ++ each (order_field order.now) (length order.now) }
     ensures upper_bound { length out.new ≤ length out.old + 21 * length order.now }
 {
@@ -108,8 +108,8 @@ fn put_places(order: &[usize], out: &mut Text)
 
 // The order's line.
 #[tactic(auto, unfolding(crate::specs::Lines::order_line))]
-pub fn put_order(order: &[usize], out: &mut Text)
-    requires { length out.old + 6 + 21 * length order.now ≤ 32768 }
+pub fn put_order<const ROOM: usize>(order: &[usize], out: &mut Text<ROOM>)
+    requires { length out.old + 6 + 21 * length order.now ≤ ROOM }
     ensures writes { out.new ≡ out.old ++ order_line order.now }
     ensures upper_bound { length out.new ≤ length out.old + 6 + 21 * length order.now }
 {
@@ -121,9 +121,9 @@ pub fn put_order(order: &[usize], out: &mut Text)
 // ---- pivots
 
 // Position k, in at most 5 + 3·21 + 3·17 + 1 bytes.
-fn put_pivot(left: Left, k: usize, out: &mut Text)
+fn put_pivot<const ROOM: usize>(left: Left, k: usize, out: &mut Text<ROOM>)
     requires place { k < left.c.ncol }
-    requires room { length out.old + 120 ≤ 32768 }
+    requires room { length out.old + 120 ≤ ROOM }
     ensures writes { out.new ≡ out.old ++ pivot_of (left_in left.entry) k }
     ensures upper_bound { length out.new ≤ length out.old + 120 }
 {
@@ -138,8 +138,8 @@ fn put_pivot(left: Left, k: usize, out: &mut Text)
 }
 
 // A line for each position.
-pub fn put_pivots(left: Left, out: &mut Text)
-    requires { length out.old + 120 * left.c.ncol ≤ 32768 }
+fn put_pivots<const ROOM: usize>(left: Left, out: &mut Text<ROOM>)
+    requires { length out.old + 120 * left.c.ncol ≤ ROOM }
     ensures writes { out.new ≡ out.old ++ each (pivot_of (left_in left.entry)) left.entry.c.ncol }
     ensures upper_bound { length out.new ≤ length out.old + 120 * left.entry.c.ncol }
 {
@@ -151,9 +151,9 @@ pub fn put_pivots(left: Left, out: &mut Text)
 // ---- rows
 
 // Row i's numbers.
-fn put_entries(left: Left, i: usize, out: &mut Text)
+fn put_entries<const ROOM: usize>(left: Left, i: usize, out: &mut Text<ROOM>)
     requires row { i < left.c.nrow }
-    requires room { length out.old + 17 * left.c.ncol ≤ 32768 }
+    requires room { length out.old + 17 * left.c.ncol ≤ ROOM }
     ensures writes { out.new ≡ out.old ++ each (entry_field left.entry.c.nrow left.entry.panel.now i)
         left.entry.c.ncol }
     ensures value { length out.new ≡ length out.old + 17 * left.entry.c.ncol }
@@ -165,9 +165,9 @@ fn put_entries(left: Left, i: usize, out: &mut Text)
 
 // A tail row's mark.
 #[tactic(auto, unfolding(crate::specs::Lines::mark_field))]
-fn put_mark(left: Left, i: usize, out: &mut Text)
+fn put_mark<const ROOM: usize>(left: Left, i: usize, out: &mut Text<ROOM>)
     requires row { i < left.c.nrow }
-    requires room { length out.old + 21 ≤ 32768 }
+    requires room { length out.old + 21 ≤ ROOM }
     ensures writes { out.new ≡ out.old ++ mark_field left.entry.c.ncol left.entry.marks.now i }
     ensures upper_bound { length out.new ≤ length out.old + 21 }
 {
@@ -178,9 +178,9 @@ fn put_mark(left: Left, i: usize, out: &mut Text)
 
 // Row i, in at most 3 + 21 + 16·17 + 21 + 1 bytes.
 #[tactic(auto, unfolding(crate::specs::Lines::row_line))]
-fn put_row(left: Left, i: usize, out: &mut Text)
+fn put_row<const ROOM: usize>(left: Left, i: usize, out: &mut Text<ROOM>)
     requires row { i < left.c.nrow }
-    requires room { length out.old + 318 ≤ 32768 }
+    requires room { length out.old + 318 ≤ ROOM }
     ensures writes { out.new ≡ out.old ++ row_of left.entry.c (left_in left.entry) i }
     ensures upper_bound { length out.new ≤ length out.old + 318 }
 {
@@ -192,8 +192,8 @@ fn put_row(left: Left, i: usize, out: &mut Text)
 }
 
 // A line for each row.
-pub fn put_rows(left: Left, out: &mut Text)
-    requires { length out.old + 318 * left.c.nrow ≤ 32768 }
+fn put_rows<const ROOM: usize>(left: Left, out: &mut Text<ROOM>)
+    requires { length out.old + 318 * left.c.nrow ≤ ROOM }
     ensures writes { out.new ≡ out.old ++ each (row_of left.entry.c (left_in left.entry)) left.entry.c.nrow }
     ensures upper_bound { length out.new ≤ length out.old + 318 * left.entry.c.nrow }
 {
@@ -206,8 +206,8 @@ pub fn put_rows(left: Left, out: &mut Text)
 
 // The lines of an accepted call, in fewer than 24,000 bytes.
 #[tactic(auto, unfolding(crate::specs::Lines::accepted_lines))]
-fn put_factor(report: Report, left: Left, out: &mut Text)
-    requires { length out.old + 24000 ≤ 32768 }
+fn put_factor<const ROOM: usize>(report: Report, left: Left, out: &mut Text<ROOM>)
+    requires { length out.old + 24000 ≤ ROOM }
     ensures { out.new ≡ out.old ++ accepted_lines left.entry.c report (left_in left.entry) }
 {
     put_accepted(report.rounds, out);
@@ -218,8 +218,12 @@ fn put_factor(report: Report, left: Left, out: &mut Text)
 }
 
 // What a factor call answered, with what it left.
-pub fn put_said(answer: Result<Report, Refusal>, left: Left, out: &mut Text)
-    requires { length out.old + 24000 ≤ 32768 }
+pub fn put_said<const ROOM: usize>(
+    answer: Result<Report, Refusal>,
+    left: Left,
+    out: &mut Text<ROOM>,
+)
+    requires { length out.old + 24000 ≤ ROOM }
     ensures { out.new ≡ out.old ++ said_lines (factored_says answer) left.entry.c (left_in left.entry) }
 {
     match answer {

@@ -1,29 +1,12 @@
 -- What stays lent after one call stays lent after the next: for the record of pivots and for the nine buffers. Assumes nothing.
-use mathlib.Core.Path.{◌≡◌, refl, ◌∙◌}
+use mathlib.Core.Path.{◌≡◌, ◌∙◌}
 use Rattle.std.specs.Prelude.{List}
 use Rattle.std.specs.Borrow.{MutBor}
 use Rattle.model.specs.Step.{StaysLent, SameRecord}
-use Rattle.model.specs.Factor.{SameLent}
 use Rattle.model.specs.declared.PivotRecord.{PivotRecord}
-use Rattle.model.specs.declared.LentBuffers.{LentBuffers}
 
 pub stays-then : {A : Type 0} (x y z : MutBor (List A)) → StaysLent x y → StaysLent y z → StaysLent x z
 stays-then x y z f g = record { name = g.name ∙ f.name; count = g.count ∙ f.count }
-
-pub stays : {A : Type 0} (x : MutBor (List A)) → StaysLent x x
-stays x = record { name = refl; count = refl }
-
-pub record-stays : (x : PivotRecord) → SameRecord x x
-record-stays x =
-    record {
-      d = stays x.d;
-      sub = stays x.sub;
-      blocks = stays x.blocks;
-      partners = stays x.partners;
-      lifts = stays x.lifts;
-      amounts = stays x.amounts;
-      order = stays x.order;
-    }
 
 pub record-then : (x y z : PivotRecord) → SameRecord x y → SameRecord y z → SameRecord x z
 record-then x y z f g =
@@ -35,18 +18,4 @@ record-then x y z f g =
       lifts = stays-then x.lifts y.lifts z.lifts f.lifts g.lifts;
       amounts = stays-then x.amounts y.amounts z.amounts f.amounts g.amounts;
       order = stays-then x.order y.order z.order f.order g.order;
-    }
-
-pub lent-then : (x y z : LentBuffers) → SameLent x y → SameLent y z → SameLent x z
-lent-then x y z f g =
-    record {
-      panel = stays-then x.panel y.panel z.panel f.panel g.panel;
-      d = stays-then x.d y.d z.d f.d g.d;
-      sub = stays-then x.sub y.sub z.sub f.sub g.sub;
-      blocks = stays-then x.blocks y.blocks z.blocks f.blocks g.blocks;
-      lifts = stays-then x.lifts y.lifts z.lifts f.lifts g.lifts;
-      amounts = stays-then x.amounts y.amounts z.amounts f.amounts g.amounts;
-      order = stays-then x.order y.order z.order f.order g.order;
-      marks = stays-then x.marks y.marks z.marks f.marks g.marks;
-      work = stays-then x.work y.work z.work f.work g.work;
     }

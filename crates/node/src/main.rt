@@ -53,7 +53,7 @@ fn read_full<R: Read>(reader: &mut R, place: &mut [u8]) -> Filled
 }
 
 // Writes the text, and answers whether all of it was taken.
-fn print<W: Write>(writer: &mut W, text: &Text) -> bool
+fn print<W: Write, const ROOM: usize>(writer: &mut W, text: &Text<ROOM>) -> bool
     ensures { IsTrue result → Appends (W.contents writer.old) (W.contents writer.new) text.now }
 {
     writer.write_all(text.as_slice()).is_ok()
@@ -73,6 +73,7 @@ fn run<R: Read, W: Write>(reader: &mut R, writer: &mut W) -> Ran
         (W.contents writer.old) (W.contents writer.new) result }
     ensures all { AnswersAll (R.remaining reader.old) (W.contents writer.old) (W.contents writer.new) result }
 {
+    // as long as any stream that is answered, and one byte more: there is no heap
     let mut stream = [0u8; LONGEST + 1];
     let read = read_full(reader, &mut stream);
     let text = answer::respond(&stream[..read.bytes]);

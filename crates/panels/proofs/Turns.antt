@@ -7,14 +7,13 @@ use lib.Dec.{ltb}
 use Rattle.model.specs.Step.{Pivots}
 use Rattle.model.specs.Head.{State, Progress, stopped, going, panel_of}
 use Rattle.model.specs.declared.Pivoting.{Pivoting}
-use Rattle.model.specs.declared.Settings.{Settings}
 use Rattle.model.specs.declared.Refusal.{Refusal}
 use Rattle.model.proofs.Cases.{test}
 use Rattle.whole.specs.Whole.{WholeRun, ended, whole_continued, whole_closed, whole_passed, whole_panels_of}
 use Rattle.panels.specs.Turn.{onward, turn_of}
 use Rattle.bunch_kaufman.specs.Answers.{progress}
 use Rattle.bunch_kaufman.specs.Terms.{NotedTo, PanelNoted}
-use Rattle.panels.specs.Run.{run_of, RunPre, TurnPre}
+use Rattle.panels.specs.Run.{run_of}
 use Rattle.std.specs.Prelude.{Ok, Err}
 
 module _ (how : Pivoting) (nrow ncol nb : ℕ) (some : 1 ≤ nb) where
@@ -78,28 +77,7 @@ module _ (how : Pivoting) (nrow ncol nb : ℕ) (some : 1 ≤ nb) where
   unfolding whole_panels_of
   run-done kb s r e h = let q : ncol - kb ≡ 0 = omega arith in rw q at e
 
--- the loop begins with the whole run
-pub run-begin : (how : Pivoting) (nrow ncol nb : ℕ) (s : State)
-    → whole_panels_of how nrow ncol nb (ncol - 0) 0 s ≡ whole_panels_of how nrow ncol nb ncol 0 s
-run-begin how nrow ncol nb s = let e : ncol - 0 ≡ ncol = omega arith in rw e
-
 -- ---- what the loop asks
-
-pub turn-pre : (c : Settings) (kb ke len len_w len₀ len_w₀ : ℕ) → RunPre c len₀ len_w₀ → len ≡ len₀ → len_w ≡ len_w₀ → kb < c.ncol → ke ≡ min (kb + c.nb) c.ncol
-    → TurnPre (record { nrow = c.nrow; ncol = c.ncol; nb = c.nb; kb = kb; ke = ke }) len len_w
-turn-pre c kb ke len len_w len₀ len_w₀ r e f h w =
-    let some = r.some in
-    record {
-      panel = e ∙ r.panel;
-      head = r.head;
-      few_columns = r.few_columns;
-      few_rows = r.few_rows;
-      narrow = r.narrow;
-      here = omega arith;
-      cols = omega arith;
-      width = omega arith;
-      work = omega (arith, r.work);
-    }
 
 -- the notes of a panel, as the next one begins with them
 pub noted_more : (k ke ke' rounds : ℕ) (p : Pivots) → NotedTo k ke rounds p → ke ≤ ke' → NotedTo k ke' rounds p
@@ -108,6 +86,3 @@ noted_more k ke ke' rounds p w h =
 
 pub done-leaves : (kb ke rounds : ℕ) (p : Pivots) → PanelNoted kb ke rounds p → NotedTo ke (ke + 1) rounds p
 done-leaves kb ke rounds p w = noted_more ke ke (ke + 1) rounds p w.noted (omega arith)
-
-pub begun : (ncol nb kb ke : ℕ) → 1 ≤ nb → kb < ncol → ke ≡ min (kb + nb) ncol → kb + 1 ≤ ke
-begun ncol nb kb ke some h e = omega arith

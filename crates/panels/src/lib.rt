@@ -54,7 +54,8 @@ fn steps(
     bunch_kaufman::ll_bk_panel_step(panel, &mut work[0..square], r, at, how, before)
 }
 
-// The rows below the panel, by its steps.
+// The rows below the panel, by its steps. A root node has none below its last
+// panel, and its pivots are not gone through for nothing there.
 fn rows_below(panel: &mut [f64], work: &[f64], diagonal: DiagonalLists, partners: &[u16], at: Frame)
     requires turn_pre { TurnPre at (length panel.old) (length work.now) }
     requires diagonals_hold { DiagonalsHold at.ncol diagonal }
@@ -65,6 +66,9 @@ fn rows_below(panel: &mut [f64], work: &[f64], diagonal: DiagonalLists, partners
         (in_panel at.kb at.ke (view at.nb (take (at.nb * at.nb) work.now)))
         at.ke (at.ke - at.kb) at.kb) (view at.nrow panel.old) }
 {
+    if at.ke == at.nrow {
+        return;
+    }
     let square = at.nb * at.nb;
     let mult = &work[0..square];
     tail::apply_bk_panel_trailing(

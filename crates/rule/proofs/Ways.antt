@@ -13,34 +13,10 @@ use Rattle.model.specs.declared.Greatest.{Greatest}
 use Rattle.model.specs.declared.Choice.{Choice}
 use Rattle.model.specs.declared.Choice.TheVariants.{ZeroColumn, Single, Block}
 use Rattle.model.proofs.Bounds.{Chosen, choose-in}
-use Rattle.grid.specs.Grid.{In}
-use Rattle.grid.proofs.Laws.{in-panel, col-in}
-use Rattle.greatest.specs.Greatest.{Within, SquareOf, ColumnPre, AcrossPre}
 use Rattle.greatest.proofs.Squares.{greatest-keeps}
 use Rattle.rule.specs.Chosen.{by_row, ChosenWithin}
 use Rattle.rule.specs.Reach.{Reaches, ReachPre}
 use Rattle.rule.proofs.Units.{ahead-unsigned, ahead-round}
-
--- a diagonal of the panel is there to read
-pub diagonal-in : (n ncol k ke len i : ℕ) → ColumnPre n ncol k ke len → i < ke → In n i i len
-diagonal-in n ncol k ke len i p h = in-panel n ncol i i len p.panel (omega (arith, p.columns, p.rows)) (omega (arith, p.columns))
-
--- so is a number of column k
-pub below_in : (n ncol k ke len i : ℕ) → ColumnPre n ncol k ke len → Within k ke i → In n i k len
-below_in n ncol k ke len i p h =
-    in-panel n ncol i k len p.panel (omega (arith, h.high, p.columns, p.rows)) (omega (arith, p.here, p.columns))
-
--- and one of row and column r
-pub across-in : (n ncol k ke len r i : ℕ) → ColumnPre n ncol k ke len → Within k ke r → Within k ke i → AcrossPre n r i len
-across-in n ncol k ke len r i p h l = record {
-  row = omega (arith, h.high, p.columns, p.rows);
-  inside = omega (arith, l.high, p.columns, p.rows);
-  column = col-in n ncol r len p.panel (omega (arith, h.high, p.columns));
-}
-
--- the number at the place of a greatest square, as read
-pub square-read : (s x y : Float) → SquareOf s y → x ≡ y → SquareOf s x
-square-read s x y h e = subst (λ (z : Float). SquareOf s z) (sym e) h
 
 -- a choice stands within the panel, a block's second row below k
 pub chosen : (a : Mat) (k ke : ℕ) (c : Choice) → k < ke → c ≡ choose_of a k ke → (c ≡ choose_of a k ke) × ChosenWithin k ke c

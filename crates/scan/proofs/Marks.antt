@@ -1,9 +1,8 @@
 -- Laws of the marks: one mark more, one column more. Assumes nothing.
-use Prim.Native.Nat.{ℕ, ◌+◌, ◌-◌, ◌*◌, ◌<◌, ◌≤◌}
+use Prim.Native.Nat.{ℕ, ◌+◌, ◌-◌, ◌<◌, ◌≤◌}
 use mathlib.Core.Path.{◌≡◌, refl, sym, ◌∙◌, ap}
 use mathlib.Core.Bool.{Bool, true, cond}
 use mathlib.Core.List.{List}
-use native.Mathlib.Nat.{le_antisymm}
 use native.Mathlib.Omega.{arith}
 use borrow.Author.Tests.{lt-ltb, le-ltb, ltb-true, ltb-false, eqb-true, eqb-false}
 use borrow.Rule.Slice.PartMut.{mid_of}
@@ -17,11 +16,10 @@ use Rattle.model.specs.Factor.{every_from, mark_of}
 use Rattle.model.proofs.Cases.{test}
 use Rattle.model.proofs.Tabulated.{length-tabulate_from, get_d_tabulate, is-tabulate}
 use Rattle.model.proofs.Every.{every_of, every-at}
-use Rattle.grid.proofs.Laws.{col-in}
 use Rattle.grid.proofs.Parts.{column-at}
 use Rattle.total.specs.Finite.{column_finite, KnownFinite}
 use Rattle.scan.specs.Finite.{marked_by}
-use Rattle.scan.specs.Marks.{part_marked, marked, tail_marks, TailColumnPre}
+use Rattle.scan.specs.Marks.{part_marked, marked, tail_marks}
 use Rattle.scan.proofs.Finite.{mark-more, known-column}
 
 -- ---- the marks of one column
@@ -50,9 +48,6 @@ part_step ms ns xs i n m l h e w =
     at : (k : ℕ) → k < length ms → get_or ns k 0 ≡ cond (ltb k i) (marked_by (get_or ms k 0) (get_or xs k nan)) (get_or ms k 0)
     at k g = ap (λ (z : List ℕ). get_or z k 0) e ∙ get_d_tabulate (length ms) k _ 0 g
 
-pub part_end : (ms ns : List ℕ) (xs : List Float) (i n : ℕ) → i ≤ n → n ≤ i → ns ≡ part_marked ms xs i → ns ≡ part_marked ms xs n
-part_end ms ns xs i n h l e = e ∙ ap (λ (k : ℕ). part_marked ms xs k) (le_antisymm h l)
-
 -- ---- the marks of the tail
 
 pub tail_none : (a : Mat) (n c len : ℕ) (ms : List ℕ) → len ≡ n - c → ms ≡ replicate len 0 → ms ≡ tail_marks a c n 0
@@ -77,12 +72,6 @@ tail_step a ms ns n c j e p =
     is-tabulate (n - c) _ 0 ns (ap length p ∙ length-tabulate_from 0 (n - c) _) (λ k g.
     ap (λ (z : List ℕ). get_or z k 0) p ∙ get_d_tabulate (n - c) k _ 0 g
     ∙ ap (λ (m : ℕ). marked_by m (a (c + k) j)) (ap (λ (z : List ℕ). get_or z k 0) e ∙ get_d_tabulate (n - c) k _ 0 g) ∙ sym (mark-more (a (c + k)) j))
-
-pub tail-end : (a : Mat) (n c i : ℕ) (ms : List ℕ) → i ≤ c → c ≤ i → ms ≡ tail_marks a c n i → ms ≡ tail_marks a c n c
-tail-end a n c i ms h l e = e ∙ ap (λ (k : ℕ). tail_marks a c n k) (le_antisymm h l)
-
-pub tail-pre : (n c j len marks : ℕ) → c ≤ n → len ≡ n * c → j < c → marks ≡ n - c → TailColumnPre n c j len marks
-tail-pre n c j len marks h e l m = record { rows = h; there = col-in n c j len e l; tail = m }
 
 -- a column of the tail, lent
 pub tail-lent : (xs : List Float) (ms ns : List ℕ) (n c j s : ℕ) → s ≡ column_start n j → c ≤ n → length ms ≡ n - c

@@ -45,7 +45,8 @@ pub fn column_finite(panel: &[f64], nrow: usize, j: usize, lo: usize, hi: usize)
     all_finite(&panel[from..end])
 }
 
-// The row from which column j is looked at: its diagonal, or past its end where all of it is finite.
+// The row from which column j is looked at: its diagonal, or past its end where all of it is finite (no Option, since
+// there is then no row to look at).
 fn first_row(input: &[f64], nrow: usize, j: usize) -> usize
     requires { DownPre nrow j j nrow (length input.now) }
     ensures { result ≡ first_row (view nrow input.now) nrow j }
@@ -57,7 +58,8 @@ fn first_row(input: &[f64], nrow: usize, j: usize) -> usize
     }
 }
 
-// The first number of the lower panel that is not finite, each column looked at in turn.
+// The first number of the lower panel that is not finite, each column looked at in turn. (The label is that of
+// docs/SCOPE.md, "What contracts and code must have".)
 fn first_by_columns(input: &[f64], ncol: usize, nrow: usize) -> Result<(), Refusal>
     requires { PanelPre nrow ncol (length input.now) }
     ensures { result ≡ columns_check (view nrow input.now) nrow ncol 0 }

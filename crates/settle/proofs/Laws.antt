@@ -50,9 +50,6 @@ module _ (b : Block) (bar step : Float) (limit : ℕ) where
   abbrev tried : Float → Block
   tried sum = block_of (b.d11 ⊕ sum) b.d21 (b.d22 ⊕ sum)
 
-  pub raised-none : Left 0 step
-  raised-none = ap (λ (n : ℕ). raised_from b bar step n 1 step) (omega arith)
-
   module _ (done : ℕ) (sum m : Float) (block : Block) (i : Left done sum) (h : done < limit) (eb : block ≡ tried sum) (em : m ≡ magnitude_of block.det) where
     seen : (t : Bool) → lt m bar ≡ t → lt (magnitude_of (tried sum).det) bar ≡ t
     seen t e = ap (λ (x : Block). lt (magnitude_of x.det) bar) (sym eb) ∙ ap (λ (x : Float). lt x bar) (sym em) ∙ e

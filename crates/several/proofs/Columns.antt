@@ -1,9 +1,8 @@
 -- Laws of several columns of a part: the kernel's runs are the first rows of columns. Assumes nothing.
-use Prim.Native.Nat.{ℕ, zero, suc, ◌+◌, ◌-◌, ◌*◌, ◌<◌, ◌≤◌}
+use Prim.Native.Nat.{ℕ, zero, suc, ◌+◌, ◌-◌, ◌<◌, ◌≤◌}
 use mathlib.Core.Path.{◌≡◌, refl, ◌∙◌, ap}
 use mathlib.Core.List.{List}
 use native.Mathlib.Omega.{arith}
-use native.Mathlib.Nat.{mul-le-mul_right, mul-le-mul_left, add-mul}
 use borrow.Author.Tests.{lt-ltb}
 use lib.Ieee.{Float}
 use Rattle.model.specs.Matrix.{Row, Mat, column_start, view, vec, with_part, with_column}
@@ -11,8 +10,8 @@ use Rattle.kernels.specs.Rules.{less_runs}
 use Rattle.kernels.proofs.Rules.{all_same}
 use Rattle.kernels.proofs.Parts.{part-bounds}
 use Rattle.grid.specs.Rules.{less_columns}
-use Rattle.grid.proofs.Parts.{row_view, view-part, column-past}
-use Rattle.several.specs.Several.{runs_by, runs_less, columns_by, less_of, RunsPre, ColumnsPre}
+use Rattle.grid.proofs.Parts.{row_view, view-part}
+use Rattle.several.specs.Several.{runs_by, runs_less, columns_by, less_of, ColumnsPre}
 
 -- ---- runs that are parts of columns
 
@@ -38,17 +37,6 @@ seen n xs a c t l e = rw (e, lt-ltb a n l)
 
 module _ (n rows j d c len : ℕ) (from to : ℕ → ℕ) (pre : ColumnsPre n rows (d - 1) j (j + (c - 1)) len)
     (ef : (v : ℕ) → v < d → from v ≡ 0 + column_start n (0 + v)) (et : (u : ℕ) → u < c → to u ≡ 0 + column_start n (j + u)) where
-  pub runs-pre : RunsPre d c rows len from to
-  runs-pre =
-      let height = pre.height in
-      record {
-        there = λ v o. let few : v ≤ j + (c - 1) = omega (arith, pre.past) in omega (arith, ef v o, pre.col, mul-le-mul_right n few);
-        read = λ v u o p. let past = column-past n v (j + u) (omega (arith, pre.past)) in omega (arith, ef v o, et u p);
-        apart = λ u o. let next = add-mul (j + u) 1 n in
-            omega (arith, et u (omega arith), et (suc u) o, ap (λ (z : ℕ). z * n) {x = j + suc u} {y = j + u + 1} (omega arith));
-        out = λ u p. let few : j + u ≤ j + (c - 1) = omega arith in omega (arith, et u p, pre.col, mul-le-mul_right n few);
-      }
-
   pub columns-of : (xs ys : List Float) (m : ℕ → Row) → vec ys ≡ runs_by (vec xs) to rows (runs_less d (vec xs) from to m) c
       → view n ys ≡ columns_by (view n xs) j 0 rows (less_of d (view n xs) j m) c
   unfolding view vec runs_less less_runs less_of less_columns
@@ -57,7 +45,3 @@ module _ (n rows j d c len : ℕ) (from to : ℕ → ℕ) (pre : ColumnsPre n ro
       ∙ view-runs n (vec xs) j rows to _ _ c pre.height (λ u l. omega (arith, et u l))
       (λ u a l g. all_same d _ _ _ _ (m u) (seen n xs a (j + u) (a + to u) (omega (arith, pre.height)) (omega (arith, et u l)))
       (λ v o. seen n xs a (0 + v) (from v + (a + to u - to u)) (omega (arith, pre.height)) (omega (arith, ef v o))))
-
--- as many lists of numbers fit as numbers do, where the lists are not empty
-pub wide : (r w most : ℕ) → 0 < r → w * (r * 8) < most → w * 8 < most
-wide r w most h l = let few : 1 * 8 ≤ r * 8 = mul-le-mul_right 8 h in omega (arith, mul-le-mul_left w few)

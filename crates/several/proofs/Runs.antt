@@ -99,10 +99,6 @@ runs_none f to R (suc c) =
     runs_none f to R c
     ∙ sym (ap (λ (e : ℕ). with_part (runs_by f to 0 R c) (to c) e (R c)) (omega arith) ∙ with_part-none (runs_by f to 0 R c) (to c) (R c))
 
-pub runs-end : (f : Row) (xs : List Float) (to : ℕ → ℕ) (i n : ℕ) (R : ℕ → Row) (c : ℕ) → i ≤ n → n ≤ i → vec xs ≡ runs_by f to i R c
-    → vec xs ≡ runs_by f to n R c
-runs-end f xs to i n R c h l e = e ∙ ap (λ (m : ℕ). runs_by f to m R c) (le_antisymm h l)
-
 -- ---- a turn: d numbers are read at its beginning, and c are stored, each less its multiples of those
 
 module _ (f : Row) (from to : ℕ → ℕ) (m : ℕ → Row) (d c : ℕ) where

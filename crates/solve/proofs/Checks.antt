@@ -9,9 +9,7 @@ use lib.Dec.{ltb}
 use lib.ListN.{length}
 use lib.Ieee.{Float, nan}
 use borrow.Rule.Slice.PartMut.{mid_of}
-use mir.Syntax.{w64}
-use mir.Val.{Fits}
-use Rattle.model.specs.Sizes.{most_columns, most_rows}
+use Rattle.model.specs.Sizes.{most_columns}
 use Rattle.model.specs.Matrix.{Row, view, vec, naturals, tabulate}
 use Rattle.model.specs.Step.{diagonals_of}
 use Rattle.model.specs.Assembly.{first_not}
@@ -29,7 +27,6 @@ use Rattle.checks.specs.Finite.{finite_at}
 use Rattle.checks.proofs.Answers.{first-refuses, second-decides}
 use Rattle.checks.proofs.Bytes.{bytes-paired}
 use Rattle.checks.proofs.First.{first-all}
-use Rattle.checks.proofs.Shape.{area-fits}
 use Rattle.solve.specs.Call.{solve_leaves, SubstitutePre}
 
 -- ---- refusals 1 and 25
@@ -40,10 +37,6 @@ square-few ncol nrow h = leb-true ncol most_columns (search (and_left, and_right
 
 pub square-is : (ncol nrow : ℕ) → square_sound ncol nrow ≡ true → nrow ≡ ncol
 square-is ncol nrow h = eqb-true nrow ncol (search (and_left, and_right))
-
-pub square-fits : (ncol nrow : ℕ) → square_sound ncol nrow ≡ true → Fits w64 (nrow * ncol)
-square-fits ncol nrow h =
-    area-fits ncol nrow (leb-true ncol nrow (search (and_left, and_right))) (leb-true nrow most_rows (search (and_left, and_right)))
 
 -- what the lengths are past refusal 25
 pub record Lengths (ncol nrow : ℕ) (f : Factor) (vector : List Float) : Type 0 where

@@ -7,7 +7,6 @@ use mathlib.Core.List.{List}
 use native.Mathlib.Omega.{arith}
 use borrow.Author.Tests.{eqb-true}
 use lib.Dec.{ltb, eqb}
-use lib.ListN.{length}
 use lib.Ieee.{Float}
 use Rattle.model.specs.Scalar.{◌⊗◌}
 use Rattle.model.specs.Matrix.{Row, Mat, view, naturals, put, with_part}
@@ -16,10 +15,7 @@ use Rattle.model.specs.Kept.{Paired}
 use Rattle.model.specs.Solve.{Factor, forward_at, forward_from, divided, back_at, back_from, substituted, ordered, returned_from, solution_of}
 use Rattle.model.proofs.Cases.{test}
 use Rattle.model.proofs.Terms.{earlier-there, later-there}
-use Rattle.order.specs.Order.{OrderPre}
-use Rattle.forward.specs.Forward.{ForwardPre}
 use Rattle.forward.proofs.Together.{part_in}
-use Rattle.divide.specs.Divide.{DividePre}
 use Rattle.solve.specs.Call.{through_factor, SubstitutePre}
 
 -- the same at the first n places
@@ -91,19 +87,3 @@ pub through : (D : Diagonals) (gs : List Float) (n m p : ℕ) (x y z v : Row) �
     → p ≡ n → v ≡ back_from D.blocks (view p gs) p p z → v ≡ through_factor n D (view n gs) x
 unfolding through_factor
 through D gs n m p x y z v e1 em e2 ep e3 = e3 ∙ rw (ep, e2, em, e1)
-
--- ---- what the steps ask; m is the work's length after a step
-
-pub order-pre : (f : Factor) (len n m : ℕ) → SubstitutePre f len n → m ≡ n → OrderPre f.order len m
-order-pre f len n m w e = rw e (record { count = w.order; rows = w.rows })
-
-pub factor-pre : (f : Factor) (len n m : ℕ) → SubstitutePre f len n → m ≡ n
-    → ForwardPre f.blocks m (length f.panel) × DividePre f.blocks (length f.d) (length f.sub) m
-factor-pre f len n m w e =
-    rw e (record { bytes = w.blocks; paired = w.paired; area = w.panel }, record { d = w.d; sub = w.sub; bytes = w.blocks; paired = w.paired })
-
-pub forward-after : (blocks : List ℕ) (n m len : ℕ) → ForwardPre blocks n len → m ≡ n → ForwardPre blocks m len
-forward-after blocks n m len w e = rw e w
-
-pub divide-after : (blocks : List ℕ) (ld ls n m : ℕ) → DividePre blocks ld ls n → m ≡ n → DividePre blocks ld ls m
-divide-after blocks ld ls n m w e = rw e w

@@ -103,7 +103,7 @@ pub fn solve(ncol: usize, nrow: usize, f: Factor, vector: &mut [f64]) -> Result<
     ensures { solve_leaves result vector.new ≡ solve_of ncol nrow (factor_in f.entry) vector.old }
 {
     solve_check(ncol, nrow, f, &vector[..])?;
-    // by elimination position: what is worked on between the two orders
+    // by elimination position: what is worked on between the two orders; of a limit's length, for there is no heap
     let mut y = [0.0; COLUMNS_MAX];
     substitute(f, vector, &mut y[0..ncol]);
     Ok(())

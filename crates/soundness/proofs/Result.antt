@@ -4,7 +4,6 @@ use mathlib.Core.Bool.{Bool, true, false, ◌&&◌, ◌||◌}
 use mathlib.Core.List.{List}
 use Prim.Native.Nat.{ℕ, suc, ◌+◌, ◌-◌, ◌<◌, ◌≤◌}
 use native.Mathlib.Omega.{arith}
-use borrow.Author.Tests.{eqb-true}
 use lib.ListN.{get_or}
 use lib.Ieee.{Float, nan}
 use Rattle.std.specs.Prelude.{Ok, Err}
@@ -15,22 +14,15 @@ use Rattle.model.specs.Factor.{pivot_sound, column_sound, result_check}
 use Rattle.model.specs.declared.Block.{Block}
 use Rattle.model.specs.declared.Refusal.TheVariants.{NotFinite}
 use Rattle.model.specs.Answer.{Check}
-use Rattle.diagonal.specs.Diagonal.{BlockPre}
-use Rattle.grid.proofs.Laws.{col-in}
 use Rattle.total.specs.Finite.{column_finite, KnownFinite, PanelPre}
-use Rattle.grid.specs.Grid.{DownPre}
 use Rattle.scan.proofs.Finite.{known-column}
-use Rattle.soundness.specs.Result.{block_sound, PivotsPre, ResultPre}
+use Rattle.soundness.specs.Result.{block_sound}
 
 -- ---- a pivot
 
 pub block-is : (b : Block) (q : Float) (s t : Bool) → s ≡ is_finite b.det → q ≡ reciprocal_of b.det → t ≡ is_finite q → s && t ≡ block_sound b
 unfolding block_sound
 block-is b q s t f e g = rw (f, g, e)
-
--- a block has its second column
-pub block-pre : (n subs : ℕ) (bs : List ℕ) (k : ℕ) (t : Bool) → PivotsPre n subs bs → k < n → t ≡ begins (naturals bs) k → t ≡ true → BlockPre k n subs
-block-pre n subs bs k t h l e z = record { d = h.room k l (eqb-true (naturals bs k) 1 (sym e ∙ z)); sub = omega (arith, h.sub) }
 
 module _ (ds subs : List Float) (bs : List ℕ) (k : ℕ) (t : Bool) (e : t ≡ begins (naturals bs) k) where
   pub pivot-two : (b : Block) (r : Bool) → t ≡ true → b ≡ block_at (vec ds) (vec subs) k → r ≡ block_sound b → r ≡ pivot_sound (diagonals_of ds subs bs) k
@@ -44,17 +36,9 @@ module _ (ds subs : List Float) (bs : List ℕ) (k : ℕ) (t : Bool) (e : t ≡ 
 
 -- ---- a column
 
--- as its panel has it: it is there, and finite where the panel is known to be
-pub column-down : (nrow ncol k len : ℕ) → PanelPre nrow ncol len → k < ncol → DownPre nrow k k ncol len
-column-down nrow ncol k len h l = record { up = omega (arith, l); rows = h.rows; there = col-in nrow ncol k len h.panel l }
-
 pub column-known : (nrow ncol k len : ℕ) (a : Mat) (b : Bool) → PanelPre nrow ncol len → KnownFinite b a nrow ncol → b ≡ true → k < ncol
     → true ≡ column_finite a k k ncol
 column-known nrow ncol k len a b h w e l = known-column a b nrow ncol k k ncol w e l (omega arith) h.rows
-
--- as its pivots have it
-pub column-pivots : (ncol ds subs : ℕ) (bs : List ℕ) → ResultPre ncol ds subs bs → PivotsPre ds subs bs
-column-pivots ncol ds subs bs h = rw h.d h.pivots
 
 pub column-is : (a : Mat) (ds subs : List Float) (bs : List ℕ) (ncol k : ℕ) (e f p w : Bool) → e ≡ is_finite (get_or ds k nan) → f ≡ is_finite (get_or subs k nan)
     → p ≡ pivot_sound (diagonals_of ds subs bs) k → w ≡ column_finite a k k ncol → e && (f && (p && w)) ≡ column_sound ncol (diagonals_of ds subs bs) a k
@@ -62,10 +46,6 @@ unfolding column_sound column_finite vec
 column-is a ds subs bs ncol k e f p w g h i j = rw (g, h, i, j)
 
 -- ---- the columns in turn: t is the answer for column k
-
--- none judged yet
-pub result-none : (ncol : ℕ) (D : Diagonals) (a : Mat) → result_check ncol D a (ncol - 0) 0 ≡ result_check ncol D a ncol 0
-result-none ncol D a = let all : ncol - 0 ≡ ncol = omega arith in rw all
 
 module _ (ncol : ℕ) (D : Diagonals) (a : Mat) (k : ℕ) (R : Check) where
   result-one : k < ncol → result_check ncol D a (ncol - k) k ≡ result_check ncol D a (suc (ncol - (k + 1))) k

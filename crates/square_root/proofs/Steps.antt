@@ -122,9 +122,6 @@ close-near d l c = record { from = c.from; over = omega (arith, c.over); under =
 near-pre : (d B q : ℕ) → LongPre d → B ≤ 2 ^ 50 → Near d B q → HeronPre d q
 near-pre d B q long h n = record { number = long.to; from = n.from; to = square-lt-back q (2 ^ 28) (omega arith) }
 
-pub first-pre : (d l : ℕ) → LongPre d → Close d l → HeronPre d l
-first-pre d l long close = near-pre d (d / 40) l long (omega arith) (close-near d l close)
-
 -- l is the line's number, q and p are those after the first and the second step
 module _ (d l q : ℕ) (long : LongPre d) (close : Close d l) (first : q ≡ heron_of d l) where
   near_first : Near d (d / 6000) q
@@ -210,9 +207,6 @@ module _ (d q r : ℕ) (p : ExtendPre d q r) where
 
   remains : r * 2 ^ 26 % (q * 2) < q * 2
   remains = mod-lt (r * 2 ^ 26) (omega (arith, root-between d q r p))
-
-  pub extend-bounds : Bounds q r (r * 2 ^ 26 / (q * 2)) (r * 2 ^ 26 % (q * 2))
-  extend-bounds = bounds d q r (r * 2 ^ 26 / (q * 2)) (r * 2 ^ 26 % (q * 2)) p divided remains
 
   pub extend-right : r * 2 ^ 26 / (q * 2) * (r * 2 ^ 26 / (q * 2)) ≤ r * 2 ^ 26 % (q * 2) * 2 ^ 26
       → Digits d (q * 2 ^ 26 + r * 2 ^ 26 / (q * 2)) (r * 2 ^ 26 % (q * 2) * 2 ^ 26 - r * 2 ^ 26 / (q * 2) * (r * 2 ^ 26 / (q * 2)))

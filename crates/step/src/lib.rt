@@ -116,16 +116,18 @@ fn moved_block(
     block(panel, mult, at, k, p, kp, how)
 }
 
-// What the mode makes of the choice at k: in Lift a zero column is a 1x1 from its own row.
+// What the mode makes of the choice at k: in Lift a zero column is a 1x1 from its own row. (With
+// `_ => choice` the compiler tells the cases apart once more in each step: heads took 2 to 4 in 100 longer.)
 fn by_mode(choice: Choice, mode: Mode, k: Elim) -> Choice
     ensures { result ≡ by_mode mode k choice }
 {
     match choice {
         Choice::ZeroColumn => match mode {
-            Mode::Fail => choice,
+            Mode::Fail => Choice::ZeroColumn,
             Mode::Lift(_) => Choice::Single(LocalRow(k.0)),
         },
-        _ => choice,
+        Choice::Single(kp) => Choice::Single(kp),
+        Choice::Block(p, kp) => Choice::Block(p, kp),
     }
 }
 

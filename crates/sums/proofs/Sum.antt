@@ -3,7 +3,7 @@ use Prim.Native.Nat.{ℕ, zero, suc, ◌+◌, ◌-◌, ◌*◌, ◌%◌, ◌<◌
 use mathlib.Core.Path.{◌≡◌, refl, sym, ◌∙◌, ap, fun_ext}
 use mathlib.Core.Bool.{◌&&◌}
 use mathlib.Core.List.{List}
-use native.Mathlib.Nat.{mul-le-mul_right, le_antisymm}
+use native.Mathlib.Nat.{le_antisymm}
 use native.Mathlib.Omega.{arith}
 use lib.Ieee.{Float, nan, binary64, add, mul}
 use lib.ListN.{length, get_or, set, drop}
@@ -19,8 +19,7 @@ use Rattle.model.proofs.Summed.{sum-append}
 use Rattle.kernels.specs.Rules.{ahead, zeroed, plus_times, plus_four}
 use Rattle.kernels.proofs.Laws.{vec-part}
 use Rattle.kernels.proofs.Rules.{plus-four-step}
-use Rattle.sums.specs.declared.Terms.{Terms}
-use Rattle.sums.specs.Sums.{later_row, rows_from, plus_runs, gathered, FourPre, TermsPre, GatherPre}
+use Rattle.sums.specs.Sums.{later_row, rows_from, plus_runs, gathered, FourPre}
 
 -- ---- the kernel: one place more
 
@@ -166,31 +165,6 @@ ones_step x y z G l lo hi s t h p q =
     let b : t - s + 1 ≡ t + 1 - s = omega arith in
     gather-more x x y z G l lo hi s (t - s) 1 p (q ∙ ap (λ (k : ℕ). with_part y lo hi (gathered y G l k 1)) a)
     ∙ ap (λ (n : ℕ). with_part x lo hi (gathered x G l s n)) b
-
-pub ones-end : (x y : Row) (G : Mat) (l : Row) (lo hi s t w : ℕ) → t ≤ w → w ≤ t → y ≡ with_part x lo hi (gathered x G l s (t - s))
-    → y ≡ with_part x lo hi (gathered x G l s (w - s))
-ones-end x y G l lo hi s t w h g p = p ∙ ap (λ (k : ℕ). with_part x lo hi (gathered x G l s (k - s))) (le_antisymm h g)
-
-terms-pre : (at : Terms) (j t count alen alen' glen len : ℕ) → GatherPre at j alen glen len → t + count ≤ at.w → alen' ≡ alen
-    → TermsPre at j t count alen' glen len
-terms-pre at j t count alen alen' glen len h g e =
-    let out : (t + count) * at.nrow ≤ at.w * at.nrow = mul-le-mul_right at.nrow g in
-    let columns : (at.kb + t + count) * at.nrow ≤ (at.kb + at.w) * at.nrow = mul-le-mul_right at.nrow (omega arith) in
-    record {
-      row = h.row;
-      rows = h.rows;
-      sums = omega arith;
-      fits = omega arith;
-      out = omega arith;
-      columns = omega arith;
-    }
-
-pub fours-pre : (at : Terms) (j t alen alen' glen len : ℕ) → GatherPre at j alen glen len → t % 4 ≡ 0 → t < at.w - at.w % 4 → alen' ≡ alen
-    → TermsPre at j t 4 alen' glen len
-fours-pre at j t alen alen' glen len h f g e = terms-pre at j t 4 alen alen' glen len h (omega arith) e
-
-pub ones-pre : (at : Terms) (j t alen alen' glen len : ℕ) → GatherPre at j alen glen len → t < at.w → alen' ≡ alen → TermsPre at j t 1 alen' glen len
-ones-pre at j t alen alen' glen len h g e = terms-pre at j t 1 alen alen' glen len h (omega arith) e
 
 -- fours, then ones
 pub sums-whole : (x y z : Row) (G : Mat) (l : Row) (lo hi s w : ℕ) → s ≤ w → y ≡ with_part x lo hi (gathered zeroed G l 0 s)

@@ -9,11 +9,10 @@ use lib.Dec.{eqb, leb}
 use lib.Ieee.{Float}
 use Rattle.model.specs.Matrix.{Mat, within, with_column, exchanged_place}
 use Rattle.model.specs.Head.{last_of}
-use Rattle.model.proofs.Exchanged.{place-under}
 use Rattle.model.proofs.Cases.{test, cmp, no}
 use Rattle.model.proofs.Recorded.{last-from}
 use Rattle.grid.specs.Grid.{In}
-use Rattle.grid.specs.Rules.{column_of, LaterPre, RowsPre, ExchangePre}
+use Rattle.grid.specs.Rules.{column_of, RowsPre, ExchangePre}
 use Rattle.less.specs.Less.{less_at, stepped, stepped_twice}
 use Rattle.less.proofs.Column.{less-same}
 use Rattle.swept.specs.Swept.{strip, swept_first, swept_both, PartPre, PairPre}
@@ -21,12 +20,6 @@ use Rattle.swept.specs.declared.Part.{Part}
 use Rattle.swept.specs.declared.Pair.{Pair}
 
 -- ---- the exchange of places
-
-pub place-first : (f kq j : ℕ) → j ≡ f → kq ≡ exchanged_place f kq j
-place-first f kq j e = rw (eq-eqb j f e)
-
-pub place-second : (f kq j : ℕ) → (j ≡ f → ⊥) → j ≡ kq → f ≡ exchanged_place f kq j
-place-second f kq j h e = rw (ne_eqb j f h, eq-eqb j kq e)
 
 pub place_other : (f kq j : ℕ) → (j ≡ f → ⊥) → (j ≡ kq → ⊥) → j ≡ exchanged_place f kq j
 place_other f kq j h g = rw (ne_eqb j f h, ne_eqb j kq g)
@@ -46,9 +39,6 @@ module _ {at : Part} {len len_m : ℕ} (frame : PartPre at len len_m) where
   multiplier-in j c h g =
       let few : c ≤ at.columns - 1 = omega arith in
       record { row = omega (arith, frame.width); off = omega (arith, frame.kept, mul-le-mul_right at.nb few) }
-
-  pub later-in : (k j len' : ℕ) → k < j → j < at.columns → len' ≡ len → LaterPre at.nrow k j 0 at.rows len'
-  later-in k j len' h g e = record { col = omega (arith, column-in j g); past = h; up = omega arith; rows = frame.height }
 
   pub exchange-in : (p q len' : ℕ) → p < at.columns → q < at.columns → len' ≡ len → ExchangePre at.nrow p q 0 at.rows len'
   exchange-in p q len' h g e =
@@ -75,24 +65,11 @@ module _ {pair : Pair} {len len_m : ℕ} (pre : PairPre pair len len_m) where
         reach = pre.reach;
       }
 
-  -- what reading a multiplier asks, past both pivots: of the first, and of the second
-  pub both-kept : (j : ℕ) → pair.f < j → j < pair.at.columns → In pair.at.nb (exchanged_place pair.f pair.kq j) 0 len_m
-  both-kept j h g =
-      multiplier-in pre.frame (exchanged_place pair.f pair.kq j) 0 (place-under pair.f pair.kq pair.at.columns j placed.last pre.row g) (omega arith)
-
-  pub both-kept-next : (j : ℕ) → pair.f < j → j < pair.at.columns → In pair.at.nb (exchanged_place pair.f pair.kq j) 1 len_m
-  both-kept-next j h g =
-      let p = placed in
-      multiplier-in pre.frame (exchanged_place pair.f pair.kq j) 1 (place-under pair.f pair.kq pair.at.columns j placed.last pre.row g) (omega arith)
-
   pub second-kept : (j : ℕ) → pair.f < j → j < pair.at.columns → In pair.at.nb j pair.l len_m
   second-kept j h g = let p = placed in multiplier-in pre.frame j pair.l g (omega arith)
 
   pub second-kept-next : (j : ℕ) → pair.f < j → j < pair.at.columns → In pair.at.nb j (pair.l + 1) len_m
   second-kept-next j h g = let p = placed in multiplier-in pre.frame j (pair.l + 1) g (omega arith)
-
-  pub later-than-both : (j : ℕ) → pair.f < j → j < pair.at.columns → LaterPre pair.at.nrow (last_of pair.l pair.block2) j 0 pair.at.rows len
-  later-than-both j h g = later-in pre.frame (last_of pair.l pair.block2) j len (omega (arith, pre.last)) g refl
 
 -- ---- a strip
 
@@ -148,10 +125,6 @@ first_step block M P Q I f kq k c j lo hi h g p q =
     let same : (a b : ℕ) → b < c → P a b ≡ M a b = λ a b z. ap (λ (r : ℕ → Float). r a) (strip-before M P c j lo hi _ b z p) in
     strip-step M P Q c j lo hi _ g p
     (q ∙ ap (with_column P j lo hi) (fun_ext λ a. less-same block (P a) (M a) k _ _ _ (λ b y z. same a b (omega arith))))
-
-pub first-end : (block : Bool) (M P I : Mat) (f kq k c j end lo hi : ℕ) → j ≤ end → end ≤ j → P ≡ swept_first block M I f kq k c j lo hi
-    → P ≡ swept_first block M I f kq k c end lo hi
-first-end block M P I f kq k c j end lo hi h g p = p ∙ ap (λ (z : ℕ). swept_first block M I f kq k c z lo hi) (le_antisymm h g)
 
 pub both-none : (block1 block2 : Bool) (M I : Mat) (f kq k l c lo hi : ℕ) → M ≡ swept_both block1 block2 M I f kq k l c c lo hi
 unfolding swept_both

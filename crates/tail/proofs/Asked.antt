@@ -2,23 +2,18 @@
 use Prim.Native.Nat.{ℕ, ◌+◌, ◌-◌, ◌*◌, ◌<◌, ◌≤◌}
 use mathlib.Core.Path.{◌≡◌, refl, sym, ◌∙◌, ap}
 use mathlib.Core.Bool.{Bool, true, false}
-use mathlib.Core.List.{List}
 use native.Mathlib.Omega.{arith}
 use native.Mathlib.Nat.{mul-le-mul_right, add-mul, mul_comm, le_trans}
 use borrow.Author.Tests.{eqb-true, eq-eqb}
 use lib.Dec.{eqb}
-use lib.ListN.{length}
 use lib.Ieee.{Float}
-use Rattle.model.specs.Matrix.{naturals}
 use Rattle.model.specs.Step.{begins, is_block, diagonal_at, past_of, first_of}
 use Rattle.model.specs.Head.{last_of}
 use Rattle.model.specs.Kept.{Starts}
 use Rattle.model.specs.declared.Diagonal.{Diagonal}
-use Rattle.diagonal.specs.Diagonal.{PivotPre}
 use Rattle.model.proofs.Cases.{test}
 use Rattle.model.proofs.Past.{past-above}
 use Rattle.grid.specs.Rules.{ExchangePre}
-use Rattle.model.proofs.Tabulated.{off-lt}
 use Rattle.swept.specs.Swept.{PartPre, PairPre}
 use Rattle.pairs.specs.Pairs.{pair_of, StepPre}
 use Rattle.tail.specs.Tail.{TailPre, StepsPre, HerePre, LentPre, ReadPre}
@@ -40,9 +35,6 @@ partner-ahead ke blocks partners k h = omega (arith, h.ahead.last, past-above bl
 -- ---- the exchange before a step
 
 module _ (ke : ℕ) (blocks partners : ℕ → ℕ) (k : ℕ) (t : Bool) (here : HerePre ke blocks partners k) (e : t ≡ begins blocks k) (z : t ≡ true) where
-  pub block_in : k + 1 < ke
-  block_in = here.pair (eqb-true (blocks k) 1 (sym e ∙ z))
-
   first-is : first_of blocks partners k ≡ partners (k + 1)
   unfolding first_of
   first-is = rw (sym e ∙ z)
@@ -73,13 +65,6 @@ stays-single blocks partners l t e z = rw (sym e ∙ z, eq-eqb l l refl)
 -- ---- a step
 
 module _ (nb kb ke k len_m ld ls lb lp : ℕ) (read : ReadPre nb kb ke k len_m ld ls lb lp) (here : k < ke) where
-  -- the multiplier of its own place
-  start-in : k - kb + (k - kb) * nb < nb * nb
-  start-in = off-lt nb nb (k - kb) (k - kb) (omega (arith, read.width, read.from)) (omega (arith, read.width, read.from))
-
-  pub start_fits : k - kb + (k - kb) * nb ≤ len_m
-  start_fits = omega (arith, start-in, read.square)
-
   -- the multipliers from there on
   kept-room : (len : ℕ) → len ≡ len_m - (k - kb + (k - kb) * nb) → ke - k + (ke - k - 1) * nb ≤ len
   kept-room len e =
@@ -91,16 +76,6 @@ module _ (nb kb ke k len_m ld ls lb lp : ℕ) (read : ReadPre nb kb ke k len_m l
       → PartPre (record { nrow = nrow; rows = nrow - ke; nb = nb; columns = ke - k }) len len_p
   frame-pre nrow len len_p lent e =
       record { height = omega arith; room = lent.room; width = omega (arith, read.width, read.from); kept = kept-room len_p e }
-
-pub pivot-pre : (nb kb ke k l len_m ld ls lb lp : ℕ) (bs : List ℕ) (partners : ℕ → ℕ) → ReadPre nb kb ke k len_m ld ls lb lp → lb ≡ length bs → l < ke
-    → HerePre ke (naturals bs) partners l → PivotPre l ld ls bs
-pivot-pre nb kb ke k l len_m ld ls lb lp bs partners read e h here =
-    record {
-      d = omega (arith, read.in_d);
-      sub = omega (arith, read.in_sub);
-      byte = omega (arith, read.in_blocks);
-      next = λ o. omega (arith, here.pair o, read.in_d);
-    }
 
 -- a pivot's kind is its block byte
 block-by : (d sub : ℕ → Float) (blocks : ℕ → ℕ) (k : ℕ) (x : Diagonal) → x ≡ diagonal_at d sub blocks k → is_block x ≡ begins blocks k

@@ -17,7 +17,7 @@ use Rattle.whole.specs.Whole.{below}
 use Rattle.pairs.specs.Pairs.{step_of, row_after_both}
 use Rattle.model.proofs.Recorded.{last-from}
 use Rattle.model.proofs.Exchanged.{place_same}
-use Rattle.tail.specs.Tail.{from_column, row_stepped_twice, TailPre, HerePre}
+use Rattle.tail.specs.Tail.{from_column, row_stepped_twice, HerePre}
 use Rattle.tail.proofs.From.{Since, since-then, since-later, since-exchange, from-exchange, from_then, step-since, from_step, step_same}
 use Rattle.tail.proofs.Asked.{partner-ahead}
 
@@ -222,14 +222,3 @@ unfolding below row_after_steps
 tail-end D q m M R n ke k h e =
     let z : ke - k ≡ 0 = omega arith in
     (fun_ext λ i. test (within ke n i) (λ t. rw (t, z)) (λ t. rw t)) ∙ e
-
-pub turn-less : (ke k r : ℕ) → k < ke → k < r → ke - r < ke - k
-turn-less ke k r h g = omega arith
-
-pub turn-from : (kb k r : ℕ) → kb ≤ k → k < r → kb ≤ r
-turn-from kb k r h g = omega arith
-
--- a turn keeps the lengths
-pub sizes-kept : (nrow ncol nb kb ke len len_m ld ls lb lp len' : ℕ) → TailPre nrow ncol nb kb ke len len_m ld ls lb lp → len' ≡ len
-    → TailPre nrow ncol nb kb ke len' len_m ld ls lb lp
-sizes-kept nrow ncol nb kb ke len len_m ld ls lb lp len' sizes a = rw a sizes

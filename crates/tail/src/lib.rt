@@ -188,6 +188,8 @@ fn one_or_two_steps(panel: &mut [f64], steps: Steps, at: Frame, k: Elim) -> usiz
 // so the loop has no step that a range could count.
 // in: steps / in and out: panel
 // origin: src/numeric/ldlt/bunch_kaufman.rs, fn apply_bk_panel_trailing
+// (Not inlined: in one function with the panel's steps the compiler keeps these loops' variables on the stack.)
+#[inline(never)]
 pub fn apply_bk_panel_trailing(panel: &mut [f64], steps: Steps, at: Frame)
     requires tail_pre { sizes_in at (length panel.old) steps }
     requires steps_pre { StepsPre at.kb at.ke (blocks_in steps) (partners_in steps) }

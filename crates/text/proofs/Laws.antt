@@ -37,10 +37,6 @@ decimal-length (suc k) n h = elim (dec_lt n 10) [
       rw (decimal-more n (omega arith)) (omega (arith, length-append (decimal_of (n / 10)) (digit_of (n % 10) ∷ []), front))
 ]
 
--- a 64-bit number has at most 20 digits, and at most 19 before the last
-pub decimal-most : (n : ℕ) → n < 2 ^ 64 → length (decimal_of n) ≤ 20
-decimal-most n h = decimal-length 19 n (omega arith)
-
 pub decimal-front : (xs : List ℕ) {ys : List ℕ} (n : ℕ) → n < 2 ^ 64 → ys ≡ xs ++ decimal_of (n / 10) → length ys ≤ length xs + 19
 decimal-front xs n h e = rw e (omega (arith, length-append xs (decimal_of (n / 10)), decimal-length 18 (n / 10) (omega arith)))
 

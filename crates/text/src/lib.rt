@@ -8,27 +8,24 @@ ghost use Rattle.text.specs.Text.{digit_of, decimal_of, hex_from, hex_of};
 
 use std::marker::Model;
 
-// How many bytes a text holds at most.
-pub const ROOM: usize = 32768;
-
-// (Not a Vec: the room is fixed, there is no heap.)
+// At most ROOM bytes. (Not a Vec: there is no heap.)
 #[derive(Drop)]
-pub struct Text {
+pub struct Text<const ROOM: usize> {
     bytes: [u8; ROOM],
     len: usize,
 }
 
-impl Model for Text {
+impl<const ROOM: usize> Model for Text<ROOM> {
     ghost Value = { List ℕ };
 
     ghost view = { λ t. take t.len t.bytes };
 
-    ghost invariant = { λ t. t.len ≤ 32768 };
+    ghost invariant = { λ t. t.len ≤ ROOM };
 }
 
-impl Text {
+impl<const ROOM: usize> Text<ROOM> {
     // One with nothing in it.
-    pub fn new() -> Text
+    pub fn new() -> Text<ROOM>
         ensures { result ≡ [] }
     {
         Text {
@@ -40,14 +37,14 @@ impl Text {
     // Its bytes.
     pub fn as_slice(&self) -> &[u8]
         ensures value { result.now ≡ self.now }
-        ensures upper_bound { length self.now ≤ 32768 }
+        ensures upper_bound { length self.now ≤ ROOM }
     {
         &self.bytes[..self.len]
     }
 
     // One byte.
     pub fn push(&mut self, byte: u8)
-        requires { length self.old < 32768 }
+        requires { length self.old < ROOM }
         ensures { self.new ≡ self.old ++ byte ∷ [] }
     {
         self.bytes[self.len] = byte;
@@ -56,7 +53,7 @@ impl Text {
 
     // The bytes of a word.
     pub fn push_word(&mut self, word: &[u8])
-        requires { length self.old + length word.now ≤ 32768 }
+        requires { length self.old + length word.now ≤ ROOM }
         ensures { self.new ≡ self.old ++ word.now }
     {
         for byte in word {
@@ -66,7 +63,7 @@ impl Text {
 
     // n in decimal: what n / 10 is in decimal, then the last digit.
     pub fn push_decimal(&mut self, n: u64)
-        requires { length self.old + 20 ≤ 32768 }
+        requires { length self.old + 20 ≤ ROOM }
         ensures writes { self.new ≡ self.old ++ decimal_of n }
         ensures upper_bound { length self.new ≤ length self.old + 20 }
     {
@@ -80,7 +77,7 @@ impl Text {
 
     // The last `count` hexadecimal digits of n: those of n / 16, then the last one.
     fn push_digits(&mut self, n: u64, count: usize)
-        requires { length self.old + count ≤ 32768 }
+        requires { length self.old + count ≤ ROOM }
         ensures { self.new ≡ self.old ++ hex_from count n }
     {
         if count > 0 {
@@ -91,7 +88,7 @@ impl Text {
 
     // A pattern as sixteen hexadecimal digits.
     pub fn push_hex(&mut self, pattern: u64)
-        requires { length self.old + 16 ≤ 32768 }
+        requires { length self.old + 16 ≤ ROOM }
         ensures writes { self.new ≡ self.old ++ hex_of pattern }
         ensures value { length self.new ≡ length self.old + 16 }
     {

@@ -1,20 +1,14 @@
 -- Laws of what the sum tells: where it is finite every lower position is; a panel's columns, one by one.
 -- Assumes nothing.
-use Prim.Native.Nat.{ℕ, ◌+◌, ◌-◌, ◌*◌, ◌<◌, ◌≤◌}
+use Prim.Native.Nat.{ℕ, ◌+◌, ◌-◌, ◌<◌}
 use mathlib.Core.Path.{◌≡◌, sym, ◌∙◌, ap}
 use mathlib.Core.Bool.{Bool, true}
 use native.Mathlib.Omega.{arith}
 use Rattle.model.specs.Scalar.{zero_f, is_finite}
 use Rattle.model.specs.Matrix.{Mat}
 use Rattle.model.proofs.Every.{every_of}
-use Rattle.grid.specs.Grid.{DownPre}
-use Rattle.grid.proofs.Laws.{col-in}
 use Rattle.total.specs.Finite.{column_sum, sum_finite, column_finite, lower_finite, KnownFinite}
 use Rattle.total.proofs.Sums.{sum-term, of-term}
-
--- a column of a panel is there from its diagonal down
-pub scan-pre : (n c j len : ℕ) → c ≤ n → len ≡ n * c → j < c → DownPre n j j n len
-scan-pre n c j len h e l = record { up = omega arith; rows = omega arith; there = col-in n c j len e l }
 
 -- where the pass answers yes, every lower position is finite
 pub sum-known : (a : Mat) (n c : ℕ) (b : Bool) → b ≡ sum_finite a n c → KnownFinite b a n c

@@ -58,9 +58,6 @@ sum-term f c zero s k e h = absurd (omega arith)
 sum-term f c (suc n) s zero e h = ap (λ (i : ℕ). is_finite (f i)) (omega arith) ∙ plus-r s (f c) (sum-begin f (c + 1) n (s ⊕ f c) e)
 sum-term f c (suc n) s (suc k) e h = ap (λ (i : ℕ). is_finite (f i)) (omega arith) ∙ sum-term f (c + 1) n (s ⊕ f c) k e (omega arith)
 
-pub sum-none : (f : Row) (n : ℕ) (s : Float) → sum_from f 0 (n - 0) s ≡ sum_from f 0 n s
-sum-none f n s = ap (λ (k : ℕ). sum_from f 0 k s) (omega arith)
-
 pub sum-turn : (f : Row) (n i : ℕ) (s y S : Float) → i < n → y ≡ f i → sum_from f i (n - i) s ≡ S → sum_from f (i + 1) (n - (i + 1)) (s ⊕ y) ≡ S
 unfolding sum_from
 sum-turn f n i s y S h e p = rw e (sym (rw (one_left n i h)) ∙ p)

@@ -25,14 +25,13 @@ use Rattle.model.proofs.Tabulated.{is-column_major}
 use Rattle.model.proofs.Every.{every-at}
 use Rattle.checks.specs.Answers.{leaves}
 use Rattle.checks.proofs.Answers.{first-refuses, second-decides, leaves-done, leaves-refused}
-use Rattle.landing.specs.Nodes.{NumbersPre}
 use Rattle.landing.specs.Rows.{rises_at, stands_at, lands_on, lands_at, first_from, there_at, LocatePre, Located}
 use Rattle.landing.proofs.Scans.{First, first-is, place-all}
 use Rattle.landing.proofs.Absent.{absent-is}
 use Rattle.landing.proofs.Order.{Rising, rising-is, rising-one, rising-place}
 use Rattle.update_checks.specs.Lists.{lists_check, Sizes}
 use Rattle.update_checks.proofs.Listed.{sizes}
-use Rattle.update_rows.specs.Apply.{rows_applied, ApplyPre}
+use Rattle.update_rows.specs.Apply.{rows_applied}
 use Rattle.update_rows.proofs.Closed.{Inverse, Lands, rows-hit, rows-miss}
 use Rattle.update.specs.Call.{columns_check, updated_panel, columns_of, ListsPre}
 
@@ -80,16 +79,6 @@ module _ (t : Target) (k : Descendant) (len : ℕ) (w : ListsPre t k len) where
   }
 
   -- ---- what its functions ask
-
-  pub numbers-pre : NumbersPre k
-  numbers-pre = record {
-    narrow = w.sizes.few;
-    few = w.sizes.all;
-    area = w.sizes.numbers;
-    pivots = w.sizes.pivots;
-    subdiagonal = w.sizes.subdiagonal;
-    bytes = w.sizes.bytes;
-  }
 
   pub locate-pre : (start room : ℕ) → start ≡ first_from (lands_at t.first t.ncol (naturals k.rows)) (length k.rows) 0 → room ≡ most_rows
       → LocatePre t.rows k.rows start room
@@ -148,16 +137,6 @@ module _ (t : Target) (k : Descendant) (len : ℕ) (w : ListsPre t k len) where
     panel-is new panel l m v =
         is-column_major t.nrow t.ncol (updated t k (view t.nrow panel)) new (l ∙ m ∙ w.sizes.area)
         (λ i j h x. ap (λ (a : Mat). a i j) v ∙ entry-is (view t.nrow panel) i j h x)
-
-    pub apply-pre : length places ≡ most_rows → ApplyPre t k places start len
-    apply-pre r = record {
-      few = w.sizes.columns;
-      area = w.sizes.area;
-      numbers = numbers-pre;
-      check = w.check;
-      room = omega (arith, w.sizes.all);
-      inside = λ c l h. omega (arith, w.sizes.target, d.inside c l (omega (arith, w.sizes.descendant)));
-    }
 
 -- ---- refusals 17 and 18: f and g are what their scans answer
 

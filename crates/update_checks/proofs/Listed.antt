@@ -8,8 +8,6 @@ use borrow.Author.Tests.{le-leb, lt-leb, leb-true, leb-false, eqb-true}
 use lib.Dec.{leb, eqb}
 use lib.ListN.{length}
 use lib.Ieee.{Float}
-use mir.Syntax.{w64}
-use mir.Val.{Fits}
 use Rattle.std.specs.Prelude.{Err}
 use Rattle.model.specs.Sizes.{most_columns, most_rows}
 use Rattle.model.specs.Scalar.{is_finite}
@@ -21,30 +19,15 @@ use Rattle.model.specs.Update.{Target, Descendant, update_sound, rising, begins_
 use Rattle.model.specs.declared.Refusal.TheVariants.{UpdateLength, TargetRows, DescendantRows}
 use Rattle.model.specs.Answer.{Check}
 use Rattle.model.proofs.Cases.{test, and_left, and_right}
-use Rattle.grid.specs.Grid.{DownPre}
 use Rattle.total.specs.Finite.{column_finite}
-use Rattle.checks.proofs.Shape.{product}
-use Rattle.grid.proofs.Laws.{col-in}
 use Rattle.landing.specs.Rows.{rises_at, stands_at, ColumnsPre}
-use Rattle.update_checks.specs.Lists.{lists_check, Sizes, ColumnPre}
+use Rattle.update_checks.specs.Lists.{lists_check, Sizes}
 
 -- ---- the stated lengths fit a machine word, once the descendant's sizes are sound
 
 module _ (nk mk : ℕ) (s : leb nk most_columns && leb mk most_rows ≡ true) where
   columns-few : nk ≤ most_columns
   columns-few = leb-true nk most_columns (and_left (leb nk most_columns) (leb mk most_rows) s)
-
-  rows_few : mk ≤ most_rows
-  rows_few = leb-true mk most_rows (and_right (leb nk most_columns) (leb mk most_rows) s)
-
-  pub rows_fit : Fits w64 (nk + mk)
-  rows_fit = record { fits = omega (arith, columns-few, rows_few) }
-
-  pub numbers_fit : Fits w64 ((nk + mk) * nk)
-  numbers_fit =
-      let a : (nk + mk) * nk ≤ (most_columns + most_rows) * most_columns
-      = product (most_columns + most_rows) most_columns (omega (arith, columns-few, rows_few)) columns-few in
-      record { fits = omega arith }
 
 -- ---- refusal 13: b is the shape's test
 
@@ -155,7 +138,3 @@ module _ (k : Descendant) (c : ℕ) (b : Bool) (h : b ≡ is_finite (vec k.d c))
     column-rest f y i =
         let m : k.nk + k.mk - k.nk ≡ k.mk = omega arith in
         rw (← h, x, ← g, over (begins (naturals k.blocks) c) e y) (rw m at i)
-
-pub column-down : (k : Descendant) (c : ℕ) → ColumnPre k c → DownPre (k.nk + k.mk) c k.nk (k.nk + k.mk) (length k.panel)
-column-down k c w =
-    record { up = omega arith; rows = omega arith; there = col-in (k.nk + k.mk) k.nk c (length k.panel) w.numbers.area w.here }

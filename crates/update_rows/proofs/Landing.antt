@@ -1,20 +1,18 @@
 -- Laws of one landing row, a part of the rows after another, and of the loop over the descendant's rows. Assumes nothing.
 use mathlib.Core.Path.{◌≡◌, refl, sym, ◌∙◌, ap}
 use mathlib.Core.Bool.{Bool, true, false, not}
-use mathlib.Core.List.{List}
 use Prim.Native.Nat.{ℕ, zero, suc, ◌+◌, ◌-◌, ◌≤◌, ◌<◌}
 use native.Mathlib.Omega.{arith}
 use borrow.Author.Tests.{leb-true, ltb-true, not-true, not-false}
 use lib.Dec.{leb, ltb}
 use Rattle.model.specs.Matrix.{Row, Mat, naturals, with_part}
-use Rattle.model.specs.Update.{Target, Descendant, update_acc}
+use Rattle.model.specs.Update.{Descendant, update_acc}
 use Rattle.model.proofs.Cases.{and_left, and_right}
 use Rattle.kernels.specs.Rules.{behind}
-use Rattle.grid.proofs.Laws.{in-panel}
 use Rattle.landing.specs.Rows.{lands_on}
-use Rattle.update_sums.specs.Acc.{weighed, acc_of, sums_of, from_row, SumPre}
+use Rattle.update_sums.specs.Acc.{weighed, acc_of, sums_of, from_row}
 use Rattle.update_sums.proofs.Numbers.{part_at}
-use Rattle.update_rows.specs.Apply.{landing_acc, less_at, less_from, row_applied, rows_applied, SubtractPre, ApplyPre, PartPre}
+use Rattle.update_rows.specs.Apply.{landing_acc, less_at, less_from, row_applied, rows_applied}
 use Rattle.update_rows.proofs.Less.{less-end}
 
 -- ---- agreement on the places that are looked at
@@ -83,42 +81,7 @@ module _ (first ncol g : ℕ) (b : Bool) (h : b ≡ lands_on first ncol g) (x : 
   unfolding lands_on
   lands-before j e = omega (arith, lands-from, ltb-true g (first + ncol) (and_right (leb first g) (ltb g (first + ncol)) landed))
 
--- ---- what a part's steps ask
-
-module _ (t : Target) (k : Descendant) (places : List ℕ) (c panel j lo hi room : ℕ) (w : ApplyPre t k places c panel) (u : PartPre t.ncol k.mk c j lo hi room) where
-  pub part-sum : SumPre k (k.nk + c) (k.nk + lo) (k.nk + hi) room
-  part-sum = record {
-    row = omega (arith, u.here);
-    up = omega (arith, u.up);
-    rows = omega (arith, u.there);
-    fits = omega (arith, u.fits);
-    area = w.numbers.area;
-    pivots = w.numbers.pivots;
-    subdiagonal = w.numbers.subdiagonal;
-    blocks = w.numbers.bytes;
-    check = w.check;
-  }
-
-  pub part-subtract : (sums : ℕ) → sums ≡ room → SubtractPre t.nrow j places lo hi panel sums
-  part-subtract sums e = record {
-    up = u.up;
-    there = omega (arith, u.there, w.room);
-    sums = omega (arith, u.fits);
-    inside = λ r a b. in-panel t.nrow t.ncol (naturals places r) j panel w.area (w.inside r (omega (arith, u.past)) (omega (arith, u.there))) u.lands;
-  }
-
 -- ---- the loop
-
-pub rows-later : (t : Target) (k : Descendant) (places : List ℕ) (lo c panel len : ℕ) → ApplyPre t k places lo panel → lo ≤ c → len ≡ panel
-    → ApplyPre t k places c len
-rows-later t k places lo c panel len w l e = record {
-  few = w.few;
-  area = e ∙ w.area;
-  numbers = w.numbers;
-  check = w.check;
-  room = w.room;
-  inside = λ r a b. w.inside r (omega arith) b;
-}
 
 module _ (first ncol : ℕ) (k : Descendant) (places : ℕ → ℕ) (n : ℕ) where
   pub rows_step : (c : ℕ) (a b w : Mat) → c < n → b ≡ row_applied first ncol k places c a → rows_applied first ncol k places (n - c) c a ≡ w

@@ -2,24 +2,21 @@
 use mathlib.Core.Path.{◌≡◌, refl, sym, ◌∙◌, ap, fun_ext}
 use mathlib.Core.Bool.{Bool, true, false}
 use mathlib.Core.List.{List}
-use Prim.Native.Nat.{ℕ, zero, suc, ◌+◌, ◌-◌, ◌*◌, ◌^◌, ◌≤◌, ◌<◌}
+use Prim.Native.Nat.{ℕ, zero, suc, ◌+◌, ◌-◌, ◌*◌, ◌≤◌, ◌<◌}
 use native.Mathlib.Omega.{arith}
 use borrow.Author.Tests.{lt-ltb, le-leb, ltb-true, leb-true}
 use borrow.Rule.Slice.PartMut.{mid_of}
 use lib.Dec.{leb, ltb}
 use lib.ListN.{length, get_or, set}
 use lib.Ieee.{Float, nan}
-use mir.Syntax.{w64}
-use mir.Val.{Fits}
 use Rattle.model.specs.Scalar.{◌⊕◌, ◌⊗◌, zero_f}
 use Rattle.model.specs.Matrix.{Row, column_start, view, vec, naturals, within, with_part}
 use Rattle.model.specs.Step.{begins, ends_block}
 use Rattle.model.specs.Panel.{times_d, sum_from}
 use Rattle.model.proofs.Cases.{test, and_left, and_right}
-use Rattle.grid.specs.Grid.{In}
 use Rattle.grid.specs.Rules.{column_of, RowsPre}
 use Rattle.kernels.specs.Rules.{zeroed, plus_times}
-use Rattle.grid.proofs.Laws.{in-col, col-in, view-read}
+use Rattle.grid.proofs.Laws.{col-in, view-read}
 use Rattle.kernels.proofs.Laws.{vec-set, with_part-past, with_part-step}
 use Rattle.grid.proofs.Parts.{column-at}
 use Rattle.checks.proofs.Bytes.{bytes-paired}
@@ -42,19 +39,6 @@ module _ (k : Descendant) (i s : ℕ) (l : Float) (e : l ≡ matrix_of k i s) (b
     unfolding weighed times_d
     weight-plain y = rw (← h, x, ← j, y, e)
 
-module _ (k : Descendant) (i s : ℕ) (w : WeightPre k i s) where
-  abbrev all : ℕ
-  all = k.nk + k.mk
-
-  pub weight-here : In all i s (length k.panel)
-  weight-here = in-col all s i s (length k.panel) w.column w.row (omega arith)
-
-  pub weight-next : naturals k.blocks s ≡ 1 → In all i (s + 1) (length k.panel)
-  weight-next h = in-col all (s + 1) i (s + 1) (length k.panel) (w.next h) w.row (omega arith)
-
-  pub weight-before : In all i (s - 1) (length k.panel)
-  weight-before = in-col all s i (s - 1) (length k.panel) w.column w.row (omega arith)
-
 module _ (k : Descendant) (i lo hi room s : ℕ) (w : SumPre k i lo hi room) (h : s < k.nk) where
   pub sum-weight : WeightPre k i s
   sum-weight = record {
@@ -66,10 +50,6 @@ module _ (k : Descendant) (i lo hi room s : ℕ) (w : SumPre k i lo hi room) (h 
     next = λ o. col-in (k.nk + k.mk) k.nk (s + 1) (length k.panel) w.area
         (omega (arith, w.blocks, (bytes-paired k.blocks w.check).room s (omega (arith, w.blocks)) o));
   }
-
-  -- so many rows fit a machine word, where the panel's length does
-  pub sum_fits : length k.panel < 2 ^ 64 → Fits w64 (k.nk + k.mk)
-  sum_fits l = record { fits = omega (arith, col-in (k.nk + k.mk) k.nk s (length k.panel) w.area h) }
 
   pub sum_rows : RowsPre (k.nk + k.mk) s lo hi (length k.panel)
   sum_rows = record { col = omega (arith, col-in (k.nk + k.mk) k.nk s (length k.panel) w.area h, w.rows); up = w.up; rows = w.rows }

@@ -1,5 +1,4 @@
 -- What `divide::divide` owes. Assumes nothing.
-use Prim.Native.Nat.{◌-◌}
 use Rattle.kernels.proofs.Rules.{rule-none}
 use Rattle.divide.proofs.Laws.{none_before, turn_step, turn-starts, turn-within, turn-less}
 use borrow.Author.Rules.{rules}

@@ -2,7 +2,6 @@
 -- Assumes nothing.
 use Prim.Native.Nat.{◌-◌, ◌≤◌}
 use mathlib.Core.Path.{◌≡◌}
-use lib.ListN.{length}
 use Rattle.model.specs.Matrix.{vec, naturals, with_part}
 use Rattle.model.specs.Step.{diagonals_in}
 use Rattle.model.specs.Kept.{Starts}

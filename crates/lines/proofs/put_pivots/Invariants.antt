@@ -5,7 +5,7 @@ use Rattle.lines.specs.Left.{left_in}
 use Rattle.lines.proofs.put_pivots.Given as goal
 
 abbrev pub invariant-loop-k : goal.invariant-loop-k
-invariant-loop-k l = record {
+invariant-loop-k g l = record {
   text : l.out ≡ l.initial.out ++ each (pivot_of (left_in l.left)) l.k;
   room : length l.out ≤ length l.initial.out + 120 * l.k;
 }

@@ -5,7 +5,7 @@ use Rattle.lines.specs.Left.{left_in}
 use Rattle.lines.proofs.put_rows.Given as goal
 
 abbrev pub invariant-loop-i : goal.invariant-loop-i
-invariant-loop-i l = record {
+invariant-loop-i g l = record {
   text : l.out ≡ l.initial.out ++ each (row_of l.left.c (left_in l.left)) l.i;
   room : length l.out ≤ length l.initial.out + 318 * l.i;
 }

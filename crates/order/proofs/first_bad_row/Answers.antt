@@ -1,5 +1,4 @@
 -- What `order::first_bad_row` owes. Assumes nothing.
-use Prim.Native.Nat.{◌-◌}
 use Rattle.checks.proofs.First.{first-none, first_step, first-bad, first-end}
 use Rattle.order.proofs.Laws.{seen_none, seen_step, row-is-sound, row_in}
 use borrow.Author.Rules.{rules}

@@ -1,5 +1,4 @@
 -- What `products::products` owes. Assumes nothing.
-use Prim.Native.Nat.{◌-◌}
 use Rattle.products.proofs.Product.{products-none, products-pre, products-step}
 use borrow.Author.Rules.{rules}
 use Rattle.products.proofs.products.Goals as goal

@@ -2,7 +2,6 @@
 use mathlib.Core.Path.{refl}
 use native.Mathlib.Omega.{arith}
 use Rattle.model.specs.Matrix.{vec, naturals}
-use Rattle.kernels.specs.Rules.{less_all}
 use Rattle.several.specs.Several.{list_at}
 use Rattle.several.proofs.Runs.{puts_by, runs_none, store-next, store-all}
 use borrow.Author.Rules.{rules}

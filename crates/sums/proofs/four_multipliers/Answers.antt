@@ -4,7 +4,6 @@ use native.Mathlib.Omega.{arith}
 use mathlib.Core.Path.{◌∙◌, ap}
 use Rattle.model.specs.Matrix.{vec, view}
 use Rattle.sums.proofs.Sum.{each-of-four}
-use borrow.Author.Rules.{rules}
 use Rattle.sums.proofs.four_multipliers.Goals as goal
 
 pub returns : goal.returns

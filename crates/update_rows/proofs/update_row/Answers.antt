@@ -1,6 +1,6 @@
 -- What `update_rows::update_row` owes. Assumes nothing.
 use mathlib.Core.Path.{◌≡◌, refl}
-use Prim.Native.Nat.{◌+◌, ◌-◌, ◌≤◌}
+use Prim.Native.Nat.{◌+◌, ◌≤◌}
 use native.Mathlib.Omega.{arith}
 use Rattle.model.specs.Matrix.{naturals}
 use Rattle.landing.specs.Nodes.{descendant_in}

@@ -1,6 +1,5 @@
 -- What `update_sums::add_two` owes. Assumes nothing.
 use mathlib.Core.Path.{sym}
-use Prim.Native.Nat.{◌-◌}
 use Rattle.kernels.proofs.Laws.{with_part-none}
 use Rattle.update_sums.proofs.Numbers.{two-step, two-end}
 use borrow.Author.Rules.{rules}

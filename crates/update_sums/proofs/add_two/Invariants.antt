@@ -1,6 +1,6 @@
 -- `update_sums::add_two` meets its contract. The invariant: the first i numbers have gained both terms. Assumes nothing.
 use mathlib.Core.Path.{◌≡◌}
-use Prim.Native.Nat.{◌-◌, ◌≤◌}
+use Prim.Native.Nat.{◌≤◌}
 use lib.ListN.{length}
 use Rattle.model.specs.Matrix.{vec, with_part}
 use Rattle.kernels.specs.Rules.{plus_times}

@@ -1,5 +1,5 @@
 -- `grid::columns::less_if` meets its contract, where m is a zero and where it is none. Assumes nothing.
-use mathlib.Core.Path.{◌≡◌, ◌∙◌, ap}
+use mathlib.Core.Path.{◌∙◌, ap}
 use mathlib.Core.List.{[], ◌∷◌}
 use Rattle.model.specs.Matrix.{Row, vec, view, with_column}
 use Rattle.grid.proofs.Parts.{less-if-yes, less-if-no}

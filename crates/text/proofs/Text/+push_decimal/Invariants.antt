@@ -2,4 +2,4 @@
 use Rattle.text.proofs.Text.+push_decimal.Given as goal
 
 abbrev pub decreases-push_decimal : goal.decreases-push_decimal
-decreases-push_decimal l = l.n
+decreases-push_decimal g l = l.n

@@ -2,4 +2,4 @@
 use Rattle.text.proofs.Text.+push_digits.Given as goal
 
 abbrev pub decreases-push_digits : goal.decreases-push_digits
-decreases-push_digits l = l.count
+decreases-push_digits g l = l.count

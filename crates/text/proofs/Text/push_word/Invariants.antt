@@ -3,4 +3,4 @@ use Rattle.std.proofs.Common.{◌≡◌, ◌++◌, take}
 use Rattle.text.proofs.Text.push_word.Given as goal
 
 abbrev pub invariant-loop-byte : goal.invariant-loop-byte
-invariant-loop-byte l = l.self ≡ l.initial.self ++ take l.byte-index l.word
+invariant-loop-byte g l = l.self ≡ l.initial.self ++ take l.byte-index l.word

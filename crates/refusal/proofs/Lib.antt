@@ -1,2 +1,0 @@
--- Laws of a refusal's number and place.
-pub mod Laws
