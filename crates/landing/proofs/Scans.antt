@@ -13,10 +13,6 @@ use Rattle.model.specs.Update.{place_from}
 use Rattle.model.proofs.Cases.{test, one_left}
 use Rattle.landing.specs.Rows.{first_from}
 
--- ---- f holds at each of n places: b is the test's answer at k
-
-module _ (f : ℕ → Bool) (n k : ℕ) (w : Bool) where
-
 -- ---- the first place where f holds
 
 -- w is the first of the places lo up to hi where f holds, and hi where it holds at none
