@@ -61,9 +61,9 @@ __attribute__((noinline)) static unsigned long long ticks(factor call, const str
     below[0] = 0;
     size_t size = s->nrow * s->ncol;
     unsigned long long from = __rdtsc();
-    struct misuktaan_outcome o = call(s->ncol, s->nrow, s->nb, true, 1e-8, 64, input, size, panel, size, d, s->ncol, sub,
-        s->ncol, blocks, s->ncol, lifted, s->ncol, amounts, s->ncol, order, s->nrow, marks, s->nrow - s->ncol, work,
-        misuktaan_work_len(s->nrow, s->nb));
+    struct misuktaan_outcome o = call(s->ncol, s->nrow, s->nb, true, 1e-8, 64, input, size, panel, size, d, s->ncol,
+        sub, s->ncol, blocks, s->ncol, lifted, s->ncol, amounts, s->ncol, order, s->nrow, marks, s->nrow - s->ncol,
+        work, misuktaan_work_len(s->nrow, s->nb));
     unsigned long long taken = __rdtsc() - from;
     if (o.number != 0) {
         fprintf(stderr, "against: refused %zu\n", o.number);

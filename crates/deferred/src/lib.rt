@@ -116,8 +116,8 @@ fn defer_rows(panel: &mut [f64], g: &[f64], at: Frame, lo: usize, hi: usize)
 }
 
 // The columns from ke on, each from its diagonal down, lose their sums, a part of the rows at a time. A part begins
-// where the one before it ended: over a `step_by` 9 in 100 more instructions on panels of 4 columns, for the same reason
-// as in defer_rows.
+// where the one before it ended: over a `step_by` 9 in 100 more instructions on panels of 4 columns, for the reason said
+// in defer_rows.
 fn defer_columns(panel: &mut [f64], g: &[f64], at: Frame)
     requires { ColumnsPre at.nrow at.ncol at.kb at.ke (length g.now) (length panel.old) }
     ensures { view at.nrow panel.new

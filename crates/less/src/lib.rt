@@ -2,8 +2,8 @@
 // are those of the pivots one after the other, in their order. The first pivot stands in the part's first columns, the
 // second right after it. A reader may rely on the contracts of less_step and less_both: no other number changes.
 // (Whether a pivot is a block is a flag here and above, as `is_block` of the definitions is: an enum of two cases would
-// be a second word for it. A part's nrow and rows stay two numbers: a struct of two
-// for one crate is no plainer.)
+// be a second word for it. A part's nrow and rows stay two numbers: a struct of two for one crate is no
+// plainer.)
 #![tactic(auto)]
 
 ghost use Rattle.std.specs.Prelude.{◌≡◌, ◌+◌, length};

@@ -54,8 +54,8 @@ fn steps(
     bunch_kaufman::ll_bk_panel_step(panel, &mut work[0..square], r, at, how, before)
 }
 
-// The rows below the panel, by its steps. A root node has none below its last
-// panel, and its pivots are not gone through for nothing there.
+// The rows below the panel, by its steps. A root node has none below its last panel, whose pivots are not gone through
+// for nothing.
 fn rows_below(panel: &mut [f64], work: &[f64], diagonal: DiagonalLists, partners: &[u16], at: Frame)
     requires turn_pre { TurnPre at (length panel.old) (length work.now) }
     requires diagonals_hold { DiagonalsHold at.ncol diagonal }

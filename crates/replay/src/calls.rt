@@ -1,6 +1,7 @@
 // A case of each call: its lists are read, it is called with outputs that hold a known byte, and its answer and what it
 // leaves are held to what is recorded, to zeros or to that byte. All that the file has of a case is read, whatever the
-// port answers, so that the next case begins where it should. The room of a list x is of_x.
+// port answers, so that the next case begins where it should. The room of a list x is of_x,
+// an array of the largest case's length, since there is no heap.
 ghost use Rattle.std.specs.Prelude.{◌≡◌, length};
 
 use crate::file;

@@ -116,8 +116,8 @@ fn moved_block(
     block(panel, mult, at, k, p, kp, how)
 }
 
-// What the mode makes of the choice at k: in Lift a zero column is a 1x1 from its own row. (With
-// `_ => choice` the compiler tells the cases apart once more in each step: heads took 2 to 4 in 100 longer.)
+// What the mode makes of the choice at k: in Lift a zero column is a 1x1 from its own row. (With `_ => choice` the
+// compiler tells the cases apart once more in each step: heads took 2 to 4 in 100 longer.)
 fn by_mode(choice: Choice, mode: Mode, k: Elim) -> Choice
     ensures { result ≡ by_mode mode k choice }
 {

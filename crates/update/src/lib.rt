@@ -19,7 +19,8 @@ fn update_columns(t: Target, panel: &mut [f64], k: Descendant) -> Result<(), Ref
     ensures { leaves result panel.new ≡ columns_of (target_in t.entry) (descendant_in k.entry) panel.old }
 {
     let start = landing::first_landing(t, k.rows);
-    // the walk's one list, of a limit's length since there is no heap: where each of the descendant's rows stands among the target's
+    // the walk's one list, of a limit's length since there is no heap: where each of the descendant's rows stands among
+    // the target's
     let mut places = [0u16; ROWS_MAX];
     landing::locate(t.rows, k.rows, start, &mut places)?;
     update_checks::first_bad_column(k)?;
