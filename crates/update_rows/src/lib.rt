@@ -100,9 +100,12 @@ fn update_row(
     }
     let column = landing::column_of(t, g);
     let mk = k.mk;
-    for lo in (c..mk).step_by(PART) {
+    let mut lo = c;
+    // a part begins where the one before it ended, as in deferred, and for the reason said there
+    while lo < mk {
         let hi = lo + PART.min(mk - lo);
         update_part(t, panel, k, places, acc, c, column, lo, hi);
+        lo = hi;
     }
 }
 

@@ -11,7 +11,7 @@ use Rattle.update_rows.proofs.update_row.Given as goal
 
 abbrev pub invariant-loop-lo : goal.invariant-loop-lo
 invariant-loop-lo l =
-    (l.c ≤ l.lo) × (l.column.0 < l.t.ncol) × (length l.panel ≡ length l.initial.panel) × (length l.acc ≡ length l.initial.acc)
+    (l.c ≤ l.lo) × (l.lo ≤ l.k.mk) × (l.column.0 < l.t.ncol) × (length l.panel ≡ length l.initial.panel) × (length l.acc ≡ length l.initial.acc)
     × (less_from (naturals l.places) (from_row (sums_of (descendant_in l.k) l.k.nk (l.k.nk + l.c)) l.k.nk) l.column.0 (l.k.mk - l.lo) l.lo (view l.t.nrow l.panel)
     ≡ less_from (naturals l.places) (from_row (sums_of (descendant_in l.k) l.k.nk (l.k.nk + l.c)) l.k.nk) l.column.0 (l.k.mk - l.c) l.c
     (view l.t.nrow l.initial.panel))
