@@ -1,6 +1,7 @@
-//! Records answers of the reference for the program crates/replay, which replays them on the port: the stations, the
-//! telling cases, cases at the bounds, small random cases of the four calls and some larger ones. The legend that it
-//! writes has the file's format. Asked for a case by its call and number, it prints that case as a line instead.
+//! Records answers of the reference, and of solve as it is restated, for the program crates/replay, which replays them
+//! on the port: the stations, the telling cases, cases at the bounds, small random cases of the five calls and some
+//! larger ones. The legend that it writes has the file's format. Asked for a case by its call and number, it prints
+//! that case as a line instead.
 
 use oracle::case::*;
 use oracle::random::{self, Bounds, Rng};
@@ -19,28 +20,31 @@ const ROOM_COLUMNS: usize = 130;
 const ROOM_ROWS: usize = 1_026;
 const ROOM_GLOBAL_ROWS: usize = 1_024;
 
-const CALLS: [&str; 4] = ["factor", "inertia", "assembly", "update"];
+const CALLS: [&str; 5] = ["factor", "inertia", "assembly", "update", "solve"];
 
 /// What is counted of each call. Each has to be met.
-const OUTCOMES: [&str; 4] = [
+const OUTCOMES: [&str; 5] = [
     "accepted in Fail/accepted in Lift/with blocks/with an exchange/with lifts/with rounds/with two rounds or more/\
      with marks/with several panels/with tail rows/refused 1/refused 2/refused 3/refused 4/refused 5/refused 6/\
      refused 7/refused 8/refused 9/refused 23/refused 24",
     "counts/refused 16/refused 19",
     "done/refused 10/refused 11/refused 12",
     "done/done, no landing/refused 13/refused 14/refused 15/refused 16/refused 17/refused 18",
+    "solved/with blocks/in another order/not finite in the end/refused 1/refused 16/refused 25/refused 26/refused 27",
 ];
 
+const TITLE: &str = "Answers of the reference, and of solve as oracle/src/solve.rs restates it, recorded by";
+
 const LEGEND: &str = "\
-Of each call the stations of docs/SCOPE.md, the telling cases of oracle/src/telling.rs and cases at the bounds come first,
+Of each call the stations, the telling cases of oracle/src/telling.rs and systems.rs and cases at the bounds come first,
 then random ones, the larger last. `oracle/record SEED COUNT CALL NUMBER` prints one case, counted from 0, as a line of
 the oracle's with its answer.
 
 Little-endian. A count is a u16, a number the u64 of its bits (every not-a-number 7FF8000000000000), a global row a
 u32, any other row or column a count, a byte a byte; a list stands without its length.
 
-file      'replay 1'; the Adler-32 of what follows, a u32; the counts of cases of factor, inertia, assembly and update;
-          the cases in that order
+file      'replay 1'; the Adler-32 of what follows, a u32; the counts of cases of factor, inertia, assembly, update and
+          solve; the cases in that order
 answer    counts: the refusal's number (0: none), its place A, B, rounds, positive, negative, zero
 factor    answer; counts ncol nrow nb limit; count 1 for Lift, 0 for Fail; the floor, a number; the lengths of input,
           panel, d, subdiagonal, block bytes, lift bytes, amounts, order, marks, working buffer; the input. If it is
@@ -51,6 +55,8 @@ assembly  answer; counts ncol nrow; the lengths of rows, columns, numbers, panel
           is left
 update    answer; counts ncol nrow nk mk; the target's first row; the lengths of rows, panel, and the descendant's
           panel, d, subdiagonal, block bytes, rows; the seven lists; the panel as it is left
+solve     answer; counts ncol nrow; the lengths of panel, d, subdiagonal, block bytes, order, vector; the six lists; the
+          vector as it is left
 ";
 
 fn main() {
@@ -68,7 +74,7 @@ fn main() {
     if asked.is_none() {
         let told = all.outcomes();
         print!("seed {seed}\n{told}");
-        let legend = format!("Answers of the reference, recorded by oracle/record {seed} {count}.\n\n{told}\n{LEGEND}");
+        let legend = format!("{TITLE} oracle/record {seed} {count}.\n\n{told}\n{LEGEND}");
         all.write(Path::new(&words[0]), &legend);
     }
 }
@@ -84,13 +90,16 @@ fn number(text: &str) -> usize {
 
 // ---- cases
 
-/// The stations, the telling cases and those at the bounds. The station of 128 columns is `widest`. Those of solve stay
-/// out: the program replays the calls of the port.
+/// The stations, the telling cases and those at the bounds. For the stations of 128 columns `widest_node` stands.
 fn hand_made() -> Vec<Case> {
     let named = telling::stations().into_iter().chain(telling::telling()).map(|(_, case)| case);
-    let named = named.filter(|case| !matches!(case, Case::Solve(_)));
-    let named = named.filter(|case| !matches!(case, Case::Factor(f) if f.settings.ncol == 128));
-    named.chain(factor_bounds()).chain(inertia_bounds()).chain(assembly_bounds()).chain(update_bounds()).collect()
+    let widest = |case: &Case| match case {
+        Case::Factor(f) => f.settings.ncol == 128,
+        Case::Solve(s) => s.ncol == 128,
+        _ => false,
+    };
+    let bounds = factor_bounds().chain(inertia_bounds()).chain(assembly_bounds()).chain(update_bounds());
+    named.filter(|case| !widest(case)).chain(bounds).chain(solve_bounds()).collect()
 }
 
 /// So many small cases, six of ten of them factor calls; more of what is rare among them; some larger ones.
@@ -108,6 +117,15 @@ fn random_cases(all: &mut Recorded, rng: &mut Rng, count: usize) {
     }
     (0..3).for_each(|_| all.add(&such("with several panels", || large(rng))));
     all.add(&such("with several panels", || widest(rng)));
+    solves(all, rng, count / 10);
+}
+
+/// So many small systems, and some larger ones.
+fn solves(all: &mut Recorded, rng: &mut Rng, count: usize) {
+    (0..count).for_each(|_| all.add(&random_case(rng, "solve", SMALL)));
+    (0..20).for_each(|_| all.add(&random_case(rng, "solve", MIDDLE)));
+    (0..3).for_each(|_| all.add(&system_of(rng, large_root)));
+    all.add(&system_of(rng, widest_node));
 }
 
 fn random_case(rng: &mut Rng, kind: &str, bounds: Bounds) -> Case {
@@ -134,13 +152,37 @@ fn large(rng: &mut Rng) -> Case {
     }
 }
 
-/// The head of a large node of 128 columns: nb 64, limit 64.
+/// A root node of more than 32 columns.
+fn large_root(rng: &mut Rng) -> Factor {
+    loop {
+        let f = random::root(rng, LARGE);
+        if f.settings.ncol > 32 {
+            return f;
+        }
+    }
+}
+
+/// A system with the factor of the first of some nodes that is accepted.
+fn system_of(rng: &mut Rng, node: fn(&mut Rng) -> Factor) -> Case {
+    loop {
+        let f = node(rng);
+        if let Some(s) = random::factored(rng, f) {
+            return Case::Solve(s);
+        }
+    }
+}
+
 fn widest(rng: &mut Rng) -> Case {
+    Case::Factor(widest_node(rng))
+}
+
+/// The head of a large node of 128 columns: nb 64, limit 64.
+fn widest_node(rng: &mut Rng) -> Factor {
     let mut f = random::large(rng, 7);
     assert!(f.settings.ncol == 128 && f.settings.nb == 64);
     f.settings = Settings { nrow: 128, mode: Mode::Lift(0.125), limit: 64, ..f.settings };
     f.panel.truncate(128 * 128);
-    Case::Factor(f)
+    f
 }
 
 /// An identity head over a zero tail.
@@ -251,6 +293,39 @@ fn update_bounds() -> impl Iterator<Item = Case> {
     all.into_iter().map(Case::Update)
 }
 
+/// Sizes at their bounds and beyond, without lists where they are too large; each list one longer and one shorter.
+fn solve_bounds() -> impl Iterator<Item = Case> {
+    let sound = |n: usize| Solve {
+        ncol: n,
+        nrow: n,
+        panel: vec![0.5; n * n],
+        d: vec![3.0; n],
+        sub: vec![0.0; n],
+        blocks: vec![0; n],
+        order: (0..n).rev().collect(),
+        vector: vec![7.0; n],
+    };
+    let shapes = [(0, 1), (1, 0), (1, 2), (2, 1), (128, 127), (128, 129), (128, 1024), (1024, 1024), (0, 1025)];
+    let mut all: Vec<Solve> = shapes.map(|(ncol, nrow)| Solve { ncol, nrow, ..sound(0) }).to_vec();
+    for off in [-1, 1] {
+        let longer = |n: usize| n.saturating_add_signed(off);
+        for which in 0..6 {
+            let mut s = sound(2);
+            match which {
+                0 => s.panel.resize(longer(4), 0.5),
+                1 => s.d.resize(longer(2), 3.0),
+                2 => s.sub.resize(longer(2), 0.0),
+                3 => s.blocks.resize(longer(2), 0),
+                4 => s.order.resize(longer(2), 2),
+                _ => s.vector.resize(longer(2), 7.0),
+            }
+            all.push(s);
+        }
+    }
+    all.push(Solve { order: vec![0, usize::from(u16::MAX)], ..sound(2) });
+    all.into_iter().map(Case::Solve)
+}
+
 // ---- bytes
 
 #[derive(Default)]
@@ -328,10 +403,10 @@ fn inertia(to: &mut Bytes, i: &Inertia) {
     to.bytes(&i.blocks);
 }
 
-/// The panel as an assembly or an update leaves it.
+/// What a call leaves of the panel or the vector that it is given to write.
 fn left<'a>(given: &'a [f64], of: &'a Answer) -> &'a [f64] {
     match of {
-        Answer::Panel(panel) => panel,
+        Answer::Panel(list) | Answer::Vector(list) => list,
         _ => given,
     }
 }
@@ -368,14 +443,28 @@ fn update(to: &mut Bytes, u: &Update, of: &Answer) {
     to.numbers(left(&u.panel, of));
 }
 
+fn solve(to: &mut Bytes, s: &Solve, of: &Answer) {
+    let lengths = [s.panel.len(), s.d.len(), s.sub.len(), s.blocks.len(), s.order.len(), s.vector.len()];
+    assert!(s.panel.len() <= ROOM && lengths[1..].iter().all(|&n| n <= ROOM_COLUMNS));
+    to.counts(&[s.ncol, s.nrow]);
+    to.counts(&lengths);
+    to.numbers(&s.panel);
+    to.numbers(&s.d);
+    to.numbers(&s.sub);
+    to.bytes(&s.blocks);
+    to.counts(&s.order);
+    to.numbers(&s.vector);
+    to.numbers(left(&s.vector, of));
+}
+
 // ---- what is recorded
 
 #[derive(Default)]
 struct Recorded<'a> {
-    cases: [usize; 4],
-    bytes: [Bytes; 4],
+    cases: [usize; 5],
+    bytes: [Bytes; 5],
     /// By call, how often each outcome was met.
-    met: [BTreeMap<String, usize>; 4],
+    met: [BTreeMap<String, usize>; 5],
     /// The case to print.
     asked: Option<(&'a str, usize)>,
 }
@@ -388,6 +477,7 @@ impl Recorded<'_> {
             Case::Inertia(_) => 1,
             Case::Assembly(_) => 2,
             Case::Update(_) => 3,
+            Case::Solve(_) => 4,
             _ => unreachable!(),
         };
         if self.asked == Some((CALLS[call], self.cases[call])) {
@@ -400,6 +490,7 @@ impl Recorded<'_> {
             Case::Inertia(i) => inertia(to, i),
             Case::Assembly(a) => assembly(to, a, &of),
             Case::Update(u) => update(to, u, &of),
+            Case::Solve(s) => solve(to, s, &of),
             _ => unreachable!(),
         }
         self.cases[call] += 1;
@@ -436,7 +527,7 @@ impl Recorded<'_> {
     }
 }
 
-/// What a case is counted under: its outcome and, of an accepted factor call, what it met.
+/// What a case is counted under: its outcome and, of an accepted factor call or solve, what it met.
 fn outcome(case: &Case, of: &Answer) -> Vec<String> {
     match (case, of) {
         (_, Answer::Refused(r)) => vec![format!("refused {}", r.number)],
@@ -452,6 +543,15 @@ fn outcome(case: &Case, of: &Answer) -> Vec<String> {
                 (s.nb < s.ncol, "with several panels"),
                 (s.ncol < s.nrow, "with tail rows"),
                 (!factored.order.is_sorted(), "with an exchange"),
+            ];
+            met.into_iter().filter(|m| m.0).map(|m| m.1.to_string()).collect()
+        }
+        (Case::Solve(s), Answer::Vector(vector)) => {
+            let met = [
+                (true, "solved"),
+                (s.blocks.contains(&1), "with blocks"),
+                (!s.order.is_sorted(), "in another order"),
+                (vector.iter().any(|x| !x.is_finite()), "not finite in the end"),
             ];
             met.into_iter().filter(|m| m.0).map(|m| m.1.to_string()).collect()
         }

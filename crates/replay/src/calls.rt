@@ -8,8 +8,9 @@ use crate::file;
 use crate::file::{Answers, Left, Lent};
 use assembly::Entries;
 use landing::{Descendant, Target};
-use model::{GlobalRow, Lengths, LentBuffers, Refusal, Settings};
+use model::{DiagonalLists, GlobalRow, Lengths, LentBuffers, Refusal, Settings};
 use outcome::Outcome;
+use solve::Factor;
 
 // Room for the lists of a case: of pivots or entries; of rows; of global rows; of the numbers of a panel or a working
 // buffer.
@@ -148,15 +149,16 @@ pub(crate) fn inertia_case(answers: &mut Answers) -> bool {
     Outcome::from(inertia::inertia(d, sub, blocks)) == recorded
 }
 
-// ---- assembly and update
+// ---- assembly, update and solve
 
-fn panel_same(
+// Whether the call answers as recorded, and leaves the list that it writes so.
+fn list_same(
     answers: &mut Answers,
     recorded: Outcome,
     answer: Result<(), Refusal>,
-    panel: &[f64],
+    list: &[f64],
 ) -> bool {
-    let left = file::holds(answers, Left::Recorded, panel);
+    let left = file::holds(answers, Left::Recorded, list);
     (Outcome::from(answer) == recorded) & left
 }
 
@@ -196,7 +198,7 @@ pub(crate) fn assembly_case(answers: &mut Answers) -> bool {
     };
     let panel = file::list(answers, n.panel, &mut of_panel, Answers::number);
     let answer = assembly::assemble(n.ncol, n.nrow, entries, panel);
-    panel_same(answers, recorded, answer, panel)
+    list_same(answers, recorded, answer, panel)
 }
 
 // The shapes of a target and a descendant, the row of the target's first column, and the lengths of their lists.
@@ -260,5 +262,57 @@ pub(crate) fn update_case(answers: &mut Answers) -> bool {
         rows: file::list(answers, n.krows, &mut of_krows, Answers::global_row),
     };
     let answer = update::update(target, panel, descendant);
-    panel_same(answers, recorded, answer, panel)
+    list_same(answers, recorded, answer, panel)
+}
+
+// A root node's shape, and the lengths of the lists of its factor and of the vector.
+#[derive(Clone, Copy)]
+struct SystemCounts {
+    ncol: usize,
+    nrow: usize,
+    panel: usize,
+    d: usize,
+    sub: usize,
+    blocks: usize,
+    order: usize,
+    vector: usize,
+}
+
+fn read_system(answers: &mut Answers) -> SystemCounts {
+    SystemCounts {
+        ncol: answers.count(),
+        nrow: answers.count(),
+        panel: answers.count(),
+        d: answers.count(),
+        sub: answers.count(),
+        blocks: answers.count(),
+        order: answers.count(),
+        vector: answers.count(),
+    }
+}
+
+pub(crate) fn solve_case(answers: &mut Answers) -> bool {
+    let recorded = read_answer(answers);
+    let n = read_system(answers);
+    let mut of_panel = [0.0; NUMBERS];
+    let mut of_d = [0.0; COLUMNS];
+    let mut of_sub = [0.0; COLUMNS];
+    let mut of_blocks = [0u8; COLUMNS];
+    let mut of_order = [0usize; COLUMNS];
+    let mut of_vector = [0.0; COLUMNS];
+    let panel = file::list(answers, n.panel, &mut of_panel, Answers::number);
+    let diagonals = DiagonalLists {
+        d: file::list(answers, n.d, &mut of_d, Answers::number),
+        sub: file::list(answers, n.sub, &mut of_sub, Answers::number),
+        blocks: file::list(answers, n.blocks, &mut of_blocks, Answers::byte),
+    };
+    let order = file::list(answers, n.order, &mut of_order, Answers::count);
+    let vector = file::list(answers, n.vector, &mut of_vector, Answers::number);
+    let factor = Factor {
+        panel,
+        diagonals,
+        order,
+    };
+    let answer = solve::solve(n.ncol, n.nrow, factor, vector);
+    list_same(answers, recorded, answer, vector)
 }

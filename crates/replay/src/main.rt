@@ -1,6 +1,7 @@
-// Replays recorded answers of the Rust on the four calls of the port and prints how many differ. A case differs if the
-// answer's number, place, rounds or counts do, or the bits of a buffer. data/answers has the cases; data/LEGEND says
-// what made them, what they meet and how they are written.
+// Replays recorded answers on the five calls and prints how many differ: those of the Rust, and for solve, which the
+// Rust does not have for one node, those of the oracle's restatement. A case differs if the answer's number, place,
+// rounds or counts do, or the bits of a buffer. data/answers has the cases; data/LEGEND says what made them, what they
+// meet and how they are written.
 // Proved is that the program is safe and ends. What stands in a file no contract can say: the run is the test.
 // Nothing of it is public: what one module has of another is the crate's own, pub(crate).
 // file.rt reads lists and holds buffers to them, calls.rt has one function a call, sum.rt the checksum by which a
@@ -50,10 +51,12 @@ fn replay_all<P: Print>(out: &P, answers: &mut Answers) {
     let inertias = answers.count();
     let assemblies = answers.count();
     let updates = answers.count();
+    let solves = answers.count();
     replay(out, answers, b"factor", factors, calls::factor_case);
     replay(out, answers, b"inertia", inertias, calls::inertia_case);
     replay(out, answers, b"assembly", assemblies, calls::assembly_case);
     replay(out, answers, b"update", updates, calls::update_case);
+    replay(out, answers, b"solve", solves, calls::solve_case);
 }
 
 fn main(rt: HostRuntime) {
