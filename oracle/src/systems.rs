@@ -117,6 +117,7 @@ fn accepted() -> Vec<Station> {
             diagonal(&[1.0; 3], &[1.0, 1.0, 2.0]).l(1, 0, tiny).l(2, 0, 1.0),
             &[-tiny, 1.0, 1.0],
         ),
+        solved("[1,0; 1], -0 -1", diagonal(&[1.0; 2], &[-0.0, -1.0]), &[0.0, -1.0]),
         solved("-0", diagonal(&[1.0], &[-0.0]), &[-0.0]),
         solved("a pivot of zero", diagonal(&[0.0; 2], &[1.0, 0.0]), &[nan, nan]),
         solved("2^-1074, whose reciprocal is infinite", diagonal(&[f64::from_bits(1)], &[-1.0]), &[-inf]),

@@ -24,7 +24,7 @@ use Rattle.grid.proofs.Laws.{in-panel, own-set}
 use Rattle.checks.specs.Answers.{leaves}
 use Rattle.checks.specs.Finite.{finite_at, refused_at}
 use Rattle.checks.proofs.Answers.{first-refuses, second-decides, leaves-done, leaves-refused}
-use Rattle.checks.proofs.First.{first-all}
+use Rattle.model.proofs.Every.{first-all}
 use Rattle.assembly.specs.Call.{AddPre}
 
 -- ---- refusal 10

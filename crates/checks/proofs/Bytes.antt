@@ -16,7 +16,8 @@ use Rattle.model.specs.declared.Refusal.{Refusal}
 use Rattle.model.specs.declared.Refusal.TheVariants.{BlockByte}
 use Rattle.model.proofs.Cases.{and_left, and_right}
 use Rattle.model.specs.Kept.{Paired}
-use Rattle.checks.proofs.First.{first-none, first-all}
+use Rattle.model.proofs.Every.{first-all}
+use Rattle.checks.proofs.First.{first-none}
 
 -- ---- the scan
 

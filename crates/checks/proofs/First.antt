@@ -43,18 +43,6 @@ module _ (f : ℕ → Bool) (at : ℕ → Refusal) where
   unfolding first_not
   first-end n k w h e = let m : n - k ≡ 0 = omega arith in rw m at e
 
-  from_all : (m k : ℕ) → first_not f at m k ≡ Ok tt → (i : ℕ) → k ≤ i → i < k + m → f i ≡ true
-  unfolding first_not
-  from_all zero k e i l h = absurd (omega arith)
-  from_all (suc m) k e i l h =
-      test (f k)
-      (λ s. test (eqb i k) (λ q. rw (eqb-true i k q) s) (λ q. from_all m (k + 1) (rw s at e) i (omega (arith, eqb-false i k q)) (omega arith)))
-      (λ s. absurd (let z : Err (at k) ≡ Ok tt = rw s at e in let w : ◌≡◌ {A = ℕ} 0 1 = cc in omega arith))
-
-  -- a scan that finds none: the test holds at each of the n places
-  pub first-all : (n k : ℕ) → first_not f at n 0 ≡ Ok tt → k < n → f k ≡ true
-  first-all n k e h = from_all n 0 e k (omega arith) (omega arith)
-
 -- ---- the first of a list's numbers that is not finite
 
 numbers-from : (f : ℕ → Bool) (at : ℕ → Refusal) (xs : List Float) (k : ℕ) → ((i : ℕ) → i < length xs → f (k + i) ≡ is_finite (get_or xs i nan))

@@ -1,11 +1,16 @@
--- Laws of a test at every place: where it holds, one place more, by another rule, and what it says of one place. Assumes nothing.
-use Prim.Native.Nat.{ℕ, zero, suc, ◌+◌, ◌<◌}
+-- Laws of a test at every place: where it holds, one place more, by another rule, what it says of one place; and of a scan that finds none. Assumes nothing.
+use Rattle.std.specs.Prelude.{Ok, Err}
+use Prim.Native.Nat.{ℕ, zero, suc, ◌+◌, ◌≤◌, ◌<◌}
 use mathlib.Core.Path.{◌≡◌, refl, ◌∙◌, ap}
 use mathlib.Core.Bool.{Bool, true, false, ◌&&◌}
 use native.Mathlib.Nat.{not-suc-le-zero, le_of_suc-le-suc}
 use native.Mathlib.Omega.{arith}
+use borrow.Author.Tests.{eqb-true, eqb-false}
+use lib.Dec.{eqb}
 use Rattle.model.specs.Factor.{every_from}
-use Rattle.model.proofs.Cases.{and_left, and_right}
+use Rattle.model.specs.Assembly.{first_not}
+use Rattle.model.specs.declared.Refusal.{Refusal}
+use Rattle.model.proofs.Cases.{test, and_left, and_right}
 
 and-true : (b : Bool) → b && true ≡ b
 and-true true = refl
@@ -45,3 +50,17 @@ every_of f zero i h = refl
 every_of f (suc n) i h =
     let here : f i ≡ true = ap f (omega arith) ∙ h 0 (omega arith) in
     rw here (every_of f n (i + 1) (λ k l. ap f (omega arith) ∙ h (suc k) (omega arith)))
+
+-- ---- a scan for the first place at which a test does not hold, which finds none
+
+from_all : (f : ℕ → Bool) (at : ℕ → Refusal) (m k : ℕ) → first_not f at m k ≡ Ok tt → (i : ℕ) → k ≤ i → i < k + m → f i ≡ true
+unfolding first_not
+from_all f at zero k e i l h = absurd (omega arith)
+from_all f at (suc m) k e i l h =
+    test (f k)
+    (λ s. test (eqb i k) (λ q. rw (eqb-true i k q) s) (λ q. from_all f at m (k + 1) (rw s at e) i (omega (arith, eqb-false i k q)) (omega arith)))
+    (λ s. absurd (let z : Err (at k) ≡ Ok tt = rw s at e in let w : ◌≡◌ {A = ℕ} 0 1 = cc in omega arith))
+
+-- the test holds at each of the n places
+pub first-all : (f : ℕ → Bool) (at : ℕ → Refusal) (n k : ℕ) → first_not f at n 0 ≡ Ok tt → k < n → f k ≡ true
+first-all f at n k e h = from_all f at n 0 e k (omega arith) (omega arith)

@@ -1,5 +1,5 @@
 -- What stays lent after one call stays lent after the next: for the record of pivots and for the nine buffers. Assumes nothing.
-use mathlib.Core.Path.{◌≡◌, ◌∙◌}
+use mathlib.Core.Path.{◌∙◌}
 use Rattle.std.specs.Prelude.{List}
 use Rattle.std.specs.Borrow.{MutBor}
 use Rattle.model.specs.Step.{StaysLent, SameRecord}

@@ -7,6 +7,7 @@ pub mod Tabulated
 pub mod Every
 pub mod Exchanged
 pub mod Summed
+pub mod Zeros
 pub mod Terms
 pub mod Entry
 pub mod Stations
@@ -17,4 +18,5 @@ pub mod Past
 pub mod Accepted
 pub mod Ends
 pub mod Lent
+pub mod Identity
 pub mod Solution

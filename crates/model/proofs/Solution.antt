@@ -9,7 +9,7 @@ use borrow.Author.Tests.{eq-eqb, ne_eqb, le-leb, lt-ltb, eqb-true, eqb-false}
 use lib.Dec.{ltb, eqb}
 use lib.ListN.{length}
 use lib.Ieee.{Float}
-use Rattle.std.specs.Prelude.{Ok, Err}
+use Rattle.std.specs.Prelude.{Ok}
 use Rattle.model.specs.Sizes.{most_columns, most_rows}
 use Rattle.model.specs.Scalar.{◌⊗◌}
 use Rattle.model.specs.Matrix.{Row, Mat, view, vec, naturals, put, tabulate}

@@ -1,12 +1,14 @@
--- What a reader may want to know of solve beside its definition. From docs/SCOPE.md, "Solve". proofs/Solution.antt proves the three statements.
--- Definitions only. Assumes nothing.
-use Rattle.std.specs.Prelude.{◌≡◌, true, not, List, ℕ, ◌<◌, eqb, length, Float}
+-- What a reader may want to know of solve beside its definition. From docs/SCOPE.md, "Solve". proofs/Solution.antt proves the first three statements,
+-- proofs/Identity.antt the last. Definitions only. Assumes nothing.
+use Rattle.std.specs.Prelude.{◌≡◌, true, not, List, ℕ, ◌<◌, eqb, length, Float, Ok}
+use lib.Ieee.{binary64, eq, fits}
+use Rattle.model.specs.Scalar.{zero_f, is_finite}
 use Rattle.model.specs.Matrix.{Row, Mat, view, vec, naturals}
-use Rattle.model.specs.Step.{Diagonals}
+use Rattle.model.specs.Step.{Diagonals, diagonals_of}
 use Rattle.model.specs.Factor as factor
 use Rattle.model.specs.Answer.{accepted, or_else, refuse_if}
 use Rattle.model.specs.Independence.{Call, outcome_of}
-use Rattle.model.specs.Solve.{Factor, solve_check, check_right_side, has_entry, solution_of, solve_of}
+use Rattle.model.specs.Solve.{Factor, solve_check, check_right_side, has_entry, divided, ordered, solution_of, solve_of}
 use Rattle.model.specs.declared.Report.{Report}
 use Rattle.model.specs.declared.Refusal.TheVariants.{SolveLength}
 
@@ -40,3 +42,14 @@ abbrev pub ComesBackRenumbered : Type 0
 ComesBackRenumbered =
     (n : ℕ) (D : Diagonals) (l : Mat) (order p : ℕ → ℕ) (b c : Row) → ((i j : ℕ) → p i ≡ p j → i ≡ j) → ((i : ℕ) → c (p i) ≡ b i)
     → (i : ℕ) → solution_of n D l (λ k. p (order k)) c (p i) ≡ solution_of n D l order b i
+
+-- With L the identity solve is the division by D in the recorded order: of an accepted call whose entries of L are zeros, of either sign, and whose quotients
+-- are finite, what comes back at the row of position k equals the quotient of position k. Equal as `==` has it: no term is left out, and one of zero may make
+-- +0 of -0. That a number fits the format is so of every number of a list that a call is given.
+abbrev pub IdentityDivides : Type 0
+IdentityDivides =
+    (n : ℕ) (f : Factor) (vector : List Float) → solve_check n n f vector ≡ Ok tt → ((i : ℕ) → fits binary64 (vec vector i) ≡ true)
+    → ((i j : ℕ) → i < n → has_entry (naturals f.blocks) i j ≡ true → eq (view n f.panel i j) zero_f ≡ true)
+    → let quotient = divided (diagonals_of f.d f.sub f.blocks) (ordered (naturals f.order) (vec vector)) in
+    ((k : ℕ) → k < n → is_finite (quotient k) ≡ true)
+    → (k : ℕ) → k < n → eq (vec (solve_of n n f vector).vector (naturals f.order k)) (quotient k) ≡ true

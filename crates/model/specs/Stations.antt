@@ -130,6 +130,12 @@ minus_half = 0xBFE0_0000_0000_0000
 abbrev minus_two : ℕ
 minus_two = 0xC000_0000_0000_0000
 
+abbrev minus_one : ℕ
+minus_one = 0xBFF0_0000_0000_0000
+
+abbrev minus_zero : ℕ
+minus_zero = 0x8000_0000_0000_0000
+
 -- 1e-160, 1e150 and 1e200: the first times its quotient by the second vanishes, the square of the third overflows
 abbrev small : ℕ
 small = 0x1EB6_7E9C_127B_6E74
@@ -228,6 +234,8 @@ stations =
     -- three 1x1s of 1, L 2^-60, 1 and 0, solved for 1 1 2: −2^-60 1 1; by rising position back it would begin with 0
     (solve_gives 3 (one ∷ tiny ∷ one ∷ 0 ∷ one ∷ 0 ∷ 0 ∷ 0 ∷ one ∷ []) (one ∷ one ∷ one ∷ []) (0 ∷ 0 ∷ 0 ∷ []) (0 ∷ 0 ∷ 0 ∷ []) (0 ∷ 1 ∷ 2 ∷ []) (one ∷ one ∷ two ∷ [])
     ⇒ (minus_tiny ∷ one ∷ one ∷ []) ∷ []) ∷
+    -- [1,0; 1], solved for −0 −1: +0 −1; with terms of zero left out it would begin with −0
+    (solved_gives (fail 2 2 2) (one ∷ 0 ∷ 0 ∷ one ∷ []) (minus_zero ∷ minus_one ∷ []) ⇒ (0 ∷ minus_one ∷ []) ∷ []) ∷
     -- [4], tail 6, solved for 1: 1
     (solved_gives (fail 1 2 1) (four ∷ six ∷ []) (one ∷ []) ⇒ (1 ∷ 0 ∷ 0 ∷ []) ∷ []) ∷
     -- [1,2; 8], solved for 5 and an infinity: 27 at 1

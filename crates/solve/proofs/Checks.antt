@@ -26,7 +26,7 @@ use Rattle.kernels.proofs.Parts.{mid-count}
 use Rattle.checks.specs.Finite.{finite_at}
 use Rattle.checks.proofs.Answers.{first-refuses, second-decides}
 use Rattle.checks.proofs.Bytes.{bytes-paired}
-use Rattle.checks.proofs.First.{first-all}
+use Rattle.model.proofs.Every.{first-all}
 use Rattle.solve.specs.Call.{solve_leaves, SubstitutePre}
 
 -- ---- refusals 1 and 25
