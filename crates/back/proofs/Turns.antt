@@ -100,7 +100,7 @@ two-pre blocks n m k j hi len w e h o p = record {
 }
 
 pub ones-pre : (blocks : List ℕ) (n m s k len : ℕ) → ForwardPre blocks n len → m ≡ n → s < k → k ≤ n → ColumnPre blocks m (k - 1) n len
-ones-pre blocks n m s k len w e h g = column-pre blocks n m 0 n n (k - 1) len (rest-pre blocks n n 0 len w refl (omega arith)) e (omega arith)
+ones-pre blocks n m s k len w e h g = column-pre blocks n m 0 n n (k - 1) len (rest-pre blocks n 0 len w (omega arith)) e (omega arith)
 
 -- ---- the loops and the calls
 

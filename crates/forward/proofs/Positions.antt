@@ -1,5 +1,5 @@
 -- Laws of forward substitution by positions: what each position ends as, and that the columns in turn make the same. Assumes nothing.
-use Prim.Native.Nat.{ℕ, zero, suc, ◌+◌, ◌-◌, ◌<◌, ◌≤◌}
+use Prim.Native.Nat.{ℕ, zero, suc, ◌+◌, ◌-◌, ◌*◌, ◌/◌, ◌<◌, ◌≤◌}
 use mathlib.Core.Path.{◌≡◌, refl, sym, ◌∙◌, ap, fun_ext}
 use mathlib.Core.Bool.{Bool, false}
 use mathlib.Core.List.{List}
@@ -85,6 +85,6 @@ module _ (blocks : ℕ → ℕ) (l : Mat) where
       (λ t. let h : n ≤ i = ltb-false i n t in columns-past blocks l n n 0 y i h ∙ sym (forward-past n 0 y i (omega arith)))
 
 -- as the code has it: fours, then the rest; m is the vector's length after the fours
-pub is-forward : (blocks : ℕ → ℕ) (gs : List Float) (n m s : ℕ) (x y z : Row) → m ≡ n → s ≤ n → y ≡ columns_lost blocks (view n gs) n s 0 x
-    → z ≡ columns_lost blocks (view m gs) m (m - s) s y → z ≡ forward_from blocks (view n gs) n 0 x
-is-forward blocks gs n m s x y z e h p q = all-columns blocks gs n m s x y z e h p q ∙ columns-forward blocks (view n gs) n x
+pub is-forward : (blocks : ℕ → ℕ) (gs : List Float) (n m : ℕ) (x y z : Row) → m ≡ n → y ≡ columns_lost blocks (view n gs) n (4 * (n / 4)) 0 x
+    → z ≡ columns_lost blocks (view m gs) n (n - 4 * (n / 4)) (4 * (n / 4)) y → z ≡ forward_from blocks (view n gs) n 0 x
+is-forward blocks gs n m x y z e p q = all-columns blocks gs n m (4 * (n / 4)) x y z e (omega arith) p q ∙ columns-forward blocks (view n gs) n x

@@ -1,10 +1,9 @@
 -- Laws of columns taken in turn: what each leaves alone, and that columns which first take from the rows beside them and then together from the rows below
 -- leave what they leave one after another. Assumes nothing.
-use Prim.Native.Nat.{ℕ, zero, suc, ◌+◌, ◌-◌, ◌%◌, ◌<◌, ◌≤◌, min}
+use Prim.Native.Nat.{ℕ, zero, suc, ◌+◌, ◌-◌, ◌*◌, ◌<◌, ◌≤◌, min}
 use mathlib.Core.Path.{◌≡◌, refl, sym, ◌∙◌, ap, fun_ext}
 use mathlib.Core.List.{List}
 use native.Mathlib.Omega.{arith}
-use native.Mathlib.Nat.{le_antisymm}
 use borrow.Author.Tests.{lt-ltb, le-leb, leb-true, leb-false, ltb-true, ltb-false}
 use lib.Dec.{ltb, leb}
 use lib.Ieee.{Float}
@@ -134,8 +133,8 @@ column-pre blocks n m s e hi k len w q h =
 pub beside-pre : (blocks : List ℕ) (n k hi len : ℕ) → TogetherPre blocks n k len → hi ≡ min (k + 5) n → ColumnsPre blocks n k (k + 4) hi len
 beside-pre blocks n k hi len w h = record { whole = w.whole; up = omega arith; columns = w.columns; past = omega arith; rows = omega arith }
 
-pub rest-pre : (blocks : List ℕ) (n m s len : ℕ) → ForwardPre blocks n len → m ≡ n → s ≤ n → ColumnsPre blocks m s m m len
-rest-pre blocks n m s len w e h = rw e (record { whole = w; up = h; columns = omega arith; past = omega arith; rows = omega arith })
+pub rest-pre : (blocks : List ℕ) (n s len : ℕ) → ForwardPre blocks n len → s ≤ n → ColumnsPre blocks n s n n len
+rest-pre blocks n s len w h = record { whole = w; up = h; columns = omega arith; past = omega arith; rows = omega arith }
 
 -- ---- the loops and the calls
 
@@ -158,27 +157,19 @@ module _ (blocks : ℕ → ℕ) (gs : List Float) (n : ℕ) where
       let a : k + 4 - k ≡ 4 = omega arith in
       together blocks (view n gs) n k hi y v w h e (rw a at ev) (rw q at ew)
 
-  pub fours-none : (y : Row) → y ≡ columns_lost blocks (view n gs) n 0 0 y
+  pub fours-none : (y : Row) → y ≡ columns_lost blocks (view n gs) n (4 * 0) 0 y
   unfolding columns_lost
   fours-none y = refl
 
-  pub fours-step : (m k : ℕ) (x y z : Row) → m ≡ n → y ≡ columns_lost blocks (view n gs) n k 0 x → z ≡ columns_lost blocks (view m gs) m 4 k y
-      → z ≡ columns_lost blocks (view n gs) n (k + 4) 0 x
-  fours-step m k x y z e p q =
-      let a : 0 + k ≡ k = omega arith in
-      q ∙ rw (e, p) (sym (rw a at (columns-append blocks (view n gs) n 4 k 0 x)))
-
-  -- the end of the whole fours is a multiple of 4 too: there k is, or after four more
-  pub fours-end : (k : ℕ) (x y : Row) → k ≤ n - n % 4 → n - n % 4 ≤ k → y ≡ columns_lost blocks (view n gs) n k 0 x
-      → y ≡ columns_lost blocks (view n gs) n (n - n % 4) 0 x
-  fours-end k x y h g p = p ∙ ap (λ (q : ℕ). columns_lost blocks (view n gs) n q 0 x) (le_antisymm h g)
-
-  pub fours-last : (m k : ℕ) (x y z : Row) → m ≡ n → k % 4 ≡ 0 → k < n - n % 4 → n - n % 4 - k ≤ 4 → y ≡ columns_lost blocks (view n gs) n k 0 x
-      → z ≡ columns_lost blocks (view m gs) m 4 k y → z ≡ columns_lost blocks (view n gs) n (n - n % 4) 0 x
-  fours-last m k x y z e d h g p q = fours-end (k + 4) x z (omega arith) (omega arith) (fours-step m k x y z e p q)
+  pub fours-step : (m f : ℕ) (x y z : Row) → m ≡ n → y ≡ columns_lost blocks (view n gs) n (4 * f) 0 x → z ≡ columns_lost blocks (view m gs) m 4 (4 * f) y
+      → z ≡ columns_lost blocks (view n gs) n (4 * (f + 1)) 0 x
+  fours-step m f x y z e p q =
+      let a : 0 + 4 * f ≡ 4 * f = omega arith in
+      let b : 4 * (f + 1) ≡ 4 * f + 4 = omega arith in
+      q ∙ rw (e, p, b) (sym (rw a at (columns-append blocks (view n gs) n 4 (4 * f) 0 x)))
 
   -- fours, then the rest
-  pub all-columns : (m s : ℕ) (x y z : Row) → m ≡ n → s ≤ n → y ≡ columns_lost blocks (view n gs) n s 0 x → z ≡ columns_lost blocks (view m gs) m (m - s) s y
+  pub all-columns : (m s : ℕ) (x y z : Row) → m ≡ n → s ≤ n → y ≡ columns_lost blocks (view n gs) n s 0 x → z ≡ columns_lost blocks (view m gs) n (n - s) s y
       → z ≡ columns_lost blocks (view n gs) n n 0 x
   all-columns m s x y z e h p q =
       let a : 0 + s ≡ s = omega arith in

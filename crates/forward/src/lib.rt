@@ -6,7 +6,7 @@
 // crate alone.)
 #![tactic(auto)]
 
-ghost use Rattle.std.specs.Prelude.{◌≡◌, ◌-◌, ◌≤◌, length};
+ghost use Rattle.std.specs.Prelude.{◌≡◌, ◌-◌, ◌*◌, ◌≤◌, length};
 ghost use Rattle.model.specs.Matrix.{view, vec, naturals, with_part};
 ghost use Rattle.model.specs.Solve.{forward_from};
 ghost use Rattle.forward.specs.Forward.{less_of, column_lost, columns_lost, four_lost};
@@ -82,18 +82,16 @@ fn lose_together(panel: &[f64], blocks: &[u8], y: &mut [f64], k: usize)
     lose_four(panel, y, k, hi);
 }
 
-// Columns from 0 on by fours. The answer is the first column left.
-fn lose_by_fours(panel: &[f64], blocks: &[u8], y: &mut [f64]) -> usize
-    requires { ForwardPre blocks.now (length y.old) (length panel.now) }
-    ensures y_after { vec y.new ≡ columns_lost (naturals blocks.now)
-        (view (length y.old) panel.now) (length y.old) result 0 (vec y.old) }
-    ensures upper_bound { result ≤ length y.old }
+// The first 4·q columns, by fours.
+fn lose_by_fours(panel: &[f64], blocks: &[u8], y: &mut [f64], q: usize)
+    requires forward_pre { ForwardPre blocks.now (length y.old) (length panel.now) }
+    requires q_in_bounds { 4 * q ≤ length y.old }
+    ensures { vec y.new ≡ columns_lost (naturals blocks.now)
+        (view (length y.old) panel.now) (length y.old) (4 * q) 0 (vec y.old) }
 {
-    let end = y.len() - y.len() % 4;
-    for k in (0..end).step_by(4) {
-        lose_together(panel, blocks, y, k);
+    for f in 0..q {
+        lose_together(panel, blocks, y, 4 * f);
     }
-    end
 }
 
 // in: panel, n·n numbers, column-major, L below the diagonal and outside of the blocks; blocks, n sound block bytes.
@@ -103,7 +101,8 @@ pub fn forward(panel: &[f64], blocks: &[u8], y: &mut [f64])
     ensures { vec y.new ≡ forward_from (naturals blocks.now)
         (view (length y.old) panel.now) (length y.old) 0 (vec y.old) }
 {
-    let s = lose_by_fours(panel, blocks, y);
     let n = y.len();
-    lose_columns(panel, blocks, y, s, n, n);
+    let q = n / 4;
+    lose_by_fours(panel, blocks, y, q);
+    lose_columns(panel, blocks, y, 4 * q, n, n);
 }
