@@ -79,7 +79,8 @@ fn two_back(panel: &[f64], blocks: &[u8], x: &mut [f64], k: usize, hi: usize, v:
     step_back(panel, blocks, x, k, hi, v);
 }
 
-// Positions k + 3 down to k.
+// Positions k + 3 down to k. A function of its own in the machine code too, for the registers, as forward's is.
+#[inline(never)]
 fn back_together(panel: &[f64], blocks: &[u8], x: &mut [f64], k: usize)
     requires { TogetherPre blocks.now (length x.old) k (length panel.now) }
     ensures { vec x.new ≡ steps_back (naturals blocks.now)

@@ -71,7 +71,9 @@ fn lose_columns(panel: &[f64], blocks: &[u8], y: &mut [f64], s: usize, e: usize,
     }
 }
 
-// Columns k to k + 3.
+// Columns k to k + 3. A function of its own in the machine code too, as back's is: within the whole solve its many places
+// would not fit the registers.
+#[inline(never)]
 fn lose_together(panel: &[f64], blocks: &[u8], y: &mut [f64], k: usize)
     requires { TogetherPre blocks.now (length y.old) k (length panel.now) }
     ensures { vec y.new ≡ columns_lost (naturals blocks.now)
