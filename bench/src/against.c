@@ -1,9 +1,9 @@
 /*
  * The factor and solve calls of several builds of the library beside each other in one process. usage: against
- * LIBRARY.., each a shared object. On a node the builds take turns, over and over, at each of several depths of the
- * stack, since where a call's own numbers lie moves its time; the best time at each depth counts. Prints a line for each
- * call and shape: the call's name, the node's columns, rows and panel width, then the mean ticks of the processor's
- * clock of each build.
+ * LIBRARY.., each a shared object; where one has no solve, none is timed. On a node the builds take turns, over and
+ * over, at each of several depths of the stack, since where a call's own numbers lie moves its time; the best time at
+ * each depth counts. Prints a line for each call and shape: the call's name, the node's columns, rows and panel width,
+ * then the mean ticks of the processor's clock of each build.
  */
 #include "misuktaan.h"
 
@@ -133,6 +133,7 @@ static void compare(const char *name, ticks *call, const struct shape *s, const 
 int main(int count, char **names)
 {
     struct build builds[BUILDS];
+    bool solves = true;
     int n = count - 1;
     if (n < 1 || n > BUILDS) {
         fprintf(stderr, "usage: against LIBRARY..\n");
@@ -146,11 +147,12 @@ int main(int count, char **names)
         }
         *(void **)&builds[b].factor = dlsym(library, "misuktaan_factor");
         *(void **)&builds[b].solve = dlsym(library, "misuktaan_solve");
+        solves = solves && builds[b].solve != NULL;
     }
     for (size_t i = 0; i < sizeof FACTORS / sizeof *FACTORS; i++) {
         compare("factor", factor, &FACTORS[i], builds, n);
     }
-    for (size_t i = 0; i < sizeof SOLVES / sizeof *SOLVES; i++) {
+    for (size_t i = 0; solves && i < sizeof SOLVES / sizeof *SOLVES; i++) {
         compare("solve", solve, &SOLVES[i], builds, n);
     }
 }

@@ -102,7 +102,8 @@ fn hand_made() -> Vec<Case> {
     named.filter(|case| !widest(case)).chain(bounds).chain(solve_bounds()).collect()
 }
 
-/// So many small cases, six of ten of them factor calls; more of what is rare among them; some larger ones.
+/// So many small cases, six of ten of them factor calls; more of what is rare among them; some larger ones; a tenth as
+/// many systems.
 fn random_cases(all: &mut Recorded, rng: &mut Rng, count: usize) {
     let few = [("inertia", SMALL), ("assembly", NEIGHBOURS), ("update", NEIGHBOURS), ("update", NEIGHBOURS)];
     for i in 0..count {
@@ -293,7 +294,7 @@ fn update_bounds() -> impl Iterator<Item = Case> {
     all.into_iter().map(Case::Update)
 }
 
-/// Sizes at their bounds and beyond, without lists where they are too large; each list one longer and one shorter.
+/// Shapes that meet refusal 1, with empty lists; each list one longer and one shorter; a row far out of range.
 fn solve_bounds() -> impl Iterator<Item = Case> {
     let sound = |n: usize| Solve {
         ncol: n,

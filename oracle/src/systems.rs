@@ -150,8 +150,11 @@ fn lists() -> Vec<Station> {
     let three = || diagonal(&[1.0; 3], &[1.0; 3]);
     let bytes = |bytes: [u8; 3]| three().with(|s| s.blocks = bytes.to_vec());
     let sides = |b: [f64; 3]| three().with(|s| s.vector = b.to_vec());
+    let byte_and_side = || exchanged([f64::INFINITY, 18.0]).with(|s| s.blocks[0] = 2);
     vec![
         refused("[1,2; 8], 5 18, order 0 0", exchanged([5.0, 18.0]).order(&[0, 0]), 26, 1),
+        refused("[1,2; 8], an infinity, block bytes 2 0, order 0 0", byte_and_side().order(&[0, 0]), 26, 1),
+        refused("[1,2; 8], an infinity, block bytes 2 0", byte_and_side(), 16, 0),
         refused("[1,2; 8], 5 and an infinity", exchanged([5.0, f64::INFINITY]), 27, 1),
         refused("order 0 1 3", three().order(&[0, 1, 3]), 26, 2),
         refused("order 0 0 1", three().order(&[0, 0, 1]), 26, 1),

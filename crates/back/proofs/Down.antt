@@ -30,7 +30,8 @@ four-there n k lo len from w e = (there 0 (omega arith), there 1 (omega arith), 
 -- ---- any sum that goes down
 
 -- in two parts: the later rows first
-pub later-append : (there : ℕ → Bool) (f : Row) (a b j : ℕ) (v : Float) → less_later there f (a + b) j v ≡ less_later there f a j (less_later there f b (j + a) v)
+pub later-append : (there : ℕ → Bool) (f : Row) (a b j : ℕ) (v : Float)
+    → less_later there f (a + b) j v ≡ less_later there f a j (less_later there f b (j + a) v)
 unfolding less_later
 later-append there f zero b j v =
     let e : zero + b ≡ b = omega arith in
@@ -47,7 +48,8 @@ pub later_same : (there here : ℕ → Bool) (f g : Row) (m j : ℕ) (v : Float)
 unfolding less_later
 later_same there here f g zero j v h = refl
 later_same there here f g (suc m) j v h =
-    rw ((h j (omega arith) (omega arith)).0, (h j (omega arith) (omega arith)).1, later_same there here f g m (j + 1) v (λ i o p. h i (omega arith) (omega arith)))
+    let first = h j (omega arith) (omega arith) in
+    rw (first.0, first.1, later_same there here f g m (j + 1) v (λ i o p. h i (omega arith) (omega arith)))
 
 -- rows with no entry take nothing
 later-none : (there : ℕ → Bool) (f : Row) (m j : ℕ) (v : Float) → ((i : ℕ) → j ≤ i → i < j + m → there i ≡ false) → less_later there f m j v ≡ v
@@ -62,7 +64,8 @@ module _ (blocks : ℕ → ℕ) (gs xs : List Float) (n k : ℕ) where
   unfolding fallen less_later
   down-none hi v = let e : hi - hi ≡ 0 = omega arith in rw e
 
-  pub down_step : (hi i p s : ℕ) (v w : Float) → s ≡ column_start n k → p ≡ past_of blocks k → hi ≤ n → i ≤ hi → p < i → w ≡ fallen blocks (view n gs) (vec xs) k (hi - i) i v
+  pub down_step : (hi i p s : ℕ) (v w : Float) → s ≡ column_start n k → p ≡ past_of blocks k → hi ≤ n → i ≤ hi → p < i
+      → w ≡ fallen blocks (view n gs) (vec xs) k (hi - i) i v
       → w ⊖ get_or gs (i - 1 + s) nan ⊗ get_or xs (i - 1) nan ≡ fallen blocks (view n gs) (vec xs) k (hi - (i - 1)) (i - 1) v
   unfolding fallen less_later vec
   down_step hi i p s v w es ep hn h g e =
@@ -71,7 +74,8 @@ module _ (blocks : ℕ → ℕ) (gs xs : List Float) (n k : ℕ) where
       rw (a, b, le-leb (past_of blocks k) (i - 1) (omega arith), es, view-at n gs (i - 1) k (omega arith), e)
 
   -- down to the pivot's end nothing is left to take
-  pub down-end : (hi i p : ℕ) (v w : Float) → p ≡ past_of blocks k → past_of blocks k ≤ hi → i ≤ p → p ≤ i → w ≡ fallen blocks (view n gs) (vec xs) k (hi - i) i v
+  pub down-end : (hi i p : ℕ) (v w : Float) → p ≡ past_of blocks k → past_of blocks k ≤ hi → i ≤ p → p ≤ i
+      → w ≡ fallen blocks (view n gs) (vec xs) k (hi - i) i v
       → w ≡ fallen blocks (view n gs) (vec xs) k (hi - (k + 1)) (k + 1) v
   unfolding fallen
   down-end hi i p v w ep q h g e =
@@ -97,5 +101,6 @@ module _ (gs xs : List Float) (n k : ℕ) where
       let c : s + (i - 1) ≡ i - 1 + k * n = omega arith in
       rw (a, b, c, view-at n gs (i - 1) k (omega arith), e)
 
-  pub whole-end : (lo i : ℕ) (w : Float) → lo ≤ i → i ≤ lo → w ≡ fallen_whole (view n gs) (vec xs) k (n - i) i → w ≡ fallen_whole (view n gs) (vec xs) k (n - lo) lo
+  pub whole-end : (lo i : ℕ) (w : Float) → lo ≤ i → i ≤ lo → w ≡ fallen_whole (view n gs) (vec xs) k (n - i) i
+      → w ≡ fallen_whole (view n gs) (vec xs) k (n - lo) lo
   whole-end lo i w h g e = e ∙ ap (λ (r : ℕ). fallen_whole (view n gs) (vec xs) k (n - r) r) (le_antisymm g h)

@@ -12,10 +12,9 @@ use Rattle.model.specs.Matrix.{Row, Mat, view, vec, put}
 use Rattle.model.specs.Step.{past_of}
 use Rattle.model.specs.Solve.{back_at, back_from}
 use Rattle.model.proofs.Past.{past_near}
-use Rattle.kernels.proofs.Laws.{vec-set}
+use Rattle.kernels.proofs.Laws.{vec-set, put-other}
 use Rattle.forward.specs.Forward.{ForwardPre, ColumnPre, TogetherPre}
 use Rattle.forward.proofs.Together.{column-pre, beside-pre, rest-pre}
-use Rattle.forward.proofs.Positions.{put_other}
 use Rattle.back.specs.Back.{fallen, fallen_whole, step_back, two_back, steps_back, TwoPre}
 use Rattle.back.proofs.Down.{later-append, later_same}
 
@@ -67,14 +66,15 @@ module _ (blocks : ℕ → ℕ) (l : Mat) where
       let none : k ≡ k + 0 = omega arith in
       let fourth : step_back blocks l hi (k + 3) s3 x ≡ A
       = one-step n hi (k + 3) s3 x x (omega arith) (omega arith) (past (k + 3) (omega arith)) e3 (λ i o. refl) refl in
-      let in_a : (i : ℕ) → (i ≡ k + 3 → ⊥) → A i ≡ x i = λ i q. put_other x (k + 3) i _ q in
+      let in_a : (i : ℕ) → (i ≡ k + 3 → ⊥) → A i ≡ x i = λ i q. put-other x (k + 3) i _ q in
       let third : step_back blocks l hi (k + 2) s2 A ≡ B
-      = one-step n hi (k + 2) s2 x A (omega arith) (omega arith) (past (k + 2) (omega arith)) e2 (λ i o. in_a i (λ q. omega arith)) (in_a (k + 2) (λ q. omega arith)) in
-      let in_b : (i : ℕ) → (i ≡ k + 3 → ⊥) → (i ≡ k + 2 → ⊥) → B i ≡ x i = λ i q r. put_other A (k + 2) i _ r ∙ in_a i q in
+      = one-step n hi (k + 2) s2 x A (omega arith) (omega arith) (past (k + 2) (omega arith)) e2 (λ i o. in_a i (λ q. omega arith))
+      (in_a (k + 2) (λ q. omega arith)) in
+      let in_b : (i : ℕ) → (i ≡ k + 3 → ⊥) → (i ≡ k + 2 → ⊥) → B i ≡ x i = λ i q r. put-other A (k + 2) i _ r ∙ in_a i q in
       let second : step_back blocks l hi (k + 1) s1 B ≡ C
       = one-step n hi (k + 1) s1 x B (omega arith) (omega arith) (past (k + 1) (omega arith)) e1 (λ i o. in_b i (λ q. omega arith) (λ q. omega arith))
       (in_b (k + 1) (λ q. omega arith) (λ q. omega arith)) in
-      let in_c : (i : ℕ) → (i ≡ k + 3 → ⊥) → (i ≡ k + 2 → ⊥) → (i ≡ k + 1 → ⊥) → C i ≡ x i = λ i q r t. put_other B (k + 1) i _ t ∙ in_b i q r in
+      let in_c : (i : ℕ) → (i ≡ k + 3 → ⊥) → (i ≡ k + 2 → ⊥) → (i ≡ k + 1 → ⊥) → C i ≡ x i = λ i q r t. put-other B (k + 1) i _ t ∙ in_b i q r in
       let first : step_back blocks l hi k s0 C ≡ put C k (back_at blocks l n C k)
       = one-step n hi k s0 x C (omega arith) (omega arith) (past k (omega arith)) e0 (λ i o. in_c i (λ q. omega arith) (λ q. omega arith) (λ q. omega arith))
       (in_c k (λ q. omega arith) (λ q. omega arith) (λ q. omega arith)) in

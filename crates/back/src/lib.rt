@@ -2,8 +2,6 @@
 // last one down. That is a sum down a column, which keeps its order; so that the machine need not wait for each term,
 // the sums of four columns go down together as far as none of the four is needed, and only the small triangle between
 // the four is left to one after another. A reader may rely on the contract of `back`.
-// (Panel, block bytes and vector are lent each by itself: a struct of two shared lists and a lent one would serve this
-// crate alone.)
 #![tactic(auto)]
 
 ghost use Rattle.std.specs.Prelude.{◌≡◌, ◌+◌, ◌-◌, ◌*◌, ◌≤◌, length};
@@ -79,7 +77,8 @@ fn two_back(panel: &[f64], blocks: &[u8], x: &mut [f64], k: usize, hi: usize, v:
     step_back(panel, blocks, x, k, hi, v);
 }
 
-// Positions k + 3 down to k. A function of its own in the machine code too, for the registers, as forward's is.
+// Positions k + 3 down to k. (Not inlined: in one function with the rest of a solve the compiler keeps these loops'
+// variables on the stack.)
 #[inline(never)]
 fn back_together(panel: &[f64], blocks: &[u8], x: &mut [f64], k: usize)
     requires { TogetherPre blocks.now (length x.old) k (length panel.now) }

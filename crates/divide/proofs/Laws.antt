@@ -39,7 +39,8 @@ unfolding vec
 one-put ys k d r h e = vec-set ys k _ h ∙ rw e
 
 pub two-put : (ys : List Float) (k : ℕ) (b : Block) (r : Float) → k + 1 < length ys → r ≡ reciprocal_of b.det
-    → vec (set (set ys k ((b.d22 ⊗ get_or ys k nan ⊖ b.d21 ⊗ get_or ys (k + 1) nan) ⊗ r)) (k + 1) ((b.d11 ⊗ get_or ys (k + 1) nan ⊖ b.d21 ⊗ get_or ys k nan) ⊗ r))
+    → vec (set (set ys k ((b.d22 ⊗ get_or ys k nan ⊖ b.d21 ⊗ get_or ys (k + 1) nan) ⊗ r)) (k + 1)
+    ((b.d11 ⊗ get_or ys (k + 1) nan ⊖ b.d21 ⊗ get_or ys k nan) ⊗ r))
     ≡ put (put (vec ys) k (first_multiplier b (vec ys k) (vec ys (k + 1)))) (k + 1) (second_multiplier b (vec ys k) (vec ys (k + 1)))
 unfolding vec
 two-put ys k b r h e =
@@ -82,7 +83,8 @@ divided-pivot D n k f y w h s e =
     = ne_eqb (D.blocks (k + 1)) 1 (λ q. omega (arith, w.apart k h (eqb-true (D.blocks k) 1 t))) in
     rw (t, own, next) (ap (λ (g : Row). put (put g k (first_multiplier (block_at D.d D.sub k) (f k) (f (k + 1)))) (k + 1)
     (second_multiplier (block_at D.d D.sub k) (f k) (f (k + 1)))) e
-    ∙ rw (← divided-first D f k t, ← divided-second D f k t none) (ap (λ (g : Row). put g (k + 1) (divided D f (k + 1))) (with_part-more f 0 k (divided D f) (omega arith))
+    ∙ rw (← divided-first D f k t, ← divided-second D f k t none)
+    (ap (λ (g : Row). put g (k + 1) (divided D f (k + 1))) (with_part-more f 0 k (divided D f) (omega arith))
     ∙ with_part-more f 0 (k + 1) (divided D f) (omega arith) ∙ ap (λ (j : ℕ). with_part f 0 j (divided D f)) two)))
     (λ t. rw (t, own) (ap (λ (g : Row). put g k (f k ⊗ reciprocal_of (D.d k))) e
     ∙ rw (← divided-single D f k s t) (with_part-more f 0 k (divided D f) (omega arith))))

@@ -4,7 +4,7 @@ use mathlib.Core.Path.{◌≡◌, refl, sym, ◌∙◌, ap, fun_ext}
 use mathlib.Core.Bool.{Bool, false}
 use mathlib.Core.List.{List}
 use native.Mathlib.Omega.{arith}
-use borrow.Author.Tests.{eq-eqb, ne_eqb, lt-leb, leb-true, leb-false, eqb-true, eqb-false, ltb-true, ltb-false}
+use borrow.Author.Tests.{ne_eqb, lt-leb, leb-true, leb-false, eqb-true, eqb-false, ltb-true, ltb-false}
 use lib.Dec.{ltb, leb, eqb}
 use lib.Ieee.{Float}
 use Rattle.model.specs.Scalar.{◌⊗◌}
@@ -14,22 +14,16 @@ use Rattle.model.specs.Solve.{has_entry, less_earlier, forward_at, forward_from}
 use Rattle.model.proofs.Cases.{test}
 use Rattle.model.proofs.Past.{past-above}
 use Rattle.model.proofs.Terms.{earlier-there}
+use Rattle.kernels.proofs.Laws.{put-here, put-other}
 use Rattle.forward.specs.Forward.{columns_lost}
 use Rattle.forward.proofs.Together.{lost-in, lost-before, columns-past, all-columns}
 
 -- positions with no entry take nothing
-earlier-none : (there : ℕ → Bool) (f : Row) (i d : ℕ) (v : Float) → ((j : ℕ) → i ≤ j → there j ≡ false) → less_earlier there f (i + d) v ≡ less_earlier there f i v
+earlier-none : (there : ℕ → Bool) (f : Row) (i d : ℕ) (v : Float) → ((j : ℕ) → i ≤ j → there j ≡ false)
+    → less_earlier there f (i + d) v ≡ less_earlier there f i v
 unfolding less_earlier
 earlier-none there f i zero v h = let e : i + zero ≡ i = omega arith in rw e
 earlier-none there f i (suc d) v h = let e : i + suc d ≡ suc (i + d) = omega arith in rw (e, h (i + d) (omega arith)) (earlier-none there f i d v h)
-
-put-here : (y : Row) (k : ℕ) (v : Float) → put y k v k ≡ v
-unfolding put
-put-here y k v = rw (eq-eqb k k refl)
-
-pub put_other : (y : Row) (k i : ℕ) (v : Float) → (i ≡ k → ⊥) → put y k v i ≡ y i
-unfolding put
-put_other y k i v h = rw (ne_eqb i k h)
 
 module _ (blocks : ℕ → ℕ) (l : Mat) where
   -- positions before k and past the last stay
@@ -53,9 +47,11 @@ module _ (blocks : ℕ → ℕ) (l : Mat) where
       test (eqb i k)
       (λ t. let e : i ≡ k = eqb-true i k t in
       rw e (forward-before m (k + 1) next k (omega arith) ∙ put-here y k _
-      ∙ earlier-there _ _ _ k (y k) (λ j o t. ap (λ (x : Float). l k j ⊗ x) (sym (forward-before m (k + 1) next j (omega arith) ∙ put_other y k j _ (λ e. omega arith))))))
+      ∙ earlier-there _ _ _ k (y k) (λ j o t. ap (λ (x : Float). l k j ⊗ x)
+      (sym (forward-before m (k + 1) next j (omega arith) ∙ put-other y k j _ (λ e. omega arith))))))
       (λ t. forward-own m (k + 1) next i (omega (arith, eqb-false i k t)) (omega arith)
-      ∙ ap (λ (x : Float). less_earlier (λ j. has_entry blocks i j) (λ j. l i j ⊗ forward_from blocks l m (k + 1) next j) i x) (put_other y k i _ (eqb-false i k t)))
+      ∙ ap (λ (x : Float). less_earlier (λ j. has_entry blocks i j) (λ j. l i j ⊗ forward_from blocks l m (k + 1) next j) i x)
+      (put-other y k i _ (eqb-false i k t)))
 
   -- after k columns a row has lost its terms of the first k positions
   columns-are : (n k : ℕ) (y : Row) (i : ℕ) → i < n → k ≤ n

@@ -13,14 +13,9 @@ use Rattle.model.specs.Step.{past_of}
 use Rattle.model.proofs.Cases.{test}
 use Rattle.model.proofs.Past.{past-above, past_near, past-within}
 use Rattle.kernels.specs.Rules.{less_all}
-use Rattle.kernels.proofs.Laws.{with_part-before, with_part-past}
+use Rattle.kernels.proofs.Laws.{with_part-before, with_part-in, with_part-past}
 use Rattle.kernels.proofs.Rules.{all_same}
 use Rattle.forward.specs.Forward.{column_lost, columns_lost, four_lost, ForwardPre, ColumnPre, ColumnsPre, TogetherPre}
-
--- a place that is written
-pub part_in : (f N : Row) (lo hi i : ℕ) → lo ≤ i → i < hi → with_part f lo hi N i ≡ N i
-unfolding with_part
-part_in f N lo hi i h g = rw (le-leb lo i h, lt-ltb i hi g)
 
 module _ (blocks : ℕ → ℕ) (l : Mat) where
   -- ---- one column: rows past its pivot and before the limit, rows before, rows from the limit on
@@ -96,7 +91,7 @@ module _ (blocks : ℕ → ℕ) (l : Mat) where
       (λ t. let o : i < hi = ltb-true i hi t in with_part-before T hi n _ i o ∙ columns-near hi n c k y i g h o)
       (λ t. let o : hi ≤ i = ltb-false i hi t in
       test (ltb i n)
-      (λ s. let p : i < n = ltb-true i n s in part_in T _ hi n i o p
+      (λ s. let p : i < n = ltb-true i n s in with_part-in T hi n _ i o p
       ∙ all_same c _ _ _ _ _ (columns-past hi c k y i o) (λ u q. refl)
       ∙ sym (columns-below n c k y (λ u. T (k + u)) i p (below i o p) (λ u q. own u q)))
       (λ s. let p : n ≤ i = ltb-false i n s in
@@ -143,19 +138,20 @@ module _ (blocks : ℕ → ℕ) (gs : List Float) (n : ℕ) where
   unfolding columns_lost
   columns-none hi s y = let e : s - s ≡ 0 = omega arith in rw e
 
-  pub columns-step : (m hi s k : ℕ) (x y z : Row) → m ≡ n → s ≤ k → y ≡ columns_lost blocks (view n gs) hi (k - s) s x → z ≡ column_lost blocks (view m gs) hi k y
-      → z ≡ columns_lost blocks (view n gs) hi (k + 1 - s) s x
+  pub columns-step : (m hi s k : ℕ) (x y z : Row) → m ≡ n → s ≤ k → y ≡ columns_lost blocks (view n gs) hi (k - s) s x
+      → z ≡ column_lost blocks (view m gs) hi k y → z ≡ columns_lost blocks (view n gs) hi (k + 1 - s) s x
   unfolding columns_lost
   columns-step m hi s k x y z e h p q =
       let a : k + 1 - s ≡ suc (k - s) = omega arith in
       let b : s + (k - s) ≡ k = omega arith in
       rw (a, b) (q ∙ rw (e, p))
 
-  pub four-columns : (m k hi : ℕ) (y v w : Row) → k + 4 ≤ n → hi ≡ min (k + 5) n → m ≡ n → v ≡ columns_lost blocks (view n gs) hi (k + 4 - k) k y
+  pub four-beside : (m hi k : ℕ) (y z : Row) → m ≡ n → z ≡ columns_lost blocks (view m gs) hi (k + 4 - k) k y → z ≡ columns_lost blocks (view n gs) hi 4 k y
+  four-beside m hi k y z e q = let a : k + 4 - k ≡ 4 = omega arith in rw (a, e) at q
+
+  pub four-columns : (m k hi : ℕ) (y v w : Row) → k + 4 ≤ n → hi ≡ min (k + 5) n → m ≡ n → v ≡ columns_lost blocks (view n gs) hi 4 k y
       → w ≡ four_lost (view m gs) hi m k v → w ≡ columns_lost blocks (view n gs) n 4 k y
-  four-columns m k hi y v w h e q ev ew =
-      let a : k + 4 - k ≡ 4 = omega arith in
-      together blocks (view n gs) n k hi y v w h e (rw a at ev) (rw q at ew)
+  four-columns m k hi y v w h e q ev ew = together blocks (view n gs) n k hi y v w h e ev (rw q at ew)
 
   pub fours-none : (y : Row) → y ≡ columns_lost blocks (view n gs) n (4 * 0) 0 y
   unfolding columns_lost

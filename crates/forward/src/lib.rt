@@ -3,10 +3,10 @@
 // from the rows among and right below them, then what the four of them take from all further rows in one pass. Each
 // number still loses its terms one by one, by rising position. A reader may rely on the contract of `forward`.
 // (Panel, block bytes and vector are lent each by itself: a struct of two shared lists and a lent one would serve this
-// crate alone.)
+// crate and back alone.)
 #![tactic(auto)]
 
-ghost use Rattle.std.specs.Prelude.{◌≡◌, ◌-◌, ◌*◌, ◌≤◌, length};
+ghost use Rattle.std.specs.Prelude.{◌≡◌, ◌+◌, ◌-◌, ◌*◌, ◌≤◌, length};
 ghost use Rattle.model.specs.Matrix.{view, vec, naturals, with_part};
 ghost use Rattle.model.specs.Solve.{forward_from};
 ghost use Rattle.forward.specs.Forward.{less_of, column_lost, columns_lost, four_lost};
@@ -18,8 +18,8 @@ use model::Elim;
 // ---- the kernel
 
 // Of the first n numbers of x, number i loses, for u = 0, 1 .. N − 1 in turn, number i of the run of g that begins at
-// at[u], times m[u]. (Counted, like the loops of crates/kernels, and apart from its less_ahead, whose runs stand in the
-// slice that is written.)
+// at[u], times m[u]. (By places, as the loops of crates/kernels. Not their less_ahead, which reads its runs from the
+// slice that it writes.)
 fn less<const N: usize>(x: &mut [f64], g: &[f64], at: [usize; N], n: usize, m: [f64; N])
     requires { LessPre N n (naturals at) (length x.old) (length g.now) }
     ensures { vec x.new ≡ with_part (vec x.old) 0 n
@@ -71,16 +71,25 @@ fn lose_columns(panel: &[f64], blocks: &[u8], y: &mut [f64], s: usize, e: usize,
     }
 }
 
-// Columns k to k + 3. A function of its own in the machine code too, as back's is: within the whole solve its many places
-// would not fit the registers.
+// Columns k to k + 3, one by one, take from rows before hi, which are few. (Not inlined: in one function with the rest
+// of a solve the compiler keeps these loops' variables on the stack.)
 #[inline(never)]
+fn lose_beside(panel: &[f64], blocks: &[u8], y: &mut [f64], k: usize, hi: usize)
+    requires { ColumnsPre blocks.now (length y.old) k (k + 4) hi (length panel.now) }
+    ensures { vec y.new ≡ columns_lost (naturals blocks.now)
+        (view (length y.old) panel.now) hi 4 k (vec y.old) }
+{
+    lose_columns(panel, blocks, y, k, k + 4, hi);
+}
+
+// Columns k to k + 3.
 fn lose_together(panel: &[f64], blocks: &[u8], y: &mut [f64], k: usize)
     requires { TogetherPre blocks.now (length y.old) k (length panel.now) }
     ensures { vec y.new ≡ columns_lost (naturals blocks.now)
         (view (length y.old) panel.now) (length y.old) 4 k (vec y.old) }
 {
     let hi = diagonal::past_four(k, y.len());
-    lose_columns(panel, blocks, y, k, k + 4, hi);
+    lose_beside(panel, blocks, y, k, hi);
     lose_four(panel, y, k, hi);
 }
 

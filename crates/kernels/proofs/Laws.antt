@@ -1,10 +1,10 @@
 -- Laws of a list seen as a row of places, and of parts of it. Assumes nothing.
 use Prim.Native.Nat.{ℕ, ◌+◌, ◌-◌, ◌<◌, ◌≤◌}
-use mathlib.Core.Path.{◌≡◌, ◌∙◌, ap, fun_ext}
+use mathlib.Core.Path.{◌≡◌, refl, ◌∙◌, ap, fun_ext}
 use mathlib.Core.Bool.{cond}
 use mathlib.Core.List.{List, ◌++◌}
 use native.Mathlib.Omega.{arith}
-use borrow.Author.Tests.{lt-ltb, le-ltb, le-leb, lt-leb, eqb-true, eqb-false, ltb-true, ltb-false}
+use borrow.Author.Tests.{lt-ltb, le-ltb, le-leb, lt-leb, eqb-true, eqb-false, eq-eqb, ne_eqb, ltb-true, ltb-false}
 use lib.Dec.{ltb, leb, eqb}
 use lib.ListN.{length, get_or, set, take, drop, get_or-append}
 use lib.Seq.{get_or-set_same, get_or-set_other, get_or-take, get_or-drop, get_or-append-add, length-take-le}
@@ -22,6 +22,15 @@ vec-set xs i v h =
     (λ p. rw (p, eqb-true a i p) (get_or-set_same xs i v nan h))
     (λ p. rw p (get_or-set_other xs i a v nan (eqb-false a i p)))
 
+-- the place that is put, and any other
+pub put-here : (f : ℕ → Float) (k : ℕ) (v : Float) → put f k v k ≡ v
+unfolding put
+put-here f k v = rw (eq-eqb k k refl)
+
+pub put-other : (f : ℕ → Float) (k i : ℕ) (v : Float) → (i ≡ k → ⊥) → put f k v i ≡ f i
+unfolding put
+put-other f k i v h = rw (ne_eqb i k h)
+
 pub with_part-none : (f : ℕ → Float) (lo : ℕ) (N : ℕ → Float) → with_part f lo lo N ≡ f
 unfolding with_part
 with_part-none f lo N =
@@ -34,6 +43,10 @@ with_part-past f lo hi N a h = test (leb lo a) (λ r. rw (r, le-ltb a hi h)) (λ
 pub with_part-before : (f : ℕ → Float) (lo hi : ℕ) (N : ℕ → Float) (a : ℕ) → a < lo → with_part f lo hi N a ≡ f a
 unfolding with_part
 with_part-before f lo hi N a h = rw (lt-leb lo a h)
+
+pub with_part-in : (f : ℕ → Float) (lo hi : ℕ) (N : ℕ → Float) (a : ℕ) → lo ≤ a → a < hi → with_part f lo hi N a ≡ N a
+unfolding with_part
+with_part-in f lo hi N a h g = rw (le-leb lo a h, lt-ltb a hi g)
 
 pub with_part-more : (f : ℕ → Float) (lo hi : ℕ) (N : ℕ → Float) → lo ≤ hi → put (with_part f lo hi N) hi (N hi) ≡ with_part f lo (hi + 1) N
 unfolding with_part put

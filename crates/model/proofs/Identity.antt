@@ -1,11 +1,11 @@
 -- With L the identity, solve is the division by D in the recorded order, but for the signs of zeros. Assumes nothing.
 use mathlib.Core.Path.{◌≡◌, refl, sym, ◌∙◌, ap, subst}
 use mathlib.Core.Logic.{inl}
-use mathlib.Core.Bool.{Bool, true, true≢false, not}
+use mathlib.Core.Bool.{Bool, true}
 use Prim.Native.Nat.{ℕ, zero, suc, ◌+◌, ◌-◌, ◌≤◌, ◌<◌}
 use native.Mathlib.Omega.{arith}
-use borrow.Author.Tests.{not-true, eqb-true, eqb-false, eq-eqb, ne_eqb, ltb-true}
-use lib.Dec.{T, ltb, eqb}
+use borrow.Author.Tests.{eqb-true}
+use lib.Dec.{T, eqb}
 use lib.Ieee.{Float, nan, binary64, eq, fits}
 use lib.Ieee.Fits.{sub-fits, mul-fits}
 use Rattle.std.specs.Prelude.{Ok}
@@ -13,26 +13,27 @@ use Rattle.model.specs.Scalar.{◌⊖◌, ◌⊗◌, is_finite, reciprocal_of}
 use Rattle.model.specs.Matrix.{Row, Mat, view, vec, naturals, put, tabulate}
 use Rattle.model.specs.Step.{Diagonals, diagonals_of, begins, ends_block, block_at}
 use Rattle.model.specs.Answer.{Check}
-use Rattle.model.specs.Solve.{named, order_sound, order_at, check_order, right_side_at, check_right_side, solve_check, solved_after}
+use Rattle.model.specs.Solve.{order_sound, order_at, check_order, right_side_at, check_right_side, solve_check, solved_after}
 use Rattle.model.specs.Solve.{has_entry, less_earlier, less_later}
-use Rattle.model.specs.Solve.{forward_at, forward_from, divided, back_at, back_from, substituted, ordered, returned_from, solution_of, solve_of}
+use Rattle.model.specs.Solve.{forward_at, forward_from, divided, back_at, back_from, substituted, ordered, solution_of, solve_of}
 use Rattle.model.specs.Solution.{IdentityDivides}
-use Rattle.model.proofs.Cases.{test, yes, and_left, and_right}
+use Rattle.model.proofs.Cases.{test}
 use Rattle.model.proofs.Every.{first-all}
+use Rattle.model.proofs.Order.{sound-inside, sound-apart, returned-at}
 use Rattle.model.proofs.Entry.{first-sound, second-sound}
 use Rattle.model.proofs.Tabulated.{get_d_tabulate}
 use Rattle.model.proofs.Zeros.{Zero, zero-is, zero-times, less-zero, finite-factors, finite-terms}
-use Rattle.model.proofs.Zeros.{Alike, alike-on, alike-finite, alike-equal, times-alike, alike-times, less-alike}
+use Rattle.model.proofs.Zeros.{SameButSign, same-on, same-finite, same-equal, times-same, same-times, less-same}
 
 -- w is a number of the format, and v but for the sign of a zero
 record Near (v w : Float) : Type 0 where
-  alike : Alike v w
+  same : SameButSign v w
   held : T (fits binary64 w)
 
 -- ---- a number less terms that are zeros
 
-near_less : (v w x : Float) → Near v w → Zero x → Near v (w ⊖ x)
-near_less v w x n z = record { alike = alike-on v w (w ⊖ x) n.alike (less-zero w x n.held z); held = sub-fits binary64 w x }
+near-less : (v w x : Float) → Near v w → Zero x → Near v (w ⊖ x)
+near-less v w x n z = record { same = same-on v w (w ⊖ x) n.same (less-zero w x n.held z); held = sub-fits binary64 w x }
 
 near-earlier : (there : ℕ → Bool) (term : Row) (m : ℕ) (v w : Float) → Near v w → ((j : ℕ) → j < m → there j ≡ true → Zero (term j))
     → Near v (less_earlier there term m w)
@@ -40,7 +41,7 @@ unfolding less_earlier
 near-earlier there term zero v w n z = n
 near-earlier there term (suc m) v w n z =
     let before : Near v (less_earlier there term m w) = near-earlier there term m v w n (λ j o t. z j (omega arith) t) in
-    test (there m) (λ t. rw t (near_less v _ (term m) before (z m (omega arith) t))) (λ t. rw t before)
+    test (there m) (λ t. rw t (near-less v _ (term m) before (z m (omega arith) t))) (λ t. rw t before)
 
 near-later : (there : ℕ → Bool) (term : Row) (m j : ℕ) (v w : Float) → Near v w → ((i : ℕ) → j ≤ i → i < j + m → there i ≡ true → Zero (term i))
     → Near v (less_later there term m j w)
@@ -48,20 +49,21 @@ unfolding less_later
 near-later there term zero j v w n z = n
 near-later there term (suc m) j v w n z =
     let after : Near v (less_later there term m (j + 1) w) = near-later there term m (j + 1) v w n (λ i o p t. z i (omega arith) (omega arith) t) in
-    test (there j) (λ t. rw t (near_less v _ (term j) after (z j (omega arith) (omega arith) t))) (λ t. rw t after)
+    test (there j) (λ t. rw t (near-less v _ (term j) after (z j (omega arith) (omega arith) t))) (λ t. rw t after)
 
 -- ---- divided
 
 -- a block's formula at two positions, where the one's quotient is finite
-formula-near : (a b r x y v w : Float) → Alike x y → Alike v w → is_finite ((a ⊗ x ⊖ b ⊗ v) ⊗ r) ≡ true
+formula-near : (a b r x y v w : Float) → SameButSign x y → SameButSign v w → is_finite ((a ⊗ x ⊖ b ⊗ v) ⊗ r) ≡ true
     → Near ((a ⊗ x ⊖ b ⊗ v) ⊗ r) ((a ⊗ y ⊖ b ⊗ w) ⊗ r)
 formula-near a b r x y v w p q h =
     let terms = finite-terms (a ⊗ x) (b ⊗ v) (finite-factors (a ⊗ x ⊖ b ⊗ v) r h).0 in
-    let less : Alike (a ⊗ x ⊖ b ⊗ v) (a ⊗ y ⊖ b ⊗ w)
-    = less-alike (a ⊗ x) (a ⊗ y) (b ⊗ v) (b ⊗ w) (mul-fits binary64 a x) (mul-fits binary64 a y) (alike-times a x y p terms.0) (alike-times b v w q terms.1) in
-    record { alike = times-alike (a ⊗ x ⊖ b ⊗ v) (a ⊗ y ⊖ b ⊗ w) r less h; held = mul-fits binary64 (a ⊗ y ⊖ b ⊗ w) r }
+    let less : SameButSign (a ⊗ x ⊖ b ⊗ v) (a ⊗ y ⊖ b ⊗ w)
+    = less-same (a ⊗ x) (a ⊗ y) (b ⊗ v) (b ⊗ w) (mul-fits binary64 a x) (mul-fits binary64 a y) (same-times a x y p terms.0) (same-times b v w q terms.1) in
+    record { same = times-same (a ⊗ x ⊖ b ⊗ v) (a ⊗ y ⊖ b ⊗ w) r less h; held = mul-fits binary64 (a ⊗ y ⊖ b ⊗ w) r }
 
-divided-near : (D : Diagonals) (y z : Row) → ((i : ℕ) → Alike (y i) (z i)) → (k : ℕ) → is_finite (divided D y k) ≡ true → Near (divided D y k) (divided D z k)
+divided-near : (D : Diagonals) (y z : Row) → ((i : ℕ) → SameButSign (y i) (z i)) → (k : ℕ) → is_finite (divided D y k) ≡ true
+    → Near (divided D y k) (divided D z k)
 unfolding divided
 divided-near D y z a k h =
     test (begins D.blocks k)
@@ -71,22 +73,25 @@ divided-near D y z a k h =
     (λ u. let b = block_at D.d D.sub (k - 1) in
     rw (t, u) (formula-near b.d11 b.d21 (reciprocal_of b.det) (y k) (z k) (y (k - 1)) (z (k - 1)) (a k) (a (k - 1)) (rw (t, u) at h)))
     (λ u. let r = reciprocal_of (D.d k) in
-    rw (t, u) (record { alike = times-alike (y k) (z k) r (a k) (rw (t, u) at h); held = mul-fits binary64 (z k) r })))
+    rw (t, u) (record { same = times-same (y k) (z k) r (a k) (rw (t, u) at h); held = mul-fits binary64 (z k) r })))
 
 -- ---- the steps, where the entries of L are zeros
 
 module _ (n : ℕ) (D : Diagonals) (l : Mat) (zeros : (i j : ℕ) → i < n → has_entry D.blocks i j ≡ true → Zero (l i j)) where
-  -- forward: every number stays near that of the right side y
+  -- forward: every number stays what the right side y has, but for the sign of a zero
   module _ (y : Row) (right : (k : ℕ) → k < n → is_finite (y k) ≡ true) where
-    forward-near : (c k : ℕ) (z : Row) → k + c ≤ n → ((i : ℕ) → Near (y i) (z i)) → (i : ℕ) → Near (y i) (forward_from D.blocks l c k z i)
+    forward-same : (c k : ℕ) (z : Row) → k + c ≤ n → ((i : ℕ) → SameButSign (y i) (z i)) → ((i : ℕ) → i < n → T (fits binary64 (z i)))
+        → (i : ℕ) → SameButSign (y i) (forward_from D.blocks l c k z i)
     unfolding forward_from put
-    forward-near zero k z o w i = w i
-    forward-near (suc c) k z o w i =
+    forward-same zero k z o w g i = w i
+    forward-same (suc c) k z o w g i =
         let term : (j : ℕ) → j < k → has_entry D.blocks k j ≡ true → Zero (l k j ⊗ z j)
-        = λ j p t. zero-times (l k j) (z j) (zeros k j (omega arith) t) (alike-finite (y j) (z j) (w j).alike (right j (omega arith))) in
-        let here : Near (y k) (forward_at D.blocks l z k) = near-earlier _ _ k (y k) (z k) (w k) term in
-        forward-near c (k + 1) (put z k (forward_at D.blocks l z k)) (omega arith)
-        (λ m. test (eqb m k) (λ t. rw (t, eqb-true m k t) here) (λ t. rw t (w m))) i
+        = λ j p t. zero-times (l k j) (z j) (zeros k j (omega arith) t) (same-finite (y j) (z j) (w j) (right j (omega arith))) in
+        let at : Near (y k) (z k) = record { same = w k; held = g k (omega arith) } in
+        let here : Near (y k) (forward_at D.blocks l z k) = near-earlier _ _ k (y k) (z k) at term in
+        forward-same c (k + 1) (put z k (forward_at D.blocks l z k)) (omega arith)
+        (λ m. test (eqb m k) (λ t. rw (t, eqb-true m k t) here.same) (λ t. rw t (w m)))
+        (λ m p. test (eqb m k) (λ t. rw t here.held) (λ t. rw t (g m p))) i
 
   -- back: every number stays near the quotient q
   module _ (q : Row) (finite : (k : ℕ) → k < n → is_finite (q k) ≡ true) where
@@ -96,59 +101,18 @@ module _ (n : ℕ) (D : Diagonals) (l : Mat) (zeros : (i j : ℕ) → i < n → 
     back-near (suc c) x o w i h =
         let term : (j : ℕ) → c + 1 ≤ j → j < c + 1 + (n - (c + 1)) → has_entry D.blocks j c ≡ true → Zero (l j c ⊗ x j)
         = λ j p r t. let m : j < n = omega arith in
-        zero-times (l j c) (x j) (zeros j c m t) (alike-finite (q j) (x j) (w j m).alike (finite j m)) in
+        zero-times (l j c) (x j) (zeros j c m t) (same-finite (q j) (x j) (w j m).same (finite j m)) in
         let here : Near (q c) (back_at D.blocks l n x c) = near-later _ _ (n - (c + 1)) (c + 1) (q c) (x c) (w c (omega arith)) term in
         back-near c (put x c (back_at D.blocks l n x c)) (omega arith)
         (λ m g. test (eqb m c) (λ t. rw (t, eqb-true m c t) here) (λ t. rw t (w m g))) i h
 
-  substituted-near : (y : Row) → ((k : ℕ) → T (fits binary64 (y k))) → ((k : ℕ) → k < n → is_finite (y k) ≡ true)
+  substituted-near : (y : Row) → ((k : ℕ) → k < n → T (fits binary64 (y k))) → ((k : ℕ) → k < n → is_finite (y k) ≡ true)
       → ((k : ℕ) → k < n → is_finite (divided D y k) ≡ true) → (k : ℕ) → k < n → Near (divided D y k) (substituted n D l y k)
   unfolding substituted
   substituted-near y held right finite =
       let z : Row = forward_from D.blocks l n 0 y in
-      let forth : (i : ℕ) → Near (y i) (z i) = forward-near y right n 0 y (omega arith) (λ i. record { alike = inl refl; held = held i }) in
-      back-near (divided D y) finite n (divided D z) (omega arith) (λ i h. divided-near D y z (λ j. (forth j).alike) i (finite i h))
-
--- ---- the order undone
-
--- a row that none of m positions from k on names keeps its number
-returned-kept : (order : ℕ → ℕ) (x : Row) (m k : ℕ) (b : Row) (r : ℕ) → ((j : ℕ) → k ≤ j → j < k + m → order j ≡ r → ⊥)
-    → returned_from order x m k b r ≡ b r
-unfolding returned_from put
-returned-kept order x zero k b r h = refl
-returned-kept order x (suc m) k b r h =
-    returned-kept order x m (k + 1) (put b (order k) (x k)) r (λ j p q e. h j (omega arith) (omega arith) e)
-    ∙ rw (ne_eqb r (order k) (λ e. h k (omega arith) (omega arith) (sym e)))
-
--- the row of position i gets its number, if no later position names it
-returned-at : (order : ℕ → ℕ) (x : Row) (m k : ℕ) (b : Row) (i : ℕ) → ((j : ℕ) → j < k + m → i < j → order j ≡ order i → ⊥) → k ≤ i → i < k + m
-    → returned_from order x m k b (order i) ≡ x i
-unfolding returned_from put
-returned-at order x zero k b i apart p q = absurd (omega arith)
-returned-at order x (suc m) k b i apart p q =
-    test (eqb i k)
-    (λ t. let e : i ≡ k = eqb-true i k t in
-    returned-kept order x m (k + 1) (put b (order k) (x k)) (order i) (λ j u v. apart j (omega arith) (omega arith))
-    ∙ rw (e, eq-eqb (order k) (order k) refl))
-    (λ t. returned-at order x m (k + 1) (put b (order k) (x k)) i (λ j u v. apart j (omega arith) v) (omega (arith, eqb-false i k t)) (omega arith))
-
-named-there : (f : ℕ → ℕ) (k j : ℕ) (r : ℕ) → j < k → f j ≡ r → named f k r ≡ true
-unfolding named
-named-there f zero j r h e = absurd (omega arith)
-named-there f (suc k) j r h e =
-    test (eqb j k)
-    (λ t. rw (eq-eqb (f k) r (ap f (sym (eqb-true j k t)) ∙ e)) (yes (named f k r)))
-    (λ t. rw (named-there f k j r (omega (arith, eqb-false j k t)) e))
-
--- what a sound position says: it names one of the n rows, and none that an earlier position names
-sound-inside : (f : ℕ → ℕ) (n k : ℕ) → order_sound f n k ≡ true → f k < n
-unfolding order_sound
-sound-inside f n k h = ltb-true (f k) n (and_left (ltb (f k) n) _ h)
-
-sound-apart : (f : ℕ → ℕ) (n k j : ℕ) → order_sound f n k ≡ true → j < k → f k ≡ f j → ⊥
-unfolding order_sound
-sound-apart f n k j h o e =
-    true≢false (sym (named-there f k j (f k) o (sym e)) ∙ not-true (named f k (f k)) (and_right (ltb (f k) n) (not (named f k (f k))) h))
+      let forth : (i : ℕ) → SameButSign (y i) (z i) = forward-same y right n 0 y (omega arith) (λ i. inl refl) held in
+      back-near (divided D y) finite n (divided D z) (omega arith) (λ i h. divided-near D y z forth i (finite i h))
 
 -- ---- the call
 
@@ -167,10 +131,10 @@ identity-divides n f vector passed held zeros finite k h =
     let right : (i : ℕ) → i < n → is_finite (y i) ≡ true
     = λ i m. first-all (λ j. is_finite (b j)) right_side_at n (order i) numbers (inside i m) in
     let near : Near (divided D y k) (substituted n D l y k)
-    = substituted-near n D l (λ i j m t. zero-is (l i j) (zeros i j m t)) y (λ i. subst T (sym (held (order i))) tt) right finite k h in
+    = substituted-near n D l (λ i j m t. zero-is (l i j) (zeros i j m t)) y (λ i m. subst T (sym (held (order i) (inside i m))) tt) right finite k h in
     let left : vec (solve_of n n f vector).vector (order k) ≡ solution_of n D l order b (order k)
     = ap (λ (c : Check). vec (solved_after c (tabulate n (solution_of n D l order b)) vector).vector (order k)) passed
     ∙ get_d_tabulate n (order k) (solution_of n D l order b) nan (inside k h) in
     let back : solution_of n D l order b (order k) ≡ substituted n D l y k
     = returned-at order (substituted n D l y) n 0 b k (λ j m. sound-apart order n j k (sound j (omega arith))) (omega arith) (omega arith) in
-    ap (λ (v : Float). eq v (divided D y k)) (left ∙ back) ∙ alike-equal (divided D y k) (substituted n D l y k) near.alike (finite k h)
+    ap (λ (v : Float). eq v (divided D y k)) (left ∙ back) ∙ same-equal (divided D y k) (substituted n D l y k) near.same (finite k h)

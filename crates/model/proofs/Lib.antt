@@ -7,8 +7,10 @@ pub mod Tabulated
 pub mod Every
 pub mod Exchanged
 pub mod Summed
+pub mod Worth
 pub mod Zeros
 pub mod Terms
+pub mod Order
 pub mod Entry
 pub mod Stations
 pub mod Independence

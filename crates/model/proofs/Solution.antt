@@ -1,12 +1,12 @@
 -- What an accepted factor call leaves meets no refusal of solve but for the vector; solve reads the entries of L alone; a renumbered right side comes back
 -- renumbered. Assumes nothing.
 use mathlib.Core.Path.{◌≡◌, refl, ◌∙◌, ap, fun_ext}
-use mathlib.Core.Bool.{true, false, not}
+use mathlib.Core.Bool.{true, not}
 use mathlib.Core.List.{List}
 use Prim.Native.Nat.{ℕ, zero, suc, ◌+◌, ◌-◌, ◌*◌, ◌≤◌, ◌<◌}
 use native.Mathlib.Omega.{arith}
-use borrow.Author.Tests.{eq-eqb, ne_eqb, le-leb, lt-ltb, eqb-true, eqb-false}
-use lib.Dec.{ltb, eqb}
+use borrow.Author.Tests.{eq-eqb, ne_eqb, le-leb, eqb-true, eqb-false}
+use lib.Dec.{eqb}
 use lib.ListN.{length}
 use lib.Ieee.{Float}
 use Rattle.std.specs.Prelude.{Ok}
@@ -17,35 +17,17 @@ use Rattle.model.specs.Step.{Diagonals, diagonals_of}
 use Rattle.model.specs.Factor.{Outcome, shape_sound, after_head, stands}
 use Rattle.model.specs.Answer.{or_else, refuse_if}
 use Rattle.model.specs.Inertia.{check_bytes}
-use Rattle.model.specs.Assembly.{first_not}
-use Rattle.model.specs.Solve.{Factor, solve_lengths, named, order_sound, order_at, check_order, check_right_side, solve_check, has_entry}
+use Rattle.model.specs.Solve.{Factor, solve_lengths, check_order, check_right_side, solve_check, has_entry}
 use Rattle.model.specs.Solve.{forward_at, forward_from, divided, back_at, back_from, substituted, ordered, returned_from, solution_of, solve_of, solved_after}
 use Rattle.model.specs.Independence.{outcome_of}
 use Rattle.model.specs.Solution.{left_in, RefusedForTheVectorAlone, ReadsEntriesAlone, ComesBackRenumbered}
 use Rattle.model.specs.declared.Refusal.TheVariants.{SolveLength}
 use Rattle.model.proofs.Cases.{test}
+use Rattle.model.proofs.Order.{sound-order}
 use Rattle.model.proofs.Tabulated.{length-tabulate_from}
 use Rattle.model.proofs.Entry.{Passed, passed as entry-passed}
 use Rattle.model.proofs.Terms.{earlier-there, later-there}
 use Rattle.model.proofs.Accepted.{Accepted, accepted-is, accepted-leaves, accepted-bytes, Ordered, accepted-ordered}
-
--- ---- an order that is a permutation
-
--- a row that no position before k names
-unnamed : (f : ℕ → ℕ) (k r : ℕ) → ((j : ℕ) → j < k → f j ≡ r → ⊥) → named f k r ≡ false
-unfolding named
-unnamed f zero r h = refl
-unnamed f (suc k) r h = rw (unnamed f k r (λ j o e. h j (omega arith) e), ne_eqb (f k) r (h k (omega arith)))
-
-sound-order : (n : ℕ) (f : ℕ → ℕ) → ((i : ℕ) → i < n → f i < n) → ((i j : ℕ) → i < n → j < n → f i ≡ f j → i ≡ j) → (m k : ℕ) → k + m ≤ n
-    → first_not (order_sound f n) order_at m k ≡ Ok tt
-unfolding first_not order_sound
-sound-order n f inside distinct zero k h = refl
-sound-order n f inside distinct (suc m) k h =
-    let there : ltb (f k) n ≡ true = lt-ltb (f k) n (inside k (omega arith)) in
-    let first : named f k (f k) ≡ false
-    = unnamed f k (f k) (λ j o e. let z : j ≡ k = distinct j k (omega arith) (omega arith) e in omega arith) in
-    rw (there, first) (sound-order n f inside distinct m (k + 1) (omega arith))
 
 -- ---- what an accepted factor call leaves
 

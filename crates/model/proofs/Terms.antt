@@ -8,7 +8,8 @@ use Rattle.model.specs.Matrix.{Row}
 use Rattle.model.specs.Solve.{less_earlier, less_later}
 use Rattle.model.proofs.Cases.{test}
 
-pub earlier-there : (there : ℕ → Bool) (f g : Row) (m : ℕ) (v : Float) → ((j : ℕ) → j < m → there j ≡ true → f j ≡ g j) → less_earlier there f m v ≡ less_earlier there g m v
+pub earlier-there : (there : ℕ → Bool) (f g : Row) (m : ℕ) (v : Float) → ((j : ℕ) → j < m → there j ≡ true → f j ≡ g j)
+    → less_earlier there f m v ≡ less_earlier there g m v
 unfolding less_earlier
 earlier-there there f g zero v h = refl
 earlier-there there f g (suc m) v h =
@@ -20,5 +21,6 @@ pub later-there : (there : ℕ → Bool) (f g : Row) (m j : ℕ) (v : Float) →
 unfolding less_later
 later-there there f g zero j v h = refl
 later-there there f g (suc m) j v h =
-    let after : less_later there f m (j + 1) v ≡ less_later there g m (j + 1) v = later-there there f g m (j + 1) v (λ i o p t. h i (omega arith) (omega arith) t) in
+    let after : less_later there f m (j + 1) v ≡ less_later there g m (j + 1) v
+    = later-there there f g m (j + 1) v (λ i o p t. h i (omega arith) (omega arith) t) in
     test (there j) (λ t. rw (t, after, h j (omega arith) (omega arith) t)) (λ t. rw (t, after))

@@ -1,24 +1,21 @@
--- Laws of zeros in rounded arithmetic: a finite number times a zero is a zero, a number less a zero is that number, and what is worked out of numbers that are
--- the same but for the sign of a zero is the same but for the sign of a zero. Assumes nothing.
+-- Laws of zeros in rounded arithmetic: a finite number times a zero is a zero; a number less a zero is that number, and what is worked out of two numbers that
+-- are the same is the same, each time but for the sign of a zero. Assumes nothing.
 use mathlib.Core.Path.{◌≡◌, refl, sym, ◌∙◌, ap, subst}
 use mathlib.Core.Logic.{◌⊎◌, inl, inr}
 use mathlib.Core.Bool.{Bool, true, false, true≢false, cond, not, ◌||◌, beq}
-use Prim.Native.Nat.{ℕ, zero, suc, ◌+◌, ◌*◌, ◌/◌, ◌^◌, ◌<◌}
-use native.Mathlib.Nat.{zero-lt-suc, zero-mul, mul-zero, mul-pos, mul_assoc, mul_left_comm, mul_comm, eq_of_mul-eq-mul_right, lt_of_lt_of_le, le_of_eq}
+use Prim.Native.Nat.{ℕ, zero, suc, ◌*◌, ◌^◌, ◌<◌}
+use native.Mathlib.Nat.{zero-lt-suc, zero-mul, mul-zero, mul-pos, mul_assoc, mul_left_comm, mul_comm}
 use native.Mathlib.Omega.{arith}
 use borrow.Author.Tests.{eqb-true, eq-eqb, lt-ltb, le-ltb}
 use lib.Dec.{T, eqb}
-use lib.Pow.{pow-add, pow_pos}
 use lib.IntN.{ℤ}
-use lib.Ieee.{Float, nan, inf, fin, binary64, unlike, up, down, round, sum, neg, add, sub, mul, eq, fits, to_bits, of_bits}
+use lib.Ieee.{Float, nan, inf, fin, binary64, unlike, up, down, round, sum, neg, add, sub, mul, eq, fits, of_bits}
 use lib.Ieee.Exact.{HasValue, round_exact}
-use lib.Ieee.Fits.{up_pos, down_pos, round-fits}
-use lib.Ieee.Nearest.{div_same}
+use lib.Ieee.Fits.{up_pos, down_pos}
 use lib.Ieee.Scale.{round_same}
-use lib.Ieee.Bits.{of_bits-to_bits}
 use Rattle.model.specs.Scalar.{◌⊖◌, ◌⊗◌, zero_f, is_finite}
 use Rattle.model.proofs.Cases.{yes, and_left}
-use Rattle.model.proofs.Nearest.{asked, placed, multiple, in-range}
+use Rattle.model.proofs.Worth.{round-own}
 
 -- ---- zeros
 
@@ -28,9 +25,9 @@ Zero nan = ⊥
 Zero (inf s) = ⊥
 Zero (fin s m e) = m ≡ 0
 
--- the same, or two zeros
-abbrev pub Alike : Float → Float → Type 0
-Alike x y = (x ≡ y) ⊎ (Zero x × Zero y)
+-- the same but for the sign of a zero
+abbrev pub SameButSign : Float → Float → Type 0
+SameButSign x y = (x ≡ y) ⊎ (Zero x × Zero y)
 
 no-digits : (m u c a d : ℕ) → 0 < u → 0 < c → a ≡ 0 → m * u * c ≡ a * d → m ≡ 0
 no-digits zero u c a d U C z h = refl
@@ -86,44 +83,6 @@ times-zero nan (fin t n d) z h = absurd (true≢false (sym h))
 times-zero (inf s) (fin t n d) z h = absurd (true≢false (sym h))
 times-zero (fin s m e) (fin t n d) z h = product-nothing s t m n e d (rw (z, zero-mul (up d)) (mul-zero (m * up e)))
 
--- ---- a number that fits is its worth, rounded
-
-cross : (x y a c p q l : ℕ) → 0 < c → x * c ≡ a * p → y * c ≡ a * q → x * l * q ≡ y * l * p
-cross x y a c p q l C g h =
-    let one : x * l * q * c ≡ x * c * (l * q) = simp (mul_assoc, mul_comm, mul_left_comm) in
-    let two : a * p * (l * q) ≡ a * q * (l * p) = simp (mul_assoc, mul_comm, mul_left_comm) in
-    let three : y * c * (l * p) ≡ y * l * p * c = simp (mul_assoc, mul_comm, mul_left_comm) in
-    eq_of_mul-eq-mul_right c C (x * l * q) (y * l * p) (one ∙ ap (λ (z : ℕ). z * (l * q)) g ∙ two ∙ ap (λ (z : ℕ). z * (l * p)) (sym h) ∙ three)
-
--- two numbers of the same worth have the same bits
-same-bits : (x y : Float) (s : Bool) (a c : ℕ) → 0 < c → HasValue x s a c → HasValue y s a c → to_bits binary64 x ≡ to_bits binary64 y
-unfolding to_bits
-same-bits nan y s a c C v w = absurd v
-same-bits (inf t) y s a c C v w = absurd v
-same-bits (fin t m e) nan s a c C v w = absurd w
-same-bits (fin t m e) (inf u) s a c C v w = absurd w
-same-bits (fin t m e) (fin u n g) s a c C v w =
-    let l : ℕ = 2 ^ 1074 in
-    let across : m * up e * l * down g ≡ n * up g * l * down e = cross (m * up e) (n * up g) a c (down e) (down g) l C v.1 w.1 in
-    let whole : m * up e * l / down e ≡ n * up g * l / down g = div_same (m * up e * l) (down e) (n * up g * l) (down g) (down_pos e) (down_pos g) across in
-    rw (v.0, w.0, whole)
-
-worth-one : (x y : Float) (s : Bool) (a c : ℕ) → 0 < c → T (fits binary64 x) → T (fits binary64 y) → HasValue x s a c → HasValue y s a c → x ≡ y
-worth-one x y s a c C f g v w =
-    sym (of_bits-to_bits binary64 x f) ∙ ap (of_bits binary64) (same-bits x y s a c C v w) ∙ of_bits-to_bits binary64 y g
-
-round-own : (s : Bool) (m : ℕ) (e : ℤ) → T (fits binary64 (fin s (suc m) e)) → round binary64 s (suc m * up e) (down e) ≡ fin s (suc m) e
-round-own s m e f =
-    let a = asked s m e f in
-    let p = placed 1074 e a.1 in
-    let n = suc m * up e in
-    let q = suc m * 2 ^ p.0 in
-    let whole : n * 2 ^ 1074 ≡ q * down e = multiple (suc m) (up e) (2 ^ 1074) (2 ^ p.0) (down e) p.1 in
-    let few : q < 2 ^ 1024 * 2 ^ 1074 = in-range q (suc m) (up e) (2 ^ 1074) (2 ^ 1024) (down e) (down_pos e) (pow_pos 1074) whole a.2 in
-    let below : q < 2 ^ (1074 + 1024) = lt_of_lt_of_le few (le_of_eq (mul_comm (2 ^ 1024) (2 ^ 1074) ∙ sym (pow-add 2 1074 1024))) in
-    worth-one (round binary64 s n (down e)) (fin s (suc m) e) s n (down e) (down_pos e) (round-fits binary64 s n (down e)) f
-    (round_exact binary64 s n (down e) (suc m) p.0 (down_pos e) a.0 below whole) (refl, refl)
-
 -- ---- a number less a zero, and a zero less a number
 
 nothing : (m u d : ℕ) → m ≡ 0 → m * u * d ≡ 0
@@ -173,7 +132,7 @@ module _ (s t : Bool) (m n : ℕ) (e d : ℤ) where
       (sum-nothing-less s (not t) (n * up d * down e) (down e * down d) (mul-pos (mul-pos h (up_pos d)) (down_pos e))
       ∙ round_same binary64 (not t) (n * up d * down e) (down e * down d) (n * up d) (down d) over (down_pos d) (simp (mul_assoc, mul_comm, mul_left_comm)))
 
-pub less-zero : (x z : Float) → T (fits binary64 x) → Zero z → Alike x (x ⊖ z)
+pub less-zero : (x z : Float) → T (fits binary64 x) → Zero z → SameButSign x (x ⊖ z)
 unfolding sub neg add
 less-zero x nan f h = absurd h
 less-zero x (inf t) f h = absurd h
@@ -182,7 +141,7 @@ less-zero (inf s) (fin t n d) f h = inl refl
 less-zero (fin s zero e) (fin t n d) f h = inr (refl, zeros-apart s t 0 n e d refl h)
 less-zero (fin s (suc m) e) (fin t n d) f h = inl (sym (number-less s t (suc m) n e d (zero-lt-suc m) h ∙ round-own s m e f))
 
-zero-less : (p q x : Float) → Zero p → Zero q → Alike (p ⊖ x) (q ⊖ x)
+zero-less : (p q x : Float) → Zero p → Zero q → SameButSign (p ⊖ x) (q ⊖ x)
 unfolding sub neg add
 zero-less nan q x g h = absurd g
 zero-less (inf s) q x g h = absurd g
@@ -194,16 +153,16 @@ zero-less (fin s m e) (fin u n i) (fin t zero d) g h = inr (zeros-apart s t m 0 
 zero-less (fin s m e) (fin u n i) (fin t (suc k) d) g h =
     inl (less-number s t m (suc k) e d g (zero-lt-suc k) ∙ sym (less-number u t n (suc k) i d h (zero-lt-suc k)))
 
--- ---- numbers that are alike
+-- ---- numbers that are the same but for the sign of a zero
 
-alike-back : (x y : Float) → Alike x y → Alike y x
-alike-back x y (inl e) = inl (sym e)
-alike-back x y (inr w) = inr (w.1, w.0)
+same-back : (x y : Float) → SameButSign x y → SameButSign y x
+same-back x y (inl e) = inl (sym e)
+same-back x y (inr w) = inr (w.1, w.0)
 
-pub alike-on : (x y z : Float) → Alike x y → Alike y z → Alike x z
-alike-on x y z (inl e) g = subst (λ (v : Float). Alike v z) (sym e) g
-alike-on x y z (inr w) (inl e) = subst (λ (v : Float). Alike x v) e (inr w)
-alike-on x y z (inr w) (inr v) = inr (w.0, v.1)
+pub same-on : (x y z : Float) → SameButSign x y → SameButSign y z → SameButSign x z
+same-on x y z (inl e) g = subst (λ (v : Float). SameButSign v z) (sym e) g
+same-on x y z (inr w) (inl e) = subst (λ (v : Float). SameButSign x v) e (inr w)
+same-on x y z (inr w) (inr v) = inr (w.0, v.1)
 
 zero-finite : (x : Float) → Zero x → is_finite x ≡ true
 unfolding is_finite
@@ -211,9 +170,9 @@ zero-finite nan z = absurd z
 zero-finite (inf s) z = absurd z
 zero-finite (fin s m e) z = refl
 
-pub alike-finite : (x y : Float) → Alike x y → is_finite x ≡ true → is_finite y ≡ true
-alike-finite x y (inl e) h = ap is_finite (sym e) ∙ h
-alike-finite x y (inr w) h = zero-finite y w.1
+pub same-finite : (x y : Float) → SameButSign x y → is_finite x ≡ true → is_finite y ≡ true
+same-finite x y (inl e) h = ap is_finite (sym e) ∙ h
+same-finite x y (inr w) h = zero-finite y w.1
 
 -- both terms of a finite difference are finite
 pub finite-terms : (x y : Float) → is_finite (x ⊖ y) ≡ true → (is_finite x ≡ true) × (is_finite y ≡ true)
@@ -226,19 +185,19 @@ finite-terms (fin s m e) nan h = absurd (true≢false (sym h))
 finite-terms (fin s m e) (inf t) h = absurd (true≢false (sym h))
 finite-terms (fin s m e) (fin t n d) h = (refl, refl)
 
-pub times-alike : (x y r : Float) → Alike x y → is_finite (x ⊗ r) ≡ true → Alike (x ⊗ r) (y ⊗ r)
-times-alike x y r (inl e) h = inl (ap (λ (v : Float). v ⊗ r) e)
-times-alike x y r (inr w) h = let g = (finite-factors x r h).1 in inr (zero-times x r w.0 g, zero-times y r w.1 g)
+pub times-same : (x y r : Float) → SameButSign x y → is_finite (x ⊗ r) ≡ true → SameButSign (x ⊗ r) (y ⊗ r)
+times-same x y r (inl e) h = inl (ap (λ (v : Float). v ⊗ r) e)
+times-same x y r (inr w) h = let g = (finite-factors x r h).1 in inr (zero-times x r w.0 g, zero-times y r w.1 g)
 
-pub alike-times : (r x y : Float) → Alike x y → is_finite (r ⊗ x) ≡ true → Alike (r ⊗ x) (r ⊗ y)
-alike-times r x y (inl e) h = inl (ap (λ (v : Float). r ⊗ v) e)
-alike-times r x y (inr w) h = let g = (finite-factors r x h).0 in inr (times-zero r x w.0 g, times-zero r y w.1 g)
+pub same-times : (r x y : Float) → SameButSign x y → is_finite (r ⊗ x) ≡ true → SameButSign (r ⊗ x) (r ⊗ y)
+same-times r x y (inl e) h = inl (ap (λ (v : Float). r ⊗ v) e)
+same-times r x y (inr w) h = let g = (finite-factors r x h).0 in inr (times-zero r x w.0 g, times-zero r y w.1 g)
 
-pub less-alike : (x y v w : Float) → T (fits binary64 x) → T (fits binary64 y) → Alike x y → Alike v w → Alike (x ⊖ v) (y ⊖ w)
-less-alike x y v w f g (inl p) (inl q) = inl (ap (λ (a : Float). a ⊖ v) p ∙ ap (λ (a : Float). y ⊖ a) q)
-less-alike x y v w f g (inr z) (inl q) = alike-on (x ⊖ v) (y ⊖ v) (y ⊖ w) (zero-less x y v z.0 z.1) (inl (ap (λ (a : Float). y ⊖ a) q))
-less-alike x y v w f g p (inr z) =
-    alike-on (x ⊖ v) x (y ⊖ w) (alike-back x (x ⊖ v) (less-zero x v f z.0)) (alike-on x y (y ⊖ w) p (less-zero y w g z.1))
+pub less-same : (x y v w : Float) → T (fits binary64 x) → T (fits binary64 y) → SameButSign x y → SameButSign v w → SameButSign (x ⊖ v) (y ⊖ w)
+less-same x y v w f g (inl p) (inl q) = inl (ap (λ (a : Float). a ⊖ v) p ∙ ap (λ (a : Float). y ⊖ a) q)
+less-same x y v w f g (inr z) (inl q) = same-on (x ⊖ v) (y ⊖ v) (y ⊖ w) (zero-less x y v z.0 z.1) (inl (ap (λ (a : Float). y ⊖ a) q))
+less-same x y v w f g p (inr z) =
+    same-on (x ⊖ v) x (y ⊖ w) (same-back x (x ⊖ v) (less-zero x v f z.0)) (same-on x y (y ⊖ w) p (less-zero y w g z.1))
 
 -- ---- as `==` has it
 
@@ -266,6 +225,6 @@ zeros-equal (fin s m e) nan g h = absurd h
 zeros-equal (fin s m e) (inf t) g h = absurd h
 zeros-equal (fin s m e) (fin t n d) g h = rw (nothing m (up e) (down d) g, nothing n (up d) (down e) h) (yes (beq s t))
 
-pub alike-equal : (x y : Float) → Alike x y → is_finite x ≡ true → eq y x ≡ true
-alike-equal x y (inl e) h = rw (sym e) (equal-itself x h)
-alike-equal x y (inr w) h = zeros-equal y x w.1 w.0
+pub same-equal : (x y : Float) → SameButSign x y → is_finite x ≡ true → eq y x ≡ true
+same-equal x y (inl e) h = rw (sym e) (equal-itself x h)
+same-equal x y (inr w) h = zeros-equal y x w.1 w.0

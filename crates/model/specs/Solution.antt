@@ -43,12 +43,13 @@ ComesBackRenumbered =
     (n : ℕ) (D : Diagonals) (l : Mat) (order p : ℕ → ℕ) (b c : Row) → ((i j : ℕ) → p i ≡ p j → i ≡ j) → ((i : ℕ) → c (p i) ≡ b i)
     → (i : ℕ) → solution_of n D l (λ k. p (order k)) c (p i) ≡ solution_of n D l order b i
 
--- With L the identity solve is the division by D in the recorded order: of an accepted call whose entries of L are zeros, of either sign, and whose quotients
--- are finite, what comes back at the row of position k equals the quotient of position k. Equal as `==` has it: no term is left out, and one of zero may make
--- +0 of -0. That a number fits the format is so of every number of a list that a call is given.
+-- With L the identity, a solve is the division by D. Take an accepted call in which every entry of L is a zero, of either sign, and every quotient of the
+-- right side, in the recorded order, by D is finite. Then the number at the row of position k equals quotient k. Equal as `==` has it, under which -0 and +0
+-- are equal: no term is left out, and a term of zero can turn -0 into +0, before the division too. `fits` says that a number is one of binary64's, as all
+-- numbers of a lent list are; any other a difference would round.
 abbrev pub IdentityDivides : Type 0
 IdentityDivides =
-    (n : ℕ) (f : Factor) (vector : List Float) → solve_check n n f vector ≡ Ok tt → ((i : ℕ) → fits binary64 (vec vector i) ≡ true)
+    (n : ℕ) (f : Factor) (vector : List Float) → solve_check n n f vector ≡ Ok tt → ((i : ℕ) → i < n → fits binary64 (vec vector i) ≡ true)
     → ((i j : ℕ) → i < n → has_entry (naturals f.blocks) i j ≡ true → eq (view n f.panel i j) zero_f ≡ true)
     → let quotient = divided (diagonals_of f.d f.sub f.blocks) (ordered (naturals f.order) (vec vector)) in
     ((k : ℕ) → k < n → is_finite (quotient k) ≡ true)

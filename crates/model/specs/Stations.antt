@@ -178,6 +178,13 @@ zero_diagonal = 0 ∷ one ∷ 0 ∷ 0 ∷ []
 abbrev exchanging : List ℕ
 exchanging = one ∷ two ∷ 0 ∷ eight ∷ []
 
+-- three of them
+abbrev ones : List ℕ
+ones = replicate 3 one
+
+abbrev zeros : List ℕ
+zeros = replicate 3 0
+
 abbrev pub stations : List Station
 stations =
     -- ncol 0, nrow 3, nb 1: order 0 1 2, counts 0 0 0
@@ -226,13 +233,13 @@ stations =
     -- [0,1; 0], Lift 2, limit 2, solved for 9 6: 2 1, that of [4,1; 4]
     (solved_gives (lift 2 2 two 2) zero_diagonal (nine ∷ six ∷ []) ⇒ (two ∷ one ∷ []) ∷ []) ∷
     -- a block 1 2 3 over a panel of not-a-numbers, solved for 5 8: 1 2
-    (solve_gives 2 (not_a_number ∷ not_a_number ∷ not_a_number ∷ not_a_number ∷ []) (one ∷ three ∷ []) (two ∷ 0 ∷ []) (1 ∷ 0 ∷ []) (0 ∷ 1 ∷ []) (five ∷ eight ∷ [])
+    (solve_gives 2 (replicate 4 not_a_number) (one ∷ three ∷ []) (two ∷ 0 ∷ []) (1 ∷ 0 ∷ []) (0 ∷ 1 ∷ []) (five ∷ eight ∷ [])
     ⇒ (one ∷ two ∷ []) ∷ []) ∷
     -- three 1x1s of 1, L 0, 1 and 2^-60, solved for 1 1 1: 1 1 −2^-60; by falling position forward it would end in 0
-    (solve_gives 3 (one ∷ 0 ∷ one ∷ 0 ∷ one ∷ tiny ∷ 0 ∷ 0 ∷ one ∷ []) (one ∷ one ∷ one ∷ []) (0 ∷ 0 ∷ 0 ∷ []) (0 ∷ 0 ∷ 0 ∷ []) (0 ∷ 1 ∷ 2 ∷ []) (one ∷ one ∷ one ∷ [])
+    (solve_gives 3 (one ∷ 0 ∷ one ∷ 0 ∷ one ∷ tiny ∷ 0 ∷ 0 ∷ one ∷ []) ones zeros zeros (0 ∷ 1 ∷ 2 ∷ []) ones
     ⇒ (one ∷ one ∷ minus_tiny ∷ []) ∷ []) ∷
     -- three 1x1s of 1, L 2^-60, 1 and 0, solved for 1 1 2: −2^-60 1 1; by rising position back it would begin with 0
-    (solve_gives 3 (one ∷ tiny ∷ one ∷ 0 ∷ one ∷ 0 ∷ 0 ∷ 0 ∷ one ∷ []) (one ∷ one ∷ one ∷ []) (0 ∷ 0 ∷ 0 ∷ []) (0 ∷ 0 ∷ 0 ∷ []) (0 ∷ 1 ∷ 2 ∷ []) (one ∷ one ∷ two ∷ [])
+    (solve_gives 3 (one ∷ tiny ∷ one ∷ 0 ∷ one ∷ 0 ∷ 0 ∷ 0 ∷ one ∷ []) ones zeros zeros (0 ∷ 1 ∷ 2 ∷ []) (one ∷ one ∷ two ∷ [])
     ⇒ (minus_tiny ∷ one ∷ one ∷ []) ∷ []) ∷
     -- [1,0; 1], solved for −0 −1: +0 −1; with terms of zero left out it would begin with −0
     (solved_gives (fail 2 2 2) (one ∷ 0 ∷ 0 ∷ one ∷ []) (minus_zero ∷ minus_one ∷ []) ⇒ (0 ∷ minus_one ∷ []) ∷ []) ∷
@@ -242,4 +249,8 @@ stations =
     (solved_gives (fail 2 2 2) exchanging (five ∷ infinite ∷ []) ⇒ (27 ∷ 1 ∷ 0 ∷ []) ∷ []) ∷
     -- [1,2; 8], solved for 5 18 with the order 0 0: 26 at 1
     (solve_gives 2 exchanging (one ∷ eight ∷ []) (0 ∷ 0 ∷ []) (0 ∷ 0 ∷ []) (0 ∷ 0 ∷ []) (five ∷ eighteen ∷ []) ⇒ (26 ∷ 1 ∷ 0 ∷ []) ∷ []) ∷
+    -- with the block bytes 2 0 and an infinite right side too: 26 at 1
+    (solve_gives 2 exchanging (one ∷ eight ∷ []) (0 ∷ 0 ∷ []) (2 ∷ 0 ∷ []) (0 ∷ 0 ∷ []) (infinite ∷ eighteen ∷ []) ⇒ (26 ∷ 1 ∷ 0 ∷ []) ∷ []) ∷
+    -- with the order 1 0, the block bytes 2 0 and an infinite right side: 16 at 0
+    (solve_gives 2 exchanging (one ∷ eight ∷ []) (0 ∷ 0 ∷ []) (2 ∷ 0 ∷ []) (1 ∷ 0 ∷ []) (infinite ∷ eighteen ∷ []) ⇒ (16 ∷ 0 ∷ 0 ∷ []) ∷ []) ∷
     []

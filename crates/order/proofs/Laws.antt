@@ -39,7 +39,8 @@ unfolding naturals seen_of named
 seen_step os xs k m h o s =
     let row = get_or os k 0 in
     rw (add-one k) (fun_ext λ r. test (eqb row r)
-    (λ t. ap (λ (i : ℕ). get_or (set xs row 1) i 0) (sym (eqb-true row r t)) ∙ get_or-set_same xs row 1 0 (omega arith) ∙ rw t (sym (one (named (naturals os) k r))))
+    (λ t. ap (λ (i : ℕ). get_or (set xs row 1) i 0) (sym (eqb-true row r t)) ∙ get_or-set_same xs row 1 0 (omega arith)
+    ∙ rw t (sym (one (named (naturals os) k r))))
     (λ t. get_or-set_other xs row r 1 0 (λ q. eqb-false row r t (sym q)) ∙ ap (λ (f : ℕ → ℕ). f r) s ∙ rw t (same (named (naturals os) k r))))
   where
     one : (b : Bool) → ◌≡◌ {A = ℕ} (cond (b || true) 1 0) 1

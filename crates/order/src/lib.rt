@@ -24,8 +24,8 @@ pub fn first_bad_row(order: &[usize]) -> Result<(), Refusal>
     ensures { result ≡ check_order (length order.now) (naturals order.now) }
 {
     let n = order.len();
-    // 1 for a row that a position has named: a byte, of which the laws of lists of numbers speak, and an array of the
-    // limit's length, since there is no heap
+    // 1 for a row that a position has named: a byte and no bool, since the laws of lists are of numbers, and an array
+    // of the limit's length, since there is no heap
     let mut seen = [0u8; COLUMNS_MAX];
     for (k, &row) in order.iter().enumerate() {
         if !row_sound(&seen, row, n) {

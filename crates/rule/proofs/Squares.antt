@@ -1,25 +1,26 @@
 -- The root of a rounded square. Where the square of a number is above `least` and finite, its correctly rounded root is the number's magnitude: the
 -- square's error is at most half its last place, and the root of a number that near is nearer to the magnitude than to any other number of 53 digits.
--- A reader may rely on `root-of-square`, on `root-spared`, which has it as the code asks it, and on `same_number`. Assumes nothing.
+-- A reader may rely on `root-of-square` and on `root-spared`, which has it as the code asks it. Assumes nothing.
 use mathlib.Core.Path.{◌≡◌, refl, sym, ap, ◌∙◌, subst}
 use mathlib.Core.Logic.{inl, inr}
 use mathlib.Core.Bool.{Bool, true, false, ◌&&◌, true≢false, false≢true}
-use Prim.Native.Nat.{ℕ, zero, suc, ◌+◌, ◌*◌, ◌%◌, ◌^◌, ◌<◌, zero-le}
-use native.Mathlib.Nat.{le_of_eq, le_antisymm, lt_of_le_of_lt, zero-lt-suc, mul_assoc, mul_left_comm, mul-one, one-mul, mul-pos}
-use native.Mathlib.Nat.{lt_of_mul-lt-mul_right, mul-lt-mul_of_pos_right, eq_of_mul-eq-mul_right, pow-suc, pow-succ'}
+use Prim.Native.Nat.{ℕ, zero, suc, ◌*◌, ◌^◌, ◌<◌, zero-le}
+use native.Mathlib.Nat.{lt_of_le_of_lt, mul-pos}
+use native.Mathlib.Nat.{lt_of_mul-lt-mul_right, mul-lt-mul_of_pos_right}
 use native.Mathlib.Omega.{arith}
-use lib.Dec.{T, eqb, ltb, leb, eqb→eq}
-use lib.IntN.{ℤ, pos, negsuc}
+use lib.Dec.{T}
+use lib.IntN.{ℤ}
 use lib.Pow.{pow-add, pow_pos, pow_mono}
 use lib.Ieee.{Float, nan, inf, fin, binary64, up, down, round, mul, lt, fits, of_bits}
 use lib.Ieee.Exact.{HasValue}
-use lib.Ieee.Fits.{down_pos, and_l, round-fits}
+use lib.Ieee.Fits.{down_pos, round-fits}
 use lib.Ieee.Scale.{grid, finite, round_val, round_under, normal_of_rounded}
 use borrow.Author.Tests.{ltb-true}
 use Rattle.model.specs.Scalar.{◌⊗◌, zero_f, is_finite, magnitude_of, square_of}
 use Rattle.model.specs.Root.{sqrt_of}
 use Rattle.model.proofs.Cases.{and_left, and_right}
-use Rattle.model.proofs.Nearest.{Nearer, pow_le_back, placed, asked, multiple, sqrt-rounds, held as digits_of}
+use Rattle.model.proofs.Nearest.{Nearer, sqrt-rounds, held as digits_of}
+use Rattle.model.proofs.Worth.{worth-one}
 use Rattle.greatest.specs.Greatest.{SquareOf}
 use Rattle.rule.proofs.Units.{mul-of, held}
 use Rattle.rule.proofs.Reach.{same_units, zero-below, finite-is}
@@ -28,75 +29,6 @@ use Rattle.rule.proofs.Nearby.{Squared, squared, root-back}
 -- 2 ^ -1000
 abbrev pub least : Float
 least = of_bits binary64 0x0170_0000_0000_0000
-
--- ---- a number of the format is written in one way
-
-even_odd : (m t : ℕ) → m % 2 ≡ 1 → m ≡ 2 * t → ⊥
-even_odd m t o h = omega arith
-
-odd_pow : (m n a b : ℕ) → m % 2 ≡ 1 → n % 2 ≡ 1 → m * 2 ^ a ≡ n * 2 ^ b → m ≡ n
-odd_pow m n zero zero o p h = sym (mul-one m) ∙ h ∙ mul-one n
-odd_pow m n zero (suc b) o p h =
-    absurd (even_odd m (n * 2 ^ b) o (sym (mul-one m) ∙ h ∙ ap (λ (x : ℕ). n * x) (pow-succ' 2 b) ∙ mul_left_comm n 2 (2 ^ b)))
-odd_pow m n (suc a) zero o p h =
-    absurd (even_odd n (m * 2 ^ a) p (sym (mul-one n) ∙ sym h ∙ ap (λ (x : ℕ). m * x) (pow-succ' 2 a) ∙ mul_left_comm m 2 (2 ^ a)))
-odd_pow m n (suc a) (suc b) o p h =
-    odd_pow m n a b o p
-    (eq_of_mul-eq-mul_right 2 (zero-lt-suc 1) (m * 2 ^ a) (n * 2 ^ b)
-    (mul_assoc m (2 ^ a) 2 ∙ ap (λ (x : ℕ). m * x) (sym (pow-suc 2 a)) ∙ h ∙ ap (λ (x : ℕ). n * x) (pow-suc 2 b) ∙ sym (mul_assoc n (2 ^ b) 2)))
-
-is_odd : (s : Bool) (m : ℕ) (e : ℤ) → T (fits binary64 (fin s (suc m) e)) → suc m % 2 ≡ 1
-unfolding fits
-is_odd s m e f =
-    let a : Bool = eqb (suc m % 2) 1 in
-    let b : Bool = ltb (suc m) (2 ^ 53) in
-    let c : Bool = leb (down e) (2 ^ 1074) in
-    let d : Bool = ltb (suc m * up e) (2 ^ 1024 * down e) in
-    eqb→eq (suc m % 2) 1 (and_l a b (and_l (a && b) c (and_l (a && b && c) d f)))
-
-pow-same : (a b : ℕ) → 2 ^ a ≡ 2 ^ b → a ≡ b
-pow-same a b h = le_antisymm (pow_le_back a b (le_of_eq h)) (pow_le_back b a (le_of_eq (sym h)))
-
-apart : (a b : ℕ) → 2 ^ a * 2 ^ suc b ≡ 1 * 1 → ⊥
-apart a b h = let z : a + suc b ≡ 0 = pow-same (a + suc b) 0 (pow-add 2 a (suc b) ∙ h) in omega arith
-
-exponent : (e g : ℤ) → up e * down g ≡ up g * down e → e ≡ g
-exponent (pos j) (pos k) h = ap pos (pow-same j k (sym (mul-one (2 ^ j)) ∙ h ∙ mul-one (2 ^ k)))
-exponent (pos j) (negsuc k) h = absurd (apart j k h)
-exponent (negsuc j) (pos k) h = absurd (apart k j (sym h))
-exponent (negsuc j) (negsuc k) h =
-    let z : suc k ≡ suc j = pow-same (suc k) (suc j) (sym (one-mul (2 ^ suc k)) ∙ h ∙ one-mul (2 ^ suc j)) in ap negsuc (omega arith)
-
-cross : (m u v d b a l : ℕ) → 0 < m → 0 < l → m * u * l ≡ a * d → m * v * l ≡ a * b → u * b ≡ v * d
-cross m u v d b a l M L p q =
-    eq_of_mul-eq-mul_right (m * l) (mul-pos M L) (u * b) (v * d)
-    (omega (arith, ap (λ (x : ℕ). x * b) p, ap (λ (x : ℕ). x * d) q))
-
-no_value : (u l a d : ℕ) → 0 < a → 0 < d → 0 * u * l ≡ a * d → ⊥
-no_value u l a d A D h = omega (arith, mul-pos A D)
-
--- two numbers of the format that have the same value above zero are the same
-pub same_number : (x y : Float) (a : ℕ) → 0 < a → T (fits binary64 x) → T (fits binary64 y) → HasValue x false a (2 ^ 1074) → HasValue y false a (2 ^ 1074)
-    → x ≡ y
-same_number nan y a A p q v w = absurd v
-same_number (inf s) y a A p q v w = absurd v
-same_number (fin s m e) nan a A p q v w = absurd w
-same_number (fin s m e) (inf t) a A p q v w = absurd w
-same_number (fin s zero e) (fin t n g) a A p q v w = absurd (no_value (up e) (2 ^ 1074) a (down e) A (down_pos e) v.1)
-same_number (fin s (suc m) e) (fin t zero g) a A p q v w = absurd (no_value (up g) (2 ^ 1074) a (down g) A (down_pos g) w.1)
-same_number (fin s (suc m) e) (fin t (suc n) g) a A p q v w =
-    let i = placed 1074 e (asked s m e p).1 in
-    let j = placed 1074 g (asked t n g q).1 in
-    let ei : a ≡ suc m * 2 ^ i.0 =
-    eq_of_mul-eq-mul_right (down e) (down_pos e) a (suc m * 2 ^ i.0) (sym v.1 ∙ multiple (suc m) (up e) (2 ^ 1074) (2 ^ i.0) (down e) i.1) in
-    let ej : a ≡ suc n * 2 ^ j.0 =
-    eq_of_mul-eq-mul_right (down g) (down_pos g) a (suc n * 2 ^ j.0) (sym w.1 ∙ multiple (suc n) (up g) (2 ^ 1074) (2 ^ j.0) (down g) j.1) in
-    let mn : suc m ≡ suc n = odd_pow (suc m) (suc n) i.0 j.0 (is_odd s m e p) (is_odd t n g q) (sym ei ∙ ej) in
-    let eg : e ≡ g =
-    exponent e g
-    (cross (suc m) (up e) (up g) (down e) (down g) a (2 ^ 1074) (zero-lt-suc m) (pow_pos 1074) v.1
-    (subst (λ (x : ℕ). x * up g * 2 ^ 1074 ≡ a * down g) (sym mn) w.1)) in
-    λ z. fin ((v.0 ∙ sym w.0) z) (mn z) (eg z)
 
 -- ---- over the numbers of the format
 
@@ -115,6 +47,9 @@ above-normal (fin false m e) S v h =
     (ap (λ (x : ℕ). m * up e * x) (sym (pow-add 2 1000 74)) ∙ v.1)
     (ltb-true (1 * 1 * down e) (m * up e * 2 ^ 1000) h) (pow_pos 74))
 
+no_value : (u l a d : ℕ) → 0 < a → 0 < d → 0 * u * l ≡ a * d → ⊥
+no_value u l a d A D h = omega (arith, mul-pos A D)
+
 -- z is S of the smallest values, and S * 2 ^ 1074 is the rounded square of the a of them that y is
 root_is : (y z : Float) (a S : ℕ) → T (fits binary64 y) → T (fits binary64 z) → HasValue y false a (2 ^ 1074) → HasValue z false S (2 ^ 1074) → 0 < S
     → Squared a (S * 2 ^ 1074) → sqrt_of z ≡ y
@@ -129,7 +64,7 @@ root_is y (fin false (suc m) e) a S f g v w P s =
     let near : Nearer (S * 2 ^ 1074) r.root a = subst (λ (x : ℕ). Nearer (x * 2 ^ 1074) r.root a) same (r.nearest y a f v) in
     let back =
     root-back a (S * 2 ^ 1074) r.root s (digits_of y false a f v).digits (digits_of (sqrt_of z) false r.root r.fit r.is).digits near in
-    same_number (sqrt_of z) y a back.0 r.fit f (subst (λ (x : ℕ). HasValue (sqrt_of z) false x (2 ^ 1074)) back.1 r.is) v
+    worth-one (sqrt_of z) y false a (2 ^ 1074) (pow_pos 1074) r.fit f (subst (λ (x : ℕ). HasValue (sqrt_of z) false x (2 ^ 1074)) back.1 r.is) v
 
 finite-at : (x : Float) → is_finite x ≡ true → T (finite x)
 unfolding is_finite

@@ -4,8 +4,7 @@ use mathlib.Core.Bool.{Bool, true, false, not}
 use mathlib.Core.List.{List}
 use Prim.Native.Nat.{ℕ, ◌-◌, ◌*◌, ◌≤◌}
 use native.Mathlib.Omega.{arith}
-use borrow.Author.Tests.{eqb-true, leb-true, ltb-true, not-false}
-use lib.Dec.{ltb}
+use borrow.Author.Tests.{eqb-true, leb-true, not-false}
 use lib.ListN.{length}
 use lib.Ieee.{Float, nan}
 use borrow.Rule.Slice.PartMut.{mid_of}
@@ -27,6 +26,7 @@ use Rattle.checks.specs.Finite.{finite_at}
 use Rattle.checks.proofs.Answers.{first-refuses, second-decides}
 use Rattle.checks.proofs.Bytes.{bytes-paired}
 use Rattle.model.proofs.Every.{first-all}
+use Rattle.model.proofs.Order.{sound-inside}
 use Rattle.solve.specs.Call.{solve_leaves, SubstitutePre}
 
 -- ---- refusals 1 and 25
@@ -137,8 +137,9 @@ module _ (ncol nrow : ℕ) (f : Factor) (vector : List Float) (k : Check) (e : k
           blocks = all-lengths.blocks;
           order = all-lengths.order;
           paired = rw all-lengths.blocks at (bytes-paired f.blocks bytes-sound);
-          rows = λ i o. let sound : order_sound (naturals f.order) ncol i ≡ true = first-all (order_sound (naturals f.order) ncol) order_at ncol i rows-sound o in
-              omega (arith, all-lengths.right, ltb-true (naturals f.order i) ncol (and_left (ltb (naturals f.order i) ncol) _ sound));
+          rows = λ i o.
+              let order = naturals f.order in
+              omega (arith, all-lengths.right, sound-inside order ncol i (first-all (order_sound order ncol) order_at ncol i rows-sound o));
         })
 
     pub solve-done : (n : ℕ) (new : List Float) → n ≡ ncol → length new ≡ length vector

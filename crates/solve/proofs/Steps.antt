@@ -15,7 +15,7 @@ use Rattle.model.specs.Kept.{Paired}
 use Rattle.model.specs.Solve.{Factor, forward_at, forward_from, divided, back_at, back_from, substituted, ordered, returned_from, solution_of}
 use Rattle.model.proofs.Cases.{test}
 use Rattle.model.proofs.Terms.{earlier-there, later-there}
-use Rattle.forward.proofs.Together.{part_in}
+use Rattle.kernels.proofs.Laws.{with_part-in}
 use Rattle.solve.specs.Call.{through_factor, SubstitutePre}
 
 -- the same at the first n places
@@ -28,7 +28,7 @@ agree-put n k f g v w h e i o = test (eqb i k) (λ t. rw t e) (λ t. rw t (h i o
 
 -- what a step writes at the first n places
 part-agree : (n : ℕ) (f N : Row) → Agree n (with_part f 0 n N) N
-part-agree n f N i o = part_in f N 0 n i (omega arith) o
+part-agree n f N i o = with_part-in f 0 n N i (omega arith) o
 
 module _ (n : ℕ) (D : Diagonals) (l : Mat) (w : Paired n D.blocks) where
   forward-agree : (m k : ℕ) (y z : Row) → k + m ≤ n → Agree n y z → Agree n (forward_from D.blocks l m k y) (forward_from D.blocks l m k z)
@@ -83,7 +83,7 @@ pub lists-solve : (f : Factor) (len n m p : ℕ) (b c y0 y1 y2 : Row) → Substi
 lists-solve f len n m p b c y0 y1 y2 w e1 em e2 ep e3 =
     steps-solve n (diagonals_of f.d f.sub f.blocks) (view n f.panel) (naturals f.order) b c y0 y1 y2 w.paired e1 (rw em at e2) (rw ep at e3)
 
-pub through : (D : Diagonals) (gs : List Float) (n m p : ℕ) (x y z v : Row) → y ≡ forward_from D.blocks (view n gs) n 0 x → m ≡ n → z ≡ with_part y 0 m (divided D y)
-    → p ≡ n → v ≡ back_from D.blocks (view p gs) p p z → v ≡ through_factor n D (view n gs) x
+pub through : (D : Diagonals) (gs : List Float) (n m p : ℕ) (x y z v : Row) → y ≡ forward_from D.blocks (view n gs) n 0 x → m ≡ n
+    → z ≡ with_part y 0 m (divided D y) → p ≡ n → v ≡ back_from D.blocks (view p gs) p p z → v ≡ through_factor n D (view n gs) x
 unfolding through_factor
 through D gs n m p x y z v e1 em e2 ep e3 = e3 ∙ rw (ep, e2, em, e1)

@@ -1,6 +1,7 @@
-// Solve at a root node: the right side is taken in the recorded order, goes forward through L, is divided by D, goes back
-// through L, and is put back in the order of the rows. A reader may rely on `solve` answering any arguments: it refuses
-// and writes nothing, or the vector holds what the rounded steps of the definition make of it (model, specs/Solve.antt).
+// Solve at a root node: the right side is taken in the recorded order, goes forward through L, is divided by D, goes
+// back through L, and is put back in the order of the rows. A reader may rely on `solve` answering any arguments: it
+// refuses and writes nothing, or the vector holds what the rounded steps of the definition make of it (model,
+// specs/Solve.antt).
 #![tactic(auto)]
 
 ghost use Rattle.std.specs.Prelude.{◌≡◌, true, length};

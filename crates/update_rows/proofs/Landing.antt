@@ -11,7 +11,7 @@ use Rattle.model.proofs.Cases.{and_left, and_right}
 use Rattle.kernels.specs.Rules.{behind}
 use Rattle.landing.specs.Rows.{lands_on}
 use Rattle.update_sums.specs.Acc.{weighed, acc_of, sums_of, from_row}
-use Rattle.update_sums.proofs.Numbers.{part_at}
+use Rattle.kernels.proofs.Laws.{with_part-in}
 use Rattle.update_rows.specs.Apply.{landing_acc, less_at, less_from, row_applied, rows_applied}
 use Rattle.update_rows.proofs.Less.{less-end}
 
@@ -49,7 +49,7 @@ unfolding behind from_row
 part-done places j nk lo hi a z acc sum A e g =
     g ∙ less-same places (λ r. sum (r - lo)) (λ r. A (nk + r)) j (hi - lo) lo a (λ r l m.
     ap (λ (u : Row). u (r - lo)) e
-    ∙ part_at acc 0 (nk + hi - (nk + lo)) (λ r. A (nk + lo + r)) (r - lo) (omega arith) (omega arith) ∙ ap A (omega arith))
+    ∙ with_part-in acc 0 (nk + hi - (nk + lo)) (λ r. A (nk + lo + r)) (r - lo) (omega arith) (omega arith) ∙ ap A (omega arith))
 
 -- ---- row c: b says whether it lands
 

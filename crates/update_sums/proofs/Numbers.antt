@@ -4,7 +4,7 @@ use mathlib.Core.Bool.{Bool, true, false}
 use mathlib.Core.List.{List}
 use Prim.Native.Nat.{ℕ, zero, suc, ◌+◌, ◌-◌, ◌*◌, ◌≤◌, ◌<◌}
 use native.Mathlib.Omega.{arith}
-use borrow.Author.Tests.{lt-ltb, le-leb, ltb-true, leb-true}
+use borrow.Author.Tests.{ltb-true, leb-true}
 use borrow.Rule.Slice.PartMut.{mid_of}
 use lib.Dec.{leb, ltb}
 use lib.ListN.{length, get_or, set}
@@ -17,7 +17,7 @@ use Rattle.model.proofs.Cases.{test, and_left, and_right}
 use Rattle.grid.specs.Rules.{column_of, RowsPre}
 use Rattle.kernels.specs.Rules.{zeroed, plus_times}
 use Rattle.grid.proofs.Laws.{col-in, view-read}
-use Rattle.kernels.proofs.Laws.{vec-set, with_part-past, with_part-step}
+use Rattle.kernels.proofs.Laws.{vec-set, with_part-in, with_part-past, with_part-step}
 use Rattle.grid.proofs.Parts.{column-at}
 use Rattle.checks.proofs.Bytes.{bytes-paired}
 use Rattle.model.specs.Update.{Descendant}
@@ -82,10 +82,6 @@ part_same f lo hi N O h =
     (λ t. rw t (h i (leb-true lo i (and_left (leb lo i) (ltb i hi) t)) (ltb-true i hi (and_right (leb lo i) (ltb i hi) t))))
     (λ t. rw t)
 
-pub part_at : (f : Row) (lo hi : ℕ) (N : Row) (i : ℕ) → lo ≤ i → i < hi → with_part f lo hi N i ≡ N i
-unfolding with_part
-part_at f lo hi N i l h = rw (le-leb lo i l, lt-ltb i hi h)
-
 -- a column's rows lo up to hi, as they are lent
 pub add-lent : (n : ℕ) (f g : Row) (panel : List Float) (s at lo hi : ℕ) (x : Float) → at ≡ column_start n s → hi ≤ n
     → g ≡ with_part f 0 (hi - lo) (plus_times f (vec (mid_of (lo + at) (hi + at - (lo + at)) panel)) x)
@@ -141,7 +137,7 @@ module _ (k : Descendant) (i lo hi : ℕ) where
       p ∙ part_same g 0 (hi - lo) _ (λ t. sums_of k (s + 1) i (lo + t)) (λ t z l.
       rw (w, sums-one k s i (lo + t))
       (ap (λ (y : Float). y ⊕ matrix_of k (lo + t) s ⊗ weights_of k i s)
-      (ap (λ (q : Row). q t) e ∙ part_at f 0 (hi - lo) (λ r. sums_of k s i (lo + r)) t z l)))
+      (ap (λ (q : Row). q t) e ∙ with_part-in f 0 (hi - lo) (λ r. sums_of k s i (lo + r)) t z l)))
       ∙ rw e (part-over f 0 (hi - lo) _ _)
 
   pub sums-two : (f g h : Row) (pair : ℕ) (x y : Float) → x ≡ weights_of k i (2 * pair) → y ≡ weights_of k i (2 * pair + 1)

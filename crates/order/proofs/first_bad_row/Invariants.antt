@@ -1,5 +1,5 @@
--- `order::first_bad_row` meets its contract. The invariant: the rows that the positions before k name are marked, and the scan from k on finds what the whole scan
--- finds. Assumes nothing.
+-- `order::first_bad_row` meets its contract. The invariant: the rows that the positions before k name are marked, and the scan from k on finds what the whole
+-- scan finds. Assumes nothing.
 use Prim.Native.Nat.{◌-◌}
 use mathlib.Core.Path.{◌≡◌}
 use lib.ListN.{length}

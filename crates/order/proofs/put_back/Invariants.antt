@@ -8,4 +8,5 @@ use Rattle.order.proofs.put_back.Given as goal
 
 abbrev pub invariant-loop-k : goal.invariant-loop-k
 invariant-loop-k l =
-    returned_from (naturals l.order) (vec l.y) (length l.y - l.k) l.k (vec l.vector) ≡ returned_from (naturals l.order) (vec l.y) (length l.y) 0 (vec l.initial.vector)
+    returned_from (naturals l.order) (vec l.y) (length l.y - l.k) l.k (vec l.vector)
+    ≡ returned_from (naturals l.order) (vec l.y) (length l.y) 0 (vec l.initial.vector)
