@@ -20,7 +20,7 @@ cross x y a c p q l C g h =
     let three : y * c * (l * p) ≡ y * l * p * c = simp (mul_assoc, mul_comm, mul_left_comm) in
     eq_of_mul-eq-mul_right c C (x * l * q) (y * l * p) (one ∙ ap (λ (z : ℕ). z * (l * q)) g ∙ two ∙ ap (λ (z : ℕ). z * (l * p)) (sym h) ∙ three)
 
--- they have the same bits
+-- two numbers of the same worth have the same bits
 same-bits : (x y : Float) (s : Bool) (a c : ℕ) → 0 < c → HasValue x s a c → HasValue y s a c → to_bits binary64 x ≡ to_bits binary64 y
 unfolding to_bits
 same-bits nan y s a c C v w = absurd v
@@ -33,12 +33,12 @@ same-bits (fin t m e) (fin u n g) s a c C v w =
     let whole : m * up e * l / down e ≡ n * up g * l / down g = div_same (m * up e * l) (down e) (n * up g * l) (down g) (down_pos e) (down_pos g) across in
     rw (v.0, w.0, whole)
 
--- two numbers of the format that are worth the same are the same
+-- and are the same, if both are of the format
 pub worth-one : (x y : Float) (s : Bool) (a c : ℕ) → 0 < c → T (fits binary64 x) → T (fits binary64 y) → HasValue x s a c → HasValue y s a c → x ≡ y
 worth-one x y s a c C f g v w =
     sym (of_bits-to_bits binary64 x f) ∙ ap (of_bits binary64) (same-bits x y s a c C v w) ∙ of_bits-to_bits binary64 y g
 
--- it is its worth, rounded
+-- a number of the format other than zero is its worth, rounded
 pub round-own : (s : Bool) (m : ℕ) (e : ℤ) → T (fits binary64 (fin s (suc m) e)) → round binary64 s (suc m * up e) (down e) ≡ fin s (suc m) e
 round-own s m e f =
     let a = asked s m e f in

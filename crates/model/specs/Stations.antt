@@ -178,7 +178,7 @@ zero_diagonal = 0 ∷ one ∷ 0 ∷ 0 ∷ []
 abbrev exchanging : List ℕ
 exchanging = one ∷ two ∷ 0 ∷ eight ∷ []
 
--- three of them
+-- a one, and a zero, at each of three places
 abbrev ones : List ℕ
 ones = replicate 3 one
 
