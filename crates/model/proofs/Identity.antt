@@ -22,7 +22,8 @@ use Rattle.model.proofs.Every.{first-all}
 use Rattle.model.proofs.Order.{sound-inside, sound-apart, returned-at}
 use Rattle.model.proofs.Entry.{first-sound, second-sound}
 use Rattle.model.proofs.Tabulated.{get_d_tabulate}
-use Rattle.model.proofs.Zeros.{Zero, zero-is, zero-times, less-zero, finite-factors, finite-terms}
+use Rattle.model.proofs.Finite.{finite-factors, finite-terms}
+use Rattle.model.proofs.Zeros.{Zero, zero-is, zero-times, less-zero}
 use Rattle.model.proofs.Zeros.{SameButSign, same-on, same-finite, same-equal, times-same, same-times, less-same}
 
 -- w is a number of the format, and v but for the sign of a zero

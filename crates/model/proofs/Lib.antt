@@ -7,6 +7,7 @@ pub mod Tabulated
 pub mod Every
 pub mod Exchanged
 pub mod Summed
+pub mod Finite
 pub mod Worth
 pub mod Zeros
 pub mod Terms

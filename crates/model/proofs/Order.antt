@@ -9,7 +9,8 @@ use lib.Dec.{ltb, eqb}
 use Rattle.model.specs.Matrix.{Row, put}
 use Rattle.model.specs.Assembly.{first_not}
 use Rattle.model.specs.Solve.{named, order_sound, order_at, returned_from}
-use Rattle.model.proofs.Cases.{test, yes, and_left, and_right}
+use Rattle.std.proofs.Math.Bool.{or-true}
+use Rattle.model.proofs.Cases.{test, and_left, and_right}
 
 -- ---- the test of a position
 
@@ -18,7 +19,7 @@ unfolding named
 named-there f zero j r h e = absurd (omega arith)
 named-there f (suc k) j r h e =
     test (eqb j k)
-    (λ t. rw (eq-eqb (f k) r (ap f (sym (eqb-true j k t)) ∙ e)) (yes (named f k r)))
+    (λ t. rw (eq-eqb (f k) r (ap f (sym (eqb-true j k t)) ∙ e)) (or-true (named f k r)))
     (λ t. rw (named-there f k j r (omega (arith, eqb-false j k t)) e))
 
 -- what a sound position says: it names one of the n rows, and none that an earlier position names

@@ -2,7 +2,7 @@
 -- are the same is the same, each time but for the sign of a zero. Assumes nothing.
 use mathlib.Core.Path.{◌≡◌, refl, sym, ◌∙◌, ap, subst}
 use mathlib.Core.Logic.{◌⊎◌, inl, inr}
-use mathlib.Core.Bool.{Bool, true, false, true≢false, cond, not, ◌||◌, beq}
+use mathlib.Core.Bool.{Bool, true, false, true≢false, not, ◌||◌, beq}
 use Prim.Native.Nat.{ℕ, zero, suc, ◌*◌, ◌^◌, ◌<◌}
 use native.Mathlib.Nat.{zero-lt-suc, zero-mul, mul-zero, mul-pos, mul_assoc, mul_left_comm, mul_comm}
 use native.Mathlib.Omega.{arith}
@@ -14,7 +14,9 @@ use lib.Ieee.Exact.{HasValue, round_exact}
 use lib.Ieee.Fits.{up_pos, down_pos}
 use lib.Ieee.Scale.{round_same}
 use Rattle.model.specs.Scalar.{◌⊖◌, ◌⊗◌, zero_f, is_finite}
-use Rattle.model.proofs.Cases.{yes, and_left}
+use Rattle.std.proofs.Math.Bool.{or-true}
+use Rattle.model.proofs.Cases.{and_left}
+use Rattle.model.proofs.Finite.{finite-factors}
 use Rattle.model.proofs.Worth.{round-own}
 
 -- ---- zeros
@@ -45,22 +47,6 @@ round-nothing s a c C z =
     (round_exact binary64 s a c 0 0 C (omega arith) (omega arith) (ap (λ (x : ℕ). x * 2 ^ 1074) z ∙ zero-mul (2 ^ 1074) ∙ sym (zero-mul c)))
 
 -- ---- products
-
--- neither of two values is finite
-neither : (b : Bool) (x y : Float) → is_finite x ≡ false → is_finite y ≡ false → is_finite (cond b x y) ≡ true → ⊥
-neither true x y f g h = true≢false (sym h ∙ f)
-neither false x y f g h = true≢false (sym h ∙ g)
-
--- both factors of a finite product are finite
-pub finite-factors : (x y : Float) → is_finite (x ⊗ y) ≡ true → (is_finite x ≡ true) × (is_finite y ≡ true)
-unfolding mul is_finite
-finite-factors nan y h = absurd (true≢false (sym h))
-finite-factors (inf s) nan h = absurd (true≢false (sym h))
-finite-factors (inf s) (inf t) h = absurd (true≢false (sym h))
-finite-factors (inf s) (fin t n d) h = absurd (neither (eqb n 0) nan (inf (unlike s t)) refl refl h)
-finite-factors (fin s m e) nan h = absurd (true≢false (sym h))
-finite-factors (fin s m e) (inf t) h = absurd (neither (eqb m 0) nan (inf (unlike s t)) refl refl h)
-finite-factors (fin s m e) (fin t n d) h = (refl, refl)
 
 -- two factors, one of them without digits
 product-nothing : (s t : Bool) (m n : ℕ) (e d : ℤ) → m * up e * (n * up d) ≡ 0 → Zero (fin s m e ⊗ fin t n d)
@@ -174,17 +160,6 @@ pub same-finite : (x y : Float) → SameButSign x y → is_finite x ≡ true →
 same-finite x y (inl e) h = ap is_finite (sym e) ∙ h
 same-finite x y (inr w) h = zero-finite y w.1
 
--- both terms of a finite difference are finite
-pub finite-terms : (x y : Float) → is_finite (x ⊖ y) ≡ true → (is_finite x ≡ true) × (is_finite y ≡ true)
-unfolding sub neg add is_finite
-finite-terms nan y h = absurd (true≢false (sym h))
-finite-terms (inf s) nan h = absurd (true≢false (sym h))
-finite-terms (inf s) (inf t) h = absurd (neither (beq s (not t)) (inf s) nan refl refl h)
-finite-terms (inf s) (fin t n d) h = absurd (true≢false (sym h))
-finite-terms (fin s m e) nan h = absurd (true≢false (sym h))
-finite-terms (fin s m e) (inf t) h = absurd (true≢false (sym h))
-finite-terms (fin s m e) (fin t n d) h = (refl, refl)
-
 pub times-same : (x y r : Float) → SameButSign x y → is_finite (x ⊗ r) ≡ true → SameButSign (x ⊗ r) (y ⊗ r)
 times-same x y r (inl e) h = inl (ap (λ (v : Float). v ⊗ r) e)
 times-same x y r (inr w) h = let g = (finite-factors x r h).1 in inr (zero-times x r w.0 g, zero-times y r w.1 g)
@@ -223,7 +198,7 @@ zeros-equal nan y g h = absurd g
 zeros-equal (inf s) y g h = absurd g
 zeros-equal (fin s m e) nan g h = absurd h
 zeros-equal (fin s m e) (inf t) g h = absurd h
-zeros-equal (fin s m e) (fin t n d) g h = rw (nothing m (up e) (down d) g, nothing n (up d) (down e) h) (yes (beq s t))
+zeros-equal (fin s m e) (fin t n d) g h = rw (nothing m (up e) (down d) g, nothing n (up d) (down e) h) (or-true (beq s t))
 
 pub same-equal : (x y : Float) → SameButSign x y → is_finite x ≡ true → eq y x ≡ true
 same-equal x y (inl e) h = rw (sym e) (equal-itself x h)

@@ -1,49 +1,24 @@
 -- Laws of a sum that is finite: then so is each of its terms; and of the loops that add. Assumes nothing.
 use Prim.Native.Nat.{ℕ, zero, suc, ◌+◌, ◌-◌, ◌*◌, ◌/◌, ◌%◌, ◌<◌, ◌≤◌}
 use mathlib.Core.Path.{◌≡◌, refl, sym, ◌∙◌, ap}
-use mathlib.Core.Bool.{true, false}
+use mathlib.Core.Bool.{true}
 use mathlib.Core.List.{List, ◌++◌}
 use native.Mathlib.Omega.{arith}
 use borrow.Author.Tests.{lt-ltb, le-ltb, ltb-true, ltb-false, eqb-true, eqb-false}
 use borrow.Rule.Slice.PartMut.{mid_of}
 use lib.Dec.{ltb, eqb}
 use lib.ListN.{length, get_or, take, drop}
-use lib.Ieee.{Float, nan, inf, fin, add}
+use lib.Ieee.{Float, nan}
 use Rattle.model.specs.Scalar.{◌⊕◌, zero_f, is_finite}
 use Rattle.model.specs.Matrix.{Row, column_start, view, vec}
 use Rattle.model.specs.Panel.{sum_from}
 use Rattle.model.proofs.Cases.{test, one_left, none_left}
+use Rattle.model.proofs.Finite.{plus-l, plus-r}
 use Rattle.model.proofs.Summed.{sum_same}
 use Rattle.std.proofs.lemmas.List.{length-append, length-drop, get_or-drop, get_or-append-add, get_or_append_left, take_all}
 use Rattle.grid.proofs.Parts.{column-at}
 use Rattle.kernels.proofs.Parts.{mid-count}
 use Rattle.total.specs.Finite.{every_second, sixteen, long_sum, sum_of, column_sum}
-
--- ---- two terms
-
-plus-l : (x y : Float) → is_finite (x ⊕ y) ≡ true → is_finite x ≡ true
-unfolding add is_finite
-plus-l nan y e = e
-plus-l (inf s) nan e = e
-plus-l (inf true) (inf true) e = e
-plus-l (inf true) (inf false) e = e
-plus-l (inf false) (inf true) e = e
-plus-l (inf false) (inf false) e = e
-plus-l (inf s) (fin t n d) e = e
-plus-l (fin s m d) y e = refl
-
-plus-r : (x y : Float) → is_finite (x ⊕ y) ≡ true → is_finite y ≡ true
-unfolding add is_finite
-plus-r nan nan e = e
-plus-r (inf s) nan e = e
-plus-r (fin s m d) nan e = e
-plus-r nan (inf t) e = e
-plus-r (inf true) (inf true) e = e
-plus-r (inf true) (inf false) e = e
-plus-r (inf false) (inf true) e = e
-plus-r (inf false) (inf false) e = e
-plus-r (fin s m d) (inf t) e = e
-plus-r x (fin t n d) e = refl
 
 -- ---- a running sum: what it begins with, a term, other terms; its loop's begin, a turn, the end
 
