@@ -80,6 +80,7 @@
 #include <stdbool.h>
 #include <stddef.h>
 #include <stdint.h>
+#include <string.h>
 
 #ifdef __cplusplus
 extern "C" {
@@ -244,9 +245,18 @@ struct misuktaan_outcome misuktaan_solve(
 /* Whether x is neither a not-a-number nor an infinity. */
 bool misuktaan_is_finite(double x);
 
-/* x with its sign cleared, that of a zero too. Of a not-a-number it is promised that the result is one, and no more:
- * its sign and its other bits may be any. */
-double misuktaan_magnitude(double x);
+/* The bits of a number with the sign's, bit 63, cleared and every other kept; those of a not-a-number likewise. */
+uint64_t misuktaan_magnitude_bits(uint64_t bits);
+
+/* x with its sign cleared, that of a zero too. A not-a-number, signalling or not, loses its sign and keeps its payload. */
+static inline double misuktaan_magnitude(double x)
+{
+    uint64_t bits;
+    memcpy(&bits, &x, sizeof bits);
+    bits = misuktaan_magnitude_bits(bits);
+    memcpy(&x, &bits, sizeof x);
+    return x;
+}
 
 /* x * x, rounded once. */
 double misuktaan_square(double x);

@@ -125,6 +125,8 @@ pub enum Case {
     Inertia(Inertia),
     Solve(Solve),
     Leaf(Leaf),
+    /// The magnitude of any bits.
+    Magnitude(u64),
 }
 
 /// A refusal: its number and its place.
@@ -151,6 +153,7 @@ pub enum Answer {
     Vector(Vec<f64>),
     Counts([usize; 3]),
     Number(f64),
+    Bits(u64),
 }
 
 /// The names of a factor call's lent buffers, in the order of their lengths.

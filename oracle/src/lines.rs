@@ -1,7 +1,7 @@
 //! Cases and answers as text, one to a line: a word, then `name=value` fields.
 //! Numbers are 16 hexadecimal digits of their bits, every not-a-number
-//! 7FF8000000000000; lists are joined by commas, a descendant's parts by
-//! slashes. README.md has the fields of each word.
+//! 7FF8000000000000; bits are those digits as they are. Lists are joined by commas,
+//! a descendant's parts by slashes. README.md has the fields of each word.
 
 use crate::case::*;
 use std::collections::HashMap;
@@ -14,9 +14,13 @@ fn hex(x: f64) -> String {
     format!("{bits:016X}")
 }
 
-fn number(text: &str) -> Result<f64, String> {
+fn bits(text: &str) -> Result<u64, String> {
     let bits = u64::from_str_radix(text, 16).ok().filter(|_| text.len() == 16);
-    bits.map(f64::from_bits).ok_or_else(|| format!("{text}: not 16 hexadecimal digits"))
+    bits.ok_or_else(|| format!("{text}: not 16 hexadecimal digits"))
+}
+
+fn number(text: &str) -> Result<f64, String> {
+    bits(text).map(f64::from_bits)
 }
 
 fn count<T: std::str::FromStr>(text: &str) -> Result<T, String> {
@@ -178,6 +182,7 @@ pub fn case(line: &str) -> Result<Case, String> {
             a: f.get("a", number)?,
             b: f.get("b", number)?,
         }),
+        "magnitude" => Case::Magnitude(f.get("bits", bits)?),
         other => return Err(format!("{other}: no kind of case")),
     })
 }
@@ -229,6 +234,7 @@ pub fn case_text(case: &Case) -> String {
             format!("solve {sizes} panel={panel} d={d} sub={sub} blocks={blocks} order={order} vector={vector}")
         }
         Case::Leaf(l) => format!("leaf name={} a={} b={}", l.name, hex(l.a), hex(l.b)),
+        Case::Magnitude(bits) => format!("magnitude bits={bits:016X}"),
     }
 }
 
@@ -255,5 +261,6 @@ pub fn answer_text(answer: &Answer) -> String {
         Answer::Vector(vector) => format!("vector={}", numbers(vector)),
         Answer::Counts(c) => format!("inertia={}", counts(c)),
         Answer::Number(x) => format!("number={}", hex(*x)),
+        Answer::Bits(bits) => format!("bits={bits:016X}"),
     }
 }

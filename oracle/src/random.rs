@@ -411,6 +411,12 @@ fn leaf(rng: &mut Rng) -> Leaf {
     Leaf { name: name.to_string(), a, b }
 }
 
+/// Bits of anything, every other time of a not-a-number or an infinity.
+fn any_bits(rng: &mut Rng) -> u64 {
+    let bits = rng.next();
+    if rng.once_in(2) { bits | 0x7FF << 52 } else { bits }
+}
+
 /// A case of the kind that a word names.
 pub fn case(rng: &mut Rng, kind: &str, bounds: Bounds) -> Option<Case> {
     Some(match kind {
@@ -421,6 +427,7 @@ pub fn case(rng: &mut Rng, kind: &str, bounds: Bounds) -> Option<Case> {
         "inertia" => Case::Inertia(inertia(rng, bounds)),
         "solve" => Case::Solve(solve(rng, bounds)),
         "leaf" => Case::Leaf(leaf(rng)),
+        "magnitude" => Case::Magnitude(any_bits(rng)),
         _ => return None,
     })
 }

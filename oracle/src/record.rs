@@ -20,10 +20,13 @@ const ROOM_COLUMNS: usize = 130;
 const ROOM_ROWS: usize = 1_026;
 const ROOM_GLOBAL_ROWS: usize = 1_024;
 
-const CALLS: [&str; 5] = ["factor", "inertia", "assembly", "update", "solve"];
+const KINDS: usize = 6;
 
-/// What is counted of each call. Each has to be met.
-const OUTCOMES: [&str; 5] = [
+/// The five calls, and a leaf.
+const CALLS: [&str; KINDS] = ["factor", "inertia", "assembly", "update", "solve", "magnitude"];
+
+/// What is counted of each. Each has to be met.
+const OUTCOMES: [&str; KINDS] = [
     "accepted in Fail/accepted in Lift/with blocks/with an exchange/with lifts/with rounds/with two rounds or more/\
      with marks/with several panels/with tail rows/refused 1/refused 2/refused 3/refused 4/refused 5/refused 6/\
      refused 7/refused 8/refused 9/refused 23/refused 24",
@@ -31,20 +34,21 @@ const OUTCOMES: [&str; 5] = [
     "done/refused 10/refused 11/refused 12",
     "done/done, no landing/refused 13/refused 14/refused 15/refused 16/refused 17/refused 18",
     "solved/with blocks/in another order/not finite in the end/refused 1/refused 16/refused 25/refused 26/refused 27",
+    "with a sign/of a number/of an infinity/of a quiet not-a-number/of a signalling not-a-number",
 ];
 
 const TITLE: &str = "Answers of the reference, and of solve as oracle/src/solve.rs restates it, recorded by";
 
 const LEGEND: &str = "\
-Of each call the stations, the telling cases of oracle/src/telling.rs and systems.rs and cases at the bounds come first,
+Of each the stations, the telling cases of oracle/src/telling.rs and systems.rs and cases at the bounds come first,
 then random ones, the larger last. `oracle/record SEED COUNT CALL NUMBER` prints one case, counted from 0, as a line of
 the oracle's with its answer.
 
-Little-endian. A count is a u16, a number the u64 of its bits (every not-a-number 7FF8000000000000), a global row a
-u32, any other row or column a count, a byte a byte; a list stands without its length.
+Little-endian. A count is a u16, a number the u64 of its bits (every not-a-number 7FF8000000000000), bits a u64 as they
+are, a global row a u32, any other row or column a count, a byte a byte; a list stands without its length.
 
-file      'replay 1'; the Adler-32 of what follows, a u32; the counts of cases of factor, inertia, assembly, update and
-          solve; the cases in that order
+file      'replay 1'; the Adler-32 of what follows, a u32; the counts of cases of factor, inertia, assembly, update,
+          solve and magnitude; the cases in that order
 answer    counts: the refusal's number (0: none), its place A, B, rounds, positive, negative, zero
 factor    answer; counts ncol nrow nb limit; count 1 for Lift, 0 for Fail; the floor, a number; the lengths of input,
           panel, d, subdiagonal, block bytes, lift bytes, amounts, order, marks, working buffer; the input. If it is
@@ -57,6 +61,7 @@ update    answer; counts ncol nrow nk mk; the target's first row; the lengths of
           panel, d, subdiagonal, block bytes, rows; the seven lists; the panel as it is left
 solve     answer; counts ncol nrow; the lengths of panel, d, subdiagonal, block bytes, order, vector; the six lists; the
           vector as it is left
+magnitude bits; those of the magnitude. No answer before them: the leaf refuses nothing
 ";
 
 fn main() {
@@ -103,7 +108,7 @@ fn hand_made() -> Vec<Case> {
 }
 
 /// So many small cases, six of ten of them factor calls; more of what is rare among them; some larger ones; a tenth as
-/// many systems.
+/// many systems, and as many bits.
 fn random_cases(all: &mut Recorded, rng: &mut Rng, count: usize) {
     let few = [("inertia", SMALL), ("assembly", NEIGHBOURS), ("update", NEIGHBOURS), ("update", NEIGHBOURS)];
     for i in 0..count {
@@ -119,6 +124,7 @@ fn random_cases(all: &mut Recorded, rng: &mut Rng, count: usize) {
     (0..3).for_each(|_| all.add(&such("with several panels", || large(rng))));
     all.add(&such("with several panels", || widest(rng)));
     solves(all, rng, count / 10);
+    (0..count / 10).for_each(|_| all.add(&random_case(rng, "magnitude", SMALL)));
 }
 
 /// So many small systems, and some larger ones.
@@ -343,7 +349,11 @@ impl Bytes {
 
     fn numbers(&mut self, all: &[f64]) {
         let bits = |x: &f64| if x.is_nan() { 0x7FF8_0000_0000_0000 } else { x.to_bits() };
-        self.0.extend(all.iter().flat_map(|x| bits(x).to_le_bytes()));
+        self.bits(&all.iter().map(bits).collect::<Vec<_>>());
+    }
+
+    fn bits(&mut self, all: &[u64]) {
+        self.0.extend(all.iter().flat_map(|x| x.to_le_bytes()));
     }
 
     fn bytes(&mut self, all: &[u8]) {
@@ -458,14 +468,26 @@ fn solve(to: &mut Bytes, s: &Solve, of: &Answer) {
     to.numbers(left(&s.vector, of));
 }
 
+fn call_of(to: &mut Bytes, case: &Case, of: &Answer) {
+    answer(to, of);
+    match case {
+        Case::Factor(f) => factor(to, f, of),
+        Case::Inertia(i) => inertia(to, i),
+        Case::Assembly(a) => assembly(to, a, of),
+        Case::Update(u) => update(to, u, of),
+        Case::Solve(s) => solve(to, s, of),
+        _ => unreachable!(),
+    }
+}
+
 // ---- what is recorded
 
 #[derive(Default)]
 struct Recorded<'a> {
-    cases: [usize; 5],
-    bytes: [Bytes; 5],
+    cases: [usize; KINDS],
+    bytes: [Bytes; KINDS],
     /// By call, how often each outcome was met.
-    met: [BTreeMap<String, usize>; 5],
+    met: [BTreeMap<String, usize>; KINDS],
     /// The case to print.
     asked: Option<(&'a str, usize)>,
 }
@@ -479,20 +501,15 @@ impl Recorded<'_> {
             Case::Assembly(_) => 2,
             Case::Update(_) => 3,
             Case::Solve(_) => 4,
+            Case::Magnitude(_) => 5,
             _ => unreachable!(),
         };
         if self.asked == Some((CALLS[call], self.cases[call])) {
             println!("{} => {}", lines::case_text(case), lines::answer_text(&of));
         }
-        let to = &mut self.bytes[call];
-        answer(to, &of);
-        match case {
-            Case::Factor(f) => factor(to, f, &of),
-            Case::Inertia(i) => inertia(to, i),
-            Case::Assembly(a) => assembly(to, a, &of),
-            Case::Update(u) => update(to, u, &of),
-            Case::Solve(s) => solve(to, s, &of),
-            _ => unreachable!(),
+        match (case, &of) {
+            (Case::Magnitude(bits), Answer::Bits(cleared)) => self.bytes[call].bits(&[*bits, *cleared]),
+            _ => call_of(&mut self.bytes[call], case, &of),
         }
         self.cases[call] += 1;
         for name in outcome(case, &of) {
@@ -558,6 +575,18 @@ fn outcome(case: &Case, of: &Answer) -> Vec<String> {
         }
         (Case::Update(u), _) if !lands(u) => vec!["done, no landing".to_string()],
         (Case::Inertia(_), _) => vec!["counts".to_string()],
+        (Case::Magnitude(bits), _) => {
+            let x = f64::from_bits(*bits);
+            let quiet = bits >> 51 & 1 == 1;
+            let met = [
+                (x.is_sign_negative(), "with a sign"),
+                (x.is_finite(), "of a number"),
+                (x.is_infinite(), "of an infinity"),
+                (x.is_nan() && quiet, "of a quiet not-a-number"),
+                (x.is_nan() && !quiet, "of a signalling not-a-number"),
+            ];
+            met.into_iter().filter(|m| m.0).map(|m| m.1.to_string()).collect()
+        }
         _ => vec!["done".to_string()],
     }
 }

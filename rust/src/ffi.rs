@@ -19,7 +19,7 @@ pub struct Outcome {
 // take and give numbers alone, so any call of them is sound.
 unsafe extern "C" {
     pub safe fn misuktaan_is_finite(x: f64) -> bool;
-    pub safe fn misuktaan_magnitude(x: f64) -> f64;
+    pub safe fn misuktaan_magnitude_bits(bits: u64) -> u64;
     pub safe fn misuktaan_square(x: f64) -> f64;
     pub safe fn misuktaan_maximum(a: f64, b: f64) -> f64;
     pub safe fn misuktaan_reciprocal(x: f64) -> f64;

@@ -15,9 +15,14 @@ pub fn is_finite(x: f64) -> bool {
     ffi::misuktaan_is_finite(x)
 }
 
-/// x with its sign cleared.
+/// The bits of a number with the sign's, bit 63, cleared and every other kept; those of a not-a-number likewise.
+pub fn magnitude_bits(bits: u64) -> u64 {
+    ffi::misuktaan_magnitude_bits(bits)
+}
+
+/// x with its sign cleared, that of a zero too. A not-a-number, signalling or not, loses its sign and keeps its payload.
 pub fn magnitude(x: f64) -> f64 {
-    ffi::misuktaan_magnitude(x)
+    f64::from_bits(magnitude_bits(x.to_bits()))
 }
 
 /// x * x, rounded once.

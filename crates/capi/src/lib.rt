@@ -1,12 +1,14 @@
 // The C interface, as include/misuktaan.h declares it. Every function is exported under its own name, which begins
 // `misuktaan_`, and asks nothing of its caller. A slice is a pointer and a length.
-// The leaves are those of crates scalar and square_root, each equal to its definition in model's specs at every number.
+// The leaves are those of crates scalar and square_root, each equal to its definition in model's specs at every number,
+// or at all bits.
 // The five calls answer by numbers what model's `factor_of`, `inertia_of`, `assembly_of`, `update_of` and `solve_of`
 // say, and leave the buffers so.
 #![tactic(auto)]
 
 ghost use Rattle.std.specs.Prelude.{◌≡◌};
-ghost use Rattle.model.specs.Scalar.{is_finite, magnitude_of, square_of, maximum_of, reciprocal_of, lift_of};
+ghost use Rattle.model.specs.Bits.{magnitude_bits_of};
+ghost use Rattle.model.specs.Scalar.{is_finite, square_of, maximum_of, reciprocal_of, lift_of};
 ghost use Rattle.model.specs.Root.{sqrt_of};
 ghost use Rattle.model.specs.Factor.{factor_of};
 ghost use Rattle.model.specs.Inertia.{inertia_of};
@@ -36,12 +38,13 @@ pub extern "C" fn misuktaan_is_finite(x: f64) -> bool
     scalar::is_finite(x)
 }
 
-// x with its sign cleared; of a not-a-number a not-a-number, whose sign and other bits no contract can name.
+// The bits of a magnitude, a not-a-number's too. C and Rust have the bits of every number at hand, and make their
+// magnitude of an f64 of this; no contract here could name a not-a-number's.
 #[unsafe(no_mangle)]
-pub extern "C" fn misuktaan_magnitude(x: f64) -> f64
-    ensures { result ≡ magnitude_of x }
+pub extern "C" fn misuktaan_magnitude_bits(bits: u64) -> u64
+    ensures { result ≡ magnitude_bits_of bits }
 {
-    scalar::magnitude(x)
+    scalar::magnitude_bits(bits)
 }
 
 // x * x, rounded once.

@@ -1,5 +1,6 @@
 -- What a reader must believe, lowest first.
 pub mod Scalar
+pub mod Bits
 pub mod Root
 pub mod Matrix
 pub mod Choice

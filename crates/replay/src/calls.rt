@@ -316,3 +316,14 @@ pub(crate) fn solve_case(answers: &mut Answers) -> bool {
     let answer = solve::solve(n.ncol, n.nrow, factor, vector);
     list_same(answers, recorded, answer, vector)
 }
+
+// ---- magnitude
+
+// That of bits, which is recorded, and that of the number that they are of.
+pub(crate) fn magnitude_case(answers: &mut Answers) -> bool {
+    let bits = answers.bits();
+    let recorded = answers.bits();
+    let of_number = scalar::magnitude(little_endian::number_of(bits));
+    let wanted = little_endian::number_of(recorded);
+    (scalar::magnitude_bits(bits) == recorded) & (of_number.bits() == wanted.bits())
+}

@@ -84,7 +84,7 @@ impl Answers {
         u32::from_le_bytes(self.bytes())
     }
 
-    fn bits(&mut self) -> u64 {
+    pub(crate) fn bits(&mut self) -> u64 {
         u64::from_le_bytes(self.bytes())
     }
 

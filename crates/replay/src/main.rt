@@ -1,10 +1,10 @@
-// Replays recorded answers on the five calls and prints how many differ: those of the Rust, and for solve, which the
-// Rust does not have for one node, those of the oracle's restatement. A case differs if the answer's number, place,
-// rounds or counts do, or the bits of a buffer. data/answers has the cases; data/LEGEND says what made them, what they
-// meet and how they are written.
+// Replays recorded answers on the five calls and the leaf magnitude, and prints how many differ: those of the Rust, and
+// for solve, which the Rust does not have for one node, those of the oracle's restatement. A case differs if the
+// answer's number, place, rounds or counts do, or the bits of a buffer; one of the magnitude, if its bits do.
+// data/answers has the cases; data/LEGEND says what made them, what they meet and how they are written.
 // Proved is that the program is safe and ends. What stands in a file no contract can say: the run is the test.
 // Nothing of it is public: what one module has of another is the crate's own, pub(crate).
-// file.rt reads lists and holds buffers to them, calls.rt has one function a call, sum.rt the checksum by which a
+// file.rt reads lists and holds buffers to them, calls.rt has one function for each of the six, sum.rt the checksum by which a
 // damaged or short file is noticed.
 #![tactic(auto)]
 
@@ -22,7 +22,7 @@ fn say<P: Print>(out: &P, name: &[u8], number: usize, what: &[u8]) {
     let _ = out.write_all(what);
 }
 
-// So many cases of a call. `same` says whether the next one is answered as recorded.
+// So many cases of one. `same` says whether the next one is answered as recorded.
 fn replay<P: Print, F: Fn(&mut Answers) -> bool>(
     out: &P,
     answers: &mut Answers,
@@ -52,11 +52,13 @@ fn replay_all<P: Print>(out: &P, answers: &mut Answers) {
     let assemblies = answers.count();
     let updates = answers.count();
     let solves = answers.count();
+    let magnitudes = answers.count();
     replay(out, answers, b"factor", factors, calls::factor_case);
     replay(out, answers, b"inertia", inertias, calls::inertia_case);
     replay(out, answers, b"assembly", assemblies, calls::assembly_case);
     replay(out, answers, b"update", updates, calls::update_case);
     replay(out, answers, b"solve", solves, calls::solve_case);
+    replay(out, answers, b"magnitude", magnitudes, calls::magnitude_case);
 }
 
 fn main(rt: HostRuntime) {

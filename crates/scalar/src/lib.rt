@@ -1,9 +1,10 @@
 // Leaves: functions of one or two f64 numbers, each equal to its definition in model's specs/Scalar.antt at every
-// number: not-a-numbers, infinities, zeros of either sign and subnormals too. No caller owes anything. The square root
-// is a crate of its own, square_root.
+// number: not-a-numbers, infinities, zeros of either sign and subnormals too; and one of a number's bits, equal to that
+// in specs/Bits.antt. No caller owes anything. The square root is a crate of its own, square_root.
 #![tactic(auto)]
 
 ghost use Rattle.std.specs.Prelude.{◌≡◌};
+ghost use Rattle.model.specs.Bits.{magnitude_bits_of};
 ghost use Rattle.model.specs.Scalar.{is_finite, magnitude_of, square_of, maximum_of, reciprocal_of, lift_of};
 
 // Neither a not-a-number nor an infinity.
@@ -18,7 +19,15 @@ pub fn is_finite(x: f64) -> bool
     false
 }
 
-// x with its sign cleared, that of a zero too.
+// The sign's bit cleared, every other bit kept: a not-a-number's too, signalling or not.
+pub fn magnitude_bits(bits: u64) -> u64
+    ensures { result ≡ magnitude_bits_of bits }
+{
+    bits & !(1 << 63)
+}
+
+// x with its sign cleared, that of a zero too. A not-a-number has no bits that the language speaks of, and is given
+// back. No jump comes of that: the compiled code selects, here and wherever the leaf is laid in (tests/no-jump).
 // origin: src/scalar.rs, fn magnitude
 pub fn magnitude(x: f64) -> f64
     ensures { result ≡ magnitude_of x }
@@ -26,7 +35,7 @@ pub fn magnitude(x: f64) -> f64
     if x != x {
         return x;
     }
-    f64::from_bits(f64::to_bits(x) % 0x8000_0000_0000_0000)
+    f64::from_bits(magnitude_bits(f64::to_bits(x)))
 }
 
 // origin: src/scalar.rs, fn magnitude_sq

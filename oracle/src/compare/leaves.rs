@@ -1,6 +1,6 @@
-//! The library's leaves beside the reference's, by bits, all not-a-numbers as
-//! one. Left out: the maximum of two zeros of unlike sign. Rust leaves open
-//! which it is; the port's definition says the first.
+//! The library's leaves beside the reference's, by bits; but for the magnitude
+//! all not-a-numbers count as one. Left out: the maximum of two zeros of unlike
+//! sign. Rust leaves open which it is; the port's definition says the first.
 
 mod counts;
 
@@ -25,12 +25,21 @@ fn as_number(b: bool) -> f64 {
     f64::from(u8::from(b))
 }
 
-const ONES: [One; 5] = [
+const ONES: [One; 4] = [
     ("is_finite", |x| as_number(leaves::is_finite(x)), |x| as_number(x.is_finite())),
-    ("magnitude", leaves::magnitude, |x| reference("magnitude", x, 0.0)),
     ("square", leaves::square, |x| reference("square", x, 0.0)),
     ("reciprocal", leaves::reciprocal, |x| reference("reciprocal", x, 0.0)),
     ("sqrt", leaves::sqrt, |x| reference("sqrt", x, 0.0)),
+];
+
+/// Those that say which bits a not-a-number has.
+const EXACT: [One; 2] = [
+    ("magnitude", leaves::magnitude, |x| reference("magnitude", x, 0.0)),
+    (
+        "magnitude_bits",
+        |x| f64::from_bits(leaves::magnitude_bits(x.to_bits())),
+        |x| reference("magnitude", x, 0.0),
+    ),
 ];
 
 // a lift's second number is its floor
@@ -113,13 +122,22 @@ fn same(a: f64, b: f64) -> bool {
     a.to_bits() == b.to_bits() || (a.is_nan() && b.is_nan())
 }
 
-fn one(counts: &mut Counts, x: f64) {
-    for (name, ours, theirs) in ONES {
+fn exactly_same(a: f64, b: f64) -> bool {
+    a.to_bits() == b.to_bits()
+}
+
+fn each(counts: &mut Counts, x: f64, leaves: &[One], same: fn(f64, f64) -> bool) {
+    for (name, ours, theirs) in leaves {
         let (got, must) = (ours(x), theirs(x));
         let line =
             || format!("{name} of {:016X}: {:016X}, must be {:016X}", x.to_bits(), got.to_bits(), must.to_bits());
         counts.add(same(got, must), line);
     }
+}
+
+fn one(counts: &mut Counts, x: f64) {
+    each(counts, x, &ONES, same);
+    each(counts, x, &EXACT, exactly_same);
 }
 
 fn two(counts: &mut Counts, a: f64, b: f64) {

@@ -1,0 +1,19 @@
+-- A leaf on the bits of a number, from docs/SCOPE.md, "The leaves". Bit i is worth 2 ^ i, and bit 63 is the sign's. Every natural below 2 ^ 64 is the bits of
+-- a number, an infinity, or a not-a-number of some sign and payload. `ClearsTheSign` is the law; proofs/Bits.antt proves it. Definitions only. Assumes nothing.
+use Rattle.std.specs.Prelude.{◌≡◌, ℕ, ◌%◌, ◌^◌, ◌<◌}
+use Rattle.std.specs.Int.{bit_at}
+use lib.Ieee.{binary64, of_bits}
+use Rattle.model.specs.Scalar.{magnitude_of}
+
+-- 'magnitude of bits': the 63 below the sign's, a not-a-number's too
+abbrev pub magnitude_bits_of : ℕ → ℕ
+magnitude_bits_of bits = bits % 2 ^ 63
+
+-- the sign's bit is 0, every other is what it was, and what the bits stand for is the magnitude of what they stood for
+pub record SignCleared (bits cleared : ℕ) : Type 0 where
+  pub sign : bit_at cleared 63 ≡ 0
+  pub others : (i : ℕ) → i < 63 → bit_at cleared i ≡ bit_at bits i
+  pub number : of_bits binary64 cleared ≡ magnitude_of (of_bits binary64 bits)
+
+abbrev pub ClearsTheSign : Type 0
+ClearsTheSign = (bits : ℕ) → SignCleared bits (magnitude_bits_of bits)
