@@ -35,11 +35,7 @@ const ONES: [One; 4] = [
 /// Those that say which bits a not-a-number has.
 const EXACT: [One; 2] = [
     ("magnitude", leaves::magnitude, |x| reference("magnitude", x, 0.0)),
-    (
-        "magnitude_bits",
-        |x| f64::from_bits(leaves::magnitude_bits(x.to_bits())),
-        |x| reference("magnitude", x, 0.0),
-    ),
+    ("magnitude_bits", |x| f64::from_bits(leaves::magnitude_bits(x.to_bits())), |x| reference("magnitude", x, 0.0)),
 ];
 
 // a lift's second number is its floor
