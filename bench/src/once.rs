@@ -64,7 +64,7 @@ pub fn calls() {
         factor(shape, panel);
     }
     leaf("is_finite", panel, leaves::is_finite);
-    leaf("magnitude", panel, leaves::magnitude);
+    leaf("magnitude_bits", panel, |x| leaves::magnitude_bits(x.to_bits()));
     leaf("square", panel, leaves::square);
     leaf("maximum", panel, |x| leaves::maximum(x, 0.5));
     leaf("reciprocal", panel, leaves::reciprocal);

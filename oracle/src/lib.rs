@@ -3,6 +3,7 @@
 
 pub mod case;
 pub mod lines;
+pub mod magnitude;
 pub mod random;
 pub mod readings;
 pub mod rules;

@@ -1,7 +1,7 @@
 //! The oracle's program. README.md says how to run it and what its lines hold.
 
 use oracle::random::{self, Bounds, Rng};
-use oracle::{lines, readings, rules, systems, telling};
+use oracle::{lines, magnitude, readings, rules, systems, telling};
 use std::io::{BufRead, BufWriter, Write};
 
 const USAGE: &str = "usage: oracle answer < CASES
@@ -88,10 +88,11 @@ fn named(all: Vec<(String, oracle::case::Case)>) -> Done {
     Ok(())
 }
 
-/// How many of the telling cases each wrong reading of solve answers otherwise: not one is told by none.
+/// How many of the telling cases each wrong reading of solve, and of the magnitude, answers otherwise: not one is told
+/// by none.
 fn readings() -> Done {
     let cases: Vec<_> = systems::telling().into_iter().map(|(_, case)| case).collect();
-    let (told, mut to) = (readings::told(&cases), out());
+    let (told, mut to) = ([readings::told(&cases), magnitude::told()].concat(), out());
     for (name, cases) in &told {
         write_line(&mut to, &format!("{cases:3} {name}"))?;
     }

@@ -414,7 +414,11 @@ fn leaf(rng: &mut Rng) -> Leaf {
 /// Bits of anything, every other time of a not-a-number or an infinity.
 fn any_bits(rng: &mut Rng) -> u64 {
     let bits = rng.next();
-    if rng.once_in(2) { bits | 0x7FF << 52 } else { bits }
+    if rng.once_in(2) {
+        bits | 0x7FF << 52
+    } else {
+        bits
+    }
 }
 
 /// A case of the kind that a word names.

@@ -3,7 +3,7 @@
 //! of its own. `answer` asks the Rust for everything else.
 
 use crate::case::*;
-use crate::solve;
+use crate::{magnitude, solve};
 use rslab::reach::{self, Factored, Ran, Stop};
 
 const MAX_COL: usize = 128;
@@ -33,14 +33,10 @@ pub fn answer(case: &Case) -> Answer {
         Case::Whole(w) => whole(w),
         Case::Inertia(i) => inertia(i).map(Answer::Counts),
         Case::Solve(s) => solve::AS_WRITTEN.answer(s).map(Answer::Vector),
-        Case::Leaf(l) => Ok(Answer::Number(leaf(&l.name, l.a, l.b))),
-        Case::Magnitude(bits) => Ok(Answer::Bits(leaf("magnitude", f64::from_bits(*bits), 0.0).to_bits())),
+        Case::Leaf(l) => Ok(Answer::Number(reach::leaf(&l.name, l.a, l.b).expect("no such leaf"))),
+        Case::Magnitude(bits) => Ok(Answer::Bits(magnitude::magnitude(*bits))),
     };
     answered.unwrap_or_else(Answer::Refused)
-}
-
-fn leaf(name: &str, a: f64, b: f64) -> f64 {
-    reach::leaf(name, a, b).expect("no such leaf")
 }
 
 // ---- the factor call

@@ -1,9 +1,9 @@
 //! Hand-made cases: the stations and corner cases of docs/SCOPE.md, "Stations",
 //! and cases that tell the reference from a wrong port of it. Those of solve are in
-//! `systems.rs`.
+//! `systems.rs`, those of the magnitude in `magnitude.rs`.
 
 use crate::case::*;
-use crate::systems;
+use crate::{magnitude, systems};
 
 type Named = (String, Case);
 
@@ -172,7 +172,8 @@ impl Stop {
 /// For each wrong port or reading that looks fine, cases that it answers otherwise.
 pub fn telling() -> Vec<Named> {
     let solves = systems::telling().into_iter().map(|(name, s)| (format!("solve: {name}"), Case::Solve(s)));
-    STOPS.iter().flat_map(Stop::named).chain(wrong_ports()).chain(MAGNITUDES.map(magnitude)).chain(solves).collect()
+    let magnitudes = magnitude::TELLING.map(|(name, bits)| (format!("magnitude: {name}"), Case::Magnitude(bits)));
+    STOPS.iter().flat_map(Stop::named).chain(wrong_ports()).chain(magnitudes).chain(solves).collect()
 }
 
 fn wrong_ports() -> Vec<Named> {
@@ -225,23 +226,6 @@ fn wrong_ports() -> Vec<Named> {
         update("acc from +0.0 in an update: -0 stays", &[5, 7], &[-0.0, -0.0], column(&[5, 7], &[0.0, -1.0], 1.0)),
         update("acc from +0.0 in an update, not from x", &[5], &[1.0], two_columns(5, tiny)),
     ]
-}
-
-/// Bits whose magnitude a wrong reading has otherwise.
-const MAGNITUDES: [(&str, u64); 9] = [
-    ("a not-a-number loses its sign", 0xFFF8_0000_0000_0000),
-    ("a not-a-number's payload stays", 0xFFF8_0000_0000_0ABC),
-    ("a not-a-number of no sign stays as it is", 0x7FFF_FFFF_FFFF_FFFF),
-    ("a signalling not-a-number is not made quiet", 0xFFF0_0000_0000_0001),
-    ("a zero loses its sign", 1 << 63),
-    ("an infinity loses its sign", 0xFFF0_0000_0000_0000),
-    ("the exponent's first bit stays", 0xC000_0000_0000_0000),
-    ("the last bit stays", 0x8000_0000_0000_0001),
-    ("a number of no sign gets none", 0x4008_0000_0000_0000),
-];
-
-fn magnitude((name, bits): (&str, u64)) -> Named {
-    (format!("magnitude: {name}"), Case::Magnitude(bits))
 }
 
 /// A descendant of two columns, d 1 and 1, with the same L in both at one row.

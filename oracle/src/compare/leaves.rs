@@ -6,6 +6,7 @@ mod counts;
 
 use counts::{Counts, Words};
 use misuktaan::leaves;
+use oracle::magnitude;
 use oracle::random::Rng;
 use rslab::reach;
 use std::hint::black_box;
@@ -184,6 +185,8 @@ fn time(f: impl Fn(f64) -> f64) -> f64 {
 }
 
 fn main() {
+    let untold: Vec<_> = magnitude::told().into_iter().filter(|of| of.1 == 0).collect();
+    assert!(untold.is_empty(), "no bits tell {untold:?}");
     let (words, seed) = Words::read();
     let mut counts = Counts::default();
     compare(&mut counts, seed, words.count(1, 10_000_000));
