@@ -248,7 +248,8 @@ bool misuktaan_is_finite(double x);
 /* The bits of a number with the sign's, bit 63, cleared and every other kept; those of a not-a-number likewise. */
 uint64_t misuktaan_magnitude_bits(uint64_t bits);
 
-/* x with its sign cleared, that of a zero too. A not-a-number, signalling or not, loses its sign and keeps its payload. */
+/* x with its sign cleared, that of a zero too. A not-a-number loses its sign and keeps its payload; a signalling one
+ * stays signalling. */
 static inline double misuktaan_magnitude(double x)
 {
     uint64_t bits;

@@ -1,7 +1,7 @@
 //! Records answers of the reference, and of solve as it is restated, for the program crates/replay, which replays them
 //! on the port: the stations, the telling cases, cases at the bounds, small random cases of the five calls and of the
-//! magnitude, and some larger ones. The legend that it writes has the file's format. Asked for a case by its call and number, it prints
-//! that case as a line instead.
+//! magnitude, and some larger ones. The legend that it writes has the file's format. Asked for a case by its call and
+//! number, it prints that case as a line instead.
 
 use oracle::case::*;
 use oracle::random::{self, Bounds, Rng};

@@ -20,7 +20,8 @@ pub fn magnitude_bits(bits: u64) -> u64 {
     ffi::misuktaan_magnitude_bits(bits)
 }
 
-/// x with its sign cleared, that of a zero too. A not-a-number, signalling or not, loses its sign and keeps its payload.
+/// x with its sign cleared, that of a zero too. A not-a-number loses its sign and keeps its payload; a signalling one
+/// stays signalling.
 pub fn magnitude(x: f64) -> f64 {
     f64::from_bits(magnitude_bits(x.to_bits()))
 }

@@ -1,5 +1,6 @@
 //! The magnitude and its bits, a not-a-number's too: the sign is cleared and every other bit kept, at all special bits
-//! and at ten million random ones. `tests/magnitude.c` has the same from C, and wrong answers that the special bits tell.
+//! and at ten million random ones. `tests/magnitude.c` has the same from C, with wrong answers that the special bits
+//! tell.
 
 use misuktaan::leaves;
 

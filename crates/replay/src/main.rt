@@ -4,8 +4,8 @@
 // data/answers has the cases; data/LEGEND says what made them, what they meet and how they are written.
 // Proved is that the program is safe and ends. What stands in a file no contract can say: the run is the test.
 // Nothing of it is public: what one module has of another is the crate's own, pub(crate).
-// file.rt reads lists and holds buffers to them, calls.rt has one function for each of the six, sum.rt the checksum by which a
-// damaged or short file is noticed.
+// file.rt reads lists and holds buffers to them, calls.rt has one function for each of the six, sum.rt the checksum by
+// which a damaged or short file is noticed.
 #![tactic(auto)]
 
 mod calls;
