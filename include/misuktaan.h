@@ -1,8 +1,8 @@
 /*
  * Misuktaan: the real f64 LDL^T factorization of one supernode (Bunch-Kaufman, blocked, with tail rows), its inertia,
- * assembly and update, and the solve of a root node. Every function here is proved to answer as the definitions in
- * crates/model/specs say, whatever numbers and lengths it is given. C11 or later, or C++11 or later; Linux on
- * x86-64 processors, from x86-64-v2 on.
+ * assembly and update, and the solve of a root node. Every function of the library is proved to answer as the
+ * definitions in crates/model/specs say, whatever numbers and lengths it is given; those few that are written out here
+ * are tested. C11 or later, or C++11 or later; Linux on x86-64 processors, from x86-64-v2 on.
  *
  * THE NODE. A node has ncol columns and nrow rows, ncol <= nrow. Its panel is column-major: row i of column j stands
  * at i + j * nrow. The head is rows 0 to ncol - 1, the tail the rest; a root node has no tail. Upper positions (row <
@@ -239,7 +239,7 @@ struct misuktaan_outcome misuktaan_solve(
 
 /*
  * ---- The leaves that the calls are made of, for tests and for those who compare. They refuse nothing.
- * A not-a-number that is worked out has any bits that are a not-a-number's.
+ * A not-a-number that is worked out has any bits that are a not-a-number's; only the magnitude's are promised.
  */
 
 /* Whether x is neither a not-a-number nor an infinity. */

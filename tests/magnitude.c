@@ -4,10 +4,11 @@
  * and, with each of the bits of a fraction by itself, what stands beside zero and beside infinity, which are all the
  * payloads of one bit, signalling and quiet; then ten million at random. No contract names a not-a-number's bits where
  * they are an f64's. Wrong answers, each in one thing, must be told from the right one by the special bits alone.
- * Prints `N passed, 0 failed`; exits 1 if a check failed.
+ * Prints the seed, the first wrong answer of each check that fails, and `N passed, 0 failed`; exits 1 if one failed.
  */
 #include "misuktaan.h"
 
+#include <inttypes.h>
 #include <stdio.h>
 #include <string.h>
 
@@ -32,12 +33,12 @@ static void check(bool ok, const char *what)
 
 /* ---- the bits */
 
-static uint64_t seed;
+enum { SEED = 1, RANDOM = 10000000 };
 
-static uint64_t random_bits(void)
+static uint64_t random_bits(uint64_t *state)
 {
-    seed += UINT64_C(0x9E3779B97F4A7C15);
-    uint64_t u = (seed ^ (seed >> 30)) * UINT64_C(0xBF58476D1CE4E5B9);
+    *state += UINT64_C(0x9E3779B97F4A7C15);
+    uint64_t u = (*state ^ (*state >> 30)) * UINT64_C(0xBF58476D1CE4E5B9);
     u = (u ^ (u >> 27)) * UINT64_C(0x94D049BB133111EB);
     return u ^ (u >> 31);
 }
@@ -49,35 +50,52 @@ static bool right(magnitude *of, uint64_t bits)
     return is >> 63 == 0 && is << 1 == bits << 1;
 }
 
-static size_t wrong_of_both_signs(magnitude *of, uint64_t bits)
+static bool right_of_both_signs(magnitude *of, uint64_t bits, uint64_t *at)
 {
-    return (size_t)!right(of, bits) + (size_t)!right(of, bits | SIGN);
+    *at = right(of, bits) ? bits | SIGN : bits;
+    return right(of, *at);
 }
 
-/* How many of the special bits have a wrong answer. */
-static size_t wrong_special(magnitude *of)
+/* Whether all special bits have the right answer. `at`: the last ones looked at, those of a wrong one. */
+static bool right_special(magnitude *of, uint64_t *at)
 {
     const uint64_t fractions[] = {0, 1, 2, MIDDLE - 1, MIDDLE, MIDDLE + 1, FRACTION - 1, FRACTION};
-    size_t wrong = 0;
     for (uint64_t exponent = 0; exponent <= INFINITY_BITS >> 52; exponent++) {
         for (size_t i = 0; i < sizeof fractions / sizeof *fractions; i++) {
-            wrong += wrong_of_both_signs(of, exponent << 52 | fractions[i]);
+            if (!right_of_both_signs(of, exponent << 52 | fractions[i], at)) {
+                return false;
+            }
         }
     }
     for (uint64_t bit = 1; bit <= FRACTION; bit <<= 1) {
-        wrong += wrong_of_both_signs(of, bit) + wrong_of_both_signs(of, INFINITY_BITS | bit);
+        if (!right_of_both_signs(of, bit, at) || !right_of_both_signs(of, INFINITY_BITS | bit, at)) {
+            return false;
+        }
     }
-    return wrong;
+    return true;
 }
 
-static size_t wrong_random(magnitude *of)
+static bool right_random(magnitude *of, uint64_t *at)
 {
-    size_t wrong = 0;
-    seed = 1;
-    for (size_t i = 0; i < 10000000; i++) {
-        wrong += (size_t)!right(of, random_bits());
+    uint64_t state = SEED;
+    for (size_t i = 0; i < RANDOM; i++) {
+        *at = random_bits(&state);
+        if (!right(of, *at)) {
+            return false;
+        }
     }
-    return wrong;
+    return true;
+}
+
+/* A check of one of the library's two over some bits. */
+static void all_right(bool (*over)(magnitude *, uint64_t *), magnitude *of, const char *what)
+{
+    uint64_t at;
+    bool ok = over(of, &at);
+    if (!ok) {
+        printf("%016" PRIX64 " has %016" PRIX64 "\n", at, of(at));
+    }
+    check(ok, what);
 }
 
 /* ---- the library's two */
@@ -96,9 +114,12 @@ static uint64_t bits_of(double x)
     return bits;
 }
 
+/* By way of memory: else the compiler would make no double of them. */
 static uint64_t by_number(uint64_t bits)
 {
-    return bits_of(misuktaan_magnitude(number_of(bits)));
+    volatile double x = number_of(bits);
+    volatile double y = misuktaan_magnitude(x);
+    return bits_of(y);
 }
 
 /* ---- wrong answers */
@@ -123,9 +144,9 @@ static uint64_t nan_made_one(uint64_t bits)
     return not_a_number(bits) ? INFINITY_BITS | MIDDLE : bits & ~SIGN;
 }
 
-static uint64_t below_zero_alone(uint64_t bits)
+static uint64_t zero_kept(uint64_t bits)
 {
-    return number_of(bits) < 0.0 ? bits & ~SIGN : bits;
+    return bits << 1 == 0 ? bits : bits & ~SIGN;
 }
 
 static uint64_t another_bit(uint64_t bits)
@@ -155,7 +176,7 @@ static const struct {
     {"a not-a-number keeps its sign", nan_kept},
     {"a signalling not-a-number is made quiet", nan_made_quiet},
     {"every not-a-number is made one", nan_made_one},
-    {"the sign of a zero stays", below_zero_alone},
+    {"a zero keeps its sign", zero_kept},
     {"the exponent's first bit for the sign's", another_bit},
     {"the exponent's first bit too", a_bit_more},
     {"the last bit too", odd_made_even},
@@ -164,12 +185,14 @@ static const struct {
 
 int main(void)
 {
-    check(wrong_special(misuktaan_magnitude_bits) == 0, "special bits");
-    check(wrong_random(misuktaan_magnitude_bits) == 0, "random bits");
-    check(wrong_special(by_number) == 0, "special numbers");
-    check(wrong_random(by_number) == 0, "random numbers");
+    printf("seed %d\n", SEED);
+    all_right(right_special, misuktaan_magnitude_bits, "special bits");
+    all_right(right_random, misuktaan_magnitude_bits, "random bits");
+    all_right(right_special, by_number, "special numbers");
+    all_right(right_random, by_number, "random numbers");
     for (size_t i = 0; i < sizeof wrong_answers / sizeof *wrong_answers; i++) {
-        check(wrong_special(wrong_answers[i].of) > 0, wrong_answers[i].what);
+        uint64_t at;
+        check(!right_special(wrong_answers[i].of, &at), wrong_answers[i].what);
     }
     printf("%zu passed, %zu failed\n", passed, failed);
     return failed == 0 ? 0 : 1;

@@ -38,7 +38,7 @@ const WRONG: [(&str, fn(u64) -> u64); 9] = [
     ("a not-a-number made quiet", |bits| of_nan(bits, bits & !SIGN | 1 << 51)),
     ("every not-a-number made one", |bits| of_nan(bits, 0x7FF8_0000_0000_0000)),
     ("a not-a-number's sign turned about", |bits| of_nan(bits, bits ^ SIGN)),
-    ("what is below zero turned about, a zero not", |bits| if f64::from_bits(bits) < 0.0 { bits ^ SIGN } else { bits }),
+    ("a zero kept as it is", |bits| if bits << 1 == 0 { bits } else { bits & !SIGN }),
     ("the exponent's first bit for the sign's", |bits| bits & !(1 << 62)),
     ("the exponent's first bit too", |bits| bits & !(3 << 62)),
     ("the last bit too", |bits| bits & !(SIGN | 1)),

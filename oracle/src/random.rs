@@ -411,14 +411,15 @@ fn leaf(rng: &mut Rng) -> Leaf {
     Leaf { name: name.to_string(), a, b }
 }
 
-/// Bits of anything, every other time of a not-a-number or an infinity.
+/// Any bits with either sign: now and then a zero's or an infinity's, and every third time or so a not-a-number's.
 fn any_bits(rng: &mut Rng) -> u64 {
-    let bits = rng.next();
-    if rng.once_in(2) {
-        bits | 0x7FF << 52
-    } else {
-        bits
-    }
+    let bits = match rng.within(0, 7) {
+        0 => 0,
+        1 => 0x7FF << 52,
+        2..=4 => rng.next() | 0x7FF << 52,
+        _ => rng.next(),
+    };
+    bits ^ (rng.next() & 1) << 63
 }
 
 /// A case of the kind that a word names.

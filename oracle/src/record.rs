@@ -22,7 +22,7 @@ const ROOM_GLOBAL_ROWS: usize = 1_024;
 
 const KINDS: usize = 6;
 
-/// The five calls, and a leaf.
+/// The five calls, and the leaf that is recorded too.
 const CALLS: [&str; KINDS] = ["factor", "inertia", "assembly", "update", "solve", "magnitude"];
 
 /// What is counted of each. Each has to be met.
@@ -34,15 +34,15 @@ const OUTCOMES: [&str; KINDS] = [
     "done/refused 10/refused 11/refused 12",
     "done/done, no landing/refused 13/refused 14/refused 15/refused 16/refused 17/refused 18",
     "solved/with blocks/in another order/not finite in the end/refused 1/refused 16/refused 25/refused 26/refused 27",
-    "with a sign/of a number/of an infinity/of a quiet not-a-number/of a signalling not-a-number",
+    "with a sign/of a zero/of another number/of an infinity/of a quiet not-a-number/of a signalling not-a-number",
 ];
 
 const TITLE: &str = "Answers of the reference, and of solve as oracle/src/solve.rs restates it, recorded by";
 
 const LEGEND: &str = "\
-Of each the stations, the telling cases of oracle/src/telling.rs and systems.rs and cases at the bounds come first,
-then random ones, the larger last. `oracle/record SEED COUNT CALL NUMBER` prints one case, counted from 0, as a line of
-the oracle's with its answer.
+Of each call the stations, the telling cases of oracle/src/telling.rs and systems.rs and cases at the bounds come first,
+of the magnitude the bits of magnitude.rs beside them; then random ones, the larger last. `oracle/record SEED COUNT CALL
+NUMBER` prints one case, counted from 0, as a line of the oracle's with its answer.
 
 Little-endian. A count is a u16, a number the u64 of its bits (every not-a-number 7FF8000000000000), bits a u64 as they
 are, a global row a u32, any other row or column a count, a byte a byte; a list stands without its length.
@@ -468,6 +468,7 @@ fn solve(to: &mut Bytes, s: &Solve, of: &Answer) {
     to.numbers(left(&s.vector, of));
 }
 
+/// A call's answer, what it was given, and what it left.
 fn call_of(to: &mut Bytes, case: &Case, of: &Answer) {
     answer(to, of);
     match case {
@@ -562,7 +563,7 @@ fn outcome(case: &Case, of: &Answer) -> Vec<String> {
                 (s.ncol < s.nrow, "with tail rows"),
                 (!factored.order.is_sorted(), "with an exchange"),
             ];
-            met.into_iter().filter(|m| m.0).map(|m| m.1.to_string()).collect()
+            names(&met)
         }
         (Case::Solve(s), Answer::Vector(vector)) => {
             let met = [
@@ -571,24 +572,32 @@ fn outcome(case: &Case, of: &Answer) -> Vec<String> {
                 (!s.order.is_sorted(), "in another order"),
                 (vector.iter().any(|x| !x.is_finite()), "not finite in the end"),
             ];
-            met.into_iter().filter(|m| m.0).map(|m| m.1.to_string()).collect()
+            names(&met)
         }
         (Case::Update(u), _) if !lands(u) => vec!["done, no landing".to_string()],
         (Case::Inertia(_), _) => vec!["counts".to_string()],
-        (Case::Magnitude(bits), _) => {
-            let x = f64::from_bits(*bits);
-            let quiet = bits >> 51 & 1 == 1;
-            let met = [
-                (x.is_sign_negative(), "with a sign"),
-                (x.is_finite(), "of a number"),
-                (x.is_infinite(), "of an infinity"),
-                (x.is_nan() && quiet, "of a quiet not-a-number"),
-                (x.is_nan() && !quiet, "of a signalling not-a-number"),
-            ];
-            met.into_iter().filter(|m| m.0).map(|m| m.1.to_string()).collect()
-        }
+        (Case::Magnitude(bits), _) => bits_met(*bits),
         _ => vec!["done".to_string()],
     }
+}
+
+/// What a magnitude is of.
+fn bits_met(bits: u64) -> Vec<String> {
+    let x = f64::from_bits(bits);
+    let quiet = bits >> 51 & 1 == 1;
+    names(&[
+        (x.is_sign_negative(), "with a sign"),
+        (x == 0.0, "of a zero"),
+        (x.is_finite() && x != 0.0, "of another number"),
+        (x.is_infinite(), "of an infinity"),
+        (x.is_nan() && quiet, "of a quiet not-a-number"),
+        (x.is_nan() && !quiet, "of a signalling not-a-number"),
+    ])
+}
+
+/// The names of what was met.
+fn names(met: &[(bool, &str)]) -> Vec<String> {
+    met.iter().filter(|m| m.0).map(|m| m.1.to_string()).collect()
 }
 
 fn lands(u: &Update) -> bool {

@@ -1,11 +1,13 @@
 //! The leaves that the calls are made of, for tests and for those who compare. They refuse nothing. A not-a-number
-//! that is worked out has any bits that are a not-a-number's.
+//! that is worked out has any bits that are a not-a-number's; only the magnitude's are promised.
 //!
 //! ```
 //! use misuktaan::leaves;
 //!
 //! assert_eq!(leaves::sqrt(2.0), 2.0_f64.sqrt());
 //! assert_eq!(leaves::lift(0.5, -0.25), -0.5);
+//! let lost = f64::from_bits(0xFFF0_0000_0000_0007);
+//! assert_eq!(leaves::magnitude(lost).to_bits(), 0x7FF0_0000_0000_0007);
 //! ```
 
 use crate::ffi;

@@ -35,10 +35,3 @@ fn at_random_bits() {
         cleared(seed ^ seed >> 29);
     }
 }
-
-/// A signalling not-a-number with a payload stays one; -0.0 becomes 0.0.
-#[test]
-fn of_a_lost_reading() {
-    assert_eq!(leaves::magnitude(f64::from_bits(0xFFF0_0000_0000_0007)).to_bits(), 0x7FF0_0000_0000_0007);
-    assert_eq!(leaves::magnitude(-0.0).to_bits(), 0);
-}

@@ -5,15 +5,16 @@ use Rattle.std.specs.Int.{bit_at}
 use lib.Ieee.{binary64, of_bits}
 use Rattle.model.specs.Scalar.{magnitude_of}
 
--- 'magnitude of bits': the 63 below the sign's, a not-a-number's too
+-- 'magnitude of bits': the 63 below the sign's. −0 becomes +0; a not-a-number keeps its payload, and a signalling one stays signalling
 abbrev pub magnitude_bits_of : ℕ → ℕ
 magnitude_bits_of bits = bits % 2 ^ 63
 
--- the sign's bit is 0, every other is what it was, and what the bits stand for is the magnitude of what they stood for
+-- bit 63 is 0, the 63 below it are what they were, and what the bits stand for is the magnitude of what they stood for
 pub record SignCleared (bits cleared : ℕ) : Type 0 where
   pub sign : bit_at cleared 63 ≡ 0
   pub others : (i : ℕ) → i < 63 → bit_at cleared i ≡ bit_at bits i
   pub number : of_bits binary64 cleared ≡ magnitude_of (of_bits binary64 bits)
 
+-- of whatever bits, a not-a-number's too
 abbrev pub ClearsTheSign : Type 0
 ClearsTheSign = (bits : ℕ) → SignCleared bits (magnitude_bits_of bits)

@@ -1,7 +1,7 @@
 // A case of each call: its lists are read, it is called with outputs that hold a known byte, and its answer and what it
-// leaves are held to what is recorded, to zeros or to that byte. All that the file has of a case is read, whatever the
-// port answers, so that the next case begins where it should. The room of a list x is of_x,
-// an array of the largest case's length, since there is no heap.
+// leaves are held to what is recorded, to zeros or to that byte. Last a case of the leaf magnitude: bits, and what they
+// must become. All that the file has of a case is read, whatever the port answers, so that the next case begins where
+// it should. The room of a list x is of_x, an array of the largest case's length, since there is no heap.
 ghost use Rattle.std.specs.Prelude.{◌≡◌, length};
 
 use crate::file;
@@ -319,7 +319,8 @@ pub(crate) fn solve_case(answers: &mut Answers) -> bool {
 
 // ---- magnitude
 
-// That of bits, which is recorded, and that of the number that they are of.
+// Of bits every bit is held to what is recorded; of the number that they stand for, any not-a-number is as good as
+// another.
 pub(crate) fn magnitude_case(answers: &mut Answers) -> bool {
     let bits = answers.bits();
     let recorded = answers.bits();

@@ -22,7 +22,7 @@ fn say<P: Print>(out: &P, name: &[u8], number: usize, what: &[u8]) {
     let _ = out.write_all(what);
 }
 
-// So many cases of one. `same` says whether the next one is answered as recorded.
+// So many cases of a call, or of the leaf. `same` says whether the next one is answered as recorded.
 fn replay<P: Print, F: Fn(&mut Answers) -> bool>(
     out: &P,
     answers: &mut Answers,
@@ -58,7 +58,13 @@ fn replay_all<P: Print>(out: &P, answers: &mut Answers) {
     replay(out, answers, b"assembly", assemblies, calls::assembly_case);
     replay(out, answers, b"update", updates, calls::update_case);
     replay(out, answers, b"solve", solves, calls::solve_case);
-    replay(out, answers, b"magnitude", magnitudes, calls::magnitude_case);
+    replay(
+        out,
+        answers,
+        b"magnitude",
+        magnitudes,
+        calls::magnitude_case,
+    );
 }
 
 fn main(rt: HostRuntime) {

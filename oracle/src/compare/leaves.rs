@@ -33,11 +33,8 @@ const ONES: [One; 4] = [
     ("sqrt", leaves::sqrt, |x| reference("sqrt", x, 0.0)),
 ];
 
-/// Those that say which bits a not-a-number has.
-const EXACT: [One; 2] = [
-    ("magnitude", leaves::magnitude, |x| reference("magnitude", x, 0.0)),
-    ("magnitude_bits", |x| f64::from_bits(leaves::magnitude_bits(x.to_bits())), |x| reference("magnitude", x, 0.0)),
-];
+/// The one that says which bits a not-a-number has. It goes by `leaves::magnitude_bits`.
+const EXACT: [One; 1] = [("magnitude", leaves::magnitude, |x| reference("magnitude", x, 0.0))];
 
 // a lift's second number is its floor
 const TWOS: [Two; 2] = [
