@@ -7,8 +7,7 @@
 #![tactic(auto)]
 
 ghost use Rattle.std.specs.Prelude.{◌≡◌};
-ghost use Rattle.model.specs.Bits.{magnitude_bits_of};
-ghost use Rattle.model.specs.Scalar.{is_finite, square_of, maximum_of, reciprocal_of, lift_of};
+ghost use Rattle.model.specs.Scalar.{is_finite, magnitude_bits_of, square_of, maximum_of, reciprocal_of, lift_of};
 ghost use Rattle.model.specs.Root.{sqrt_of};
 ghost use Rattle.model.specs.Factor.{factor_of};
 ghost use Rattle.model.specs.Inertia.{inertia_of};

@@ -1,5 +1,6 @@
 -- Laws over the definitions, cited by the crates above.
 pub mod Cases
+pub mod Fields
 pub mod Bits
 pub mod Root
 pub mod Constants

@@ -1,13 +1,10 @@
--- A leaf on the bits of a number, from docs/SCOPE.md, "The leaves". Bit i is worth 2 ^ i, and bit 63 is the sign's. Every natural below 2 ^ 64 is the bits of
--- a number, an infinity, or a not-a-number of some sign and payload. `ClearsTheSign` is the law; proofs/Bits.antt proves it. Definitions only. Assumes nothing.
-use Rattle.std.specs.Prelude.{◌≡◌, ℕ, ◌%◌, ◌^◌, ◌<◌}
+-- What the magnitude does to each bit of a number, from docs/SCOPE.md, "The leaves". Bit i is worth 2 ^ i, and bit 63 is the sign's. Every natural below
+-- 2 ^ 64 is the bits of a number, an infinity, or a not-a-number of some sign and payload. `ClearsTheSign` is the statement; proofs/Bits.antt proves it.
+-- Definitions only. Assumes nothing.
+use Rattle.std.specs.Prelude.{◌≡◌, ℕ, ◌<◌}
 use Rattle.std.specs.Int.{bit_at}
 use lib.Ieee.{binary64, of_bits}
-use Rattle.model.specs.Scalar.{magnitude_of}
-
--- 'magnitude of bits': the 63 below the sign's. −0 becomes +0; a not-a-number keeps its payload, and a signalling one stays signalling
-abbrev pub magnitude_bits_of : ℕ → ℕ
-magnitude_bits_of bits = bits % 2 ^ 63
+use Rattle.model.specs.Scalar.{magnitude_of, magnitude_bits_of}
 
 -- bit 63 is 0, the 63 below it are what they were, and what the bits stand for is the magnitude of what they stood for
 pub record SignCleared (bits cleared : ℕ) : Type 0 where

@@ -1,7 +1,7 @@
 -- What a reader must believe, lowest first.
 pub mod Scalar
-pub mod Bits
 pub mod Root
+pub mod Bits
 pub mod Matrix
 pub mod Choice
 pub mod Step

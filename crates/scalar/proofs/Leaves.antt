@@ -6,9 +6,8 @@ use lib.Dec.{T}
 use lib.Ieee.{Float, nan, inf, fin, binary64, fits, is_nan, nan_bits, lt, ne, div, of_bits, to_bits}
 use lib.Ieee.Bits.{of_bits-to_bits, nan_bits_is}
 use lib.Ieee.Compare.{differs_from_itself}
-use Rattle.model.specs.Bits.{magnitude_bits_of}
-use Rattle.model.proofs.Bits.{clears-the-sign}
-use Rattle.model.specs.Scalar.{zero_f, is_finite, magnitude_of}
+use Rattle.model.proofs.Fields.{number-cleared}
+use Rattle.model.specs.Scalar.{zero_f, is_finite, magnitude_of, magnitude_bits_of}
 
 -- ---- a not-a-number differs from itself, and nothing else does
 
@@ -61,7 +60,7 @@ magnitude-is_nan (fin s m e) = refl
 
 module _ (x : Float) (bits : ℕ) (f : T (fits binary64 x)) (e : bits ≡ magnitude_bits_of (to_bits binary64 x)) where
   pub magnitude-by-bits : of_bits binary64 bits ≡ magnitude_of x
-  magnitude-by-bits = ap (of_bits binary64) e ∙ (clears-the-sign (to_bits binary64 x)).number ∙ ap magnitude_of (of_bits-to_bits binary64 x f)
+  magnitude-by-bits = ap (of_bits binary64) e ∙ number-cleared (to_bits binary64 x) ∙ ap magnitude_of (of_bits-to_bits binary64 x f)
 
   pub magnitude-no-nan : T (not (is_nan x)) → T (not (nan_bits binary64 bits))
   magnitude-no-nan t =

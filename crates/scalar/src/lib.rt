@@ -1,11 +1,10 @@
-// Leaves: functions of one or two f64 numbers, each equal to its definition in model's specs/Scalar.antt at every
-// number: not-a-numbers, infinities, zeros of either sign and subnormals too; and one of a number's bits, equal to that
-// in specs/Bits.antt. No caller owes anything. The square root is a crate of its own, square_root.
+// Leaves: functions of one or two f64 numbers, or of a number's bits, each equal to its definition in model's
+// specs/Scalar.antt at every number: not-a-numbers, infinities, zeros of either sign and subnormals too. No caller owes
+// anything. The square root is a crate of its own, square_root.
 #![tactic(auto)]
 
 ghost use Rattle.std.specs.Prelude.{◌≡◌};
-ghost use Rattle.model.specs.Bits.{magnitude_bits_of};
-ghost use Rattle.model.specs.Scalar.{is_finite, magnitude_of, square_of, maximum_of, reciprocal_of, lift_of};
+ghost use Rattle.model.specs.Scalar.{is_finite, magnitude_of, magnitude_bits_of, square_of, maximum_of, reciprocal_of, lift_of};
 
 // Neither a not-a-number nor an infinity.
 // origin: src/scalar.rs, fn is_finite
