@@ -4,7 +4,8 @@
 #![tactic(auto)]
 
 ghost use Rattle.std.specs.Prelude.{◌≡◌};
-ghost use Rattle.model.specs.Scalar.{is_finite, magnitude_of, magnitude_bits_of, square_of, maximum_of, reciprocal_of, lift_of};
+ghost use Rattle.model.specs.Scalar.{is_finite, magnitude_of, magnitude_bits_of, square_of};
+ghost use Rattle.model.specs.Scalar.{maximum_of, reciprocal_of, lift_of};
 
 // Neither a not-a-number nor an infinity.
 // origin: src/scalar.rs, fn is_finite
