@@ -9,7 +9,7 @@ ghost use Rattle.buffers.specs.Buffers.{in_order, begun_of};
 use model::LentBuffers;
 
 // Place i holds i.
-fn in_order(order: &mut [usize])
+pub fn in_order(order: &mut [usize])
     ensures { order.new ≡ in_order (length order.old) }
 {
     for (i, place) in order.iter_mut().enumerate() {

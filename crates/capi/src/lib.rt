@@ -2,8 +2,8 @@
 // `misuktaan_`, and asks nothing of its caller. A slice is a pointer and a length.
 // The leaves are those of crates scalar and square_root, each equal to its definition in model's specs at every number,
 // or at all bits.
-// The five calls answer by numbers what model's `factor_of`, `inertia_of`, `assembly_of`, `update_of` and `solve_of`
-// say, and leave the buffers so.
+// The seven calls answer by numbers what model's `factor_of`, `inertia_of`, `assembly_of`, `update_of`, `solve_of`,
+// `to_lapack_of` and `from_lapack_of` say, and leave the buffers so.
 #![tactic(auto)]
 
 ghost use Rattle.std.specs.Prelude.{◌≡◌};
@@ -14,12 +14,14 @@ ghost use Rattle.model.specs.Inertia.{inertia_of};
 ghost use Rattle.model.specs.Assembly.{assembly_of};
 ghost use Rattle.model.specs.Update.{update_of};
 ghost use Rattle.model.specs.Solve.{solve_of};
+ghost use Rattle.model.specs.Lapack.{to_lapack_of, from_lapack_of};
+ghost use Rattle.model.specs.ForthAndBack.{GivesAgain, GivesListAgain};
 ghost use Rattle.assembly.specs.Call.{entries_of};
 ghost use Rattle.landing.specs.Nodes.{target_of, descendant_of};
 ghost use Rattle.solve.specs.Call.{factors_of};
 ghost use Rattle.outcome.specs.Numbers.{inertia_numbers};
 ghost use Rattle.capi.specs.Left.{settings_of, FactorLeft, factor_left, PanelLeft, panel_left};
-ghost use Rattle.capi.specs.Left.{VectorLeft, vector_left};
+ghost use Rattle.capi.specs.Left.{VectorLeft, vector_left, ListLeft, list_left, OrderLeft, order_left};
 
 use assembly::Entries;
 use landing::{Descendant, Target};
@@ -258,4 +260,28 @@ pub extern "C" fn misuktaan_solve(
         order,
     };
     solve::solve(ncol, nrow, factor, vector).into()
+}
+
+// LAPACK's list of pivots for a head's order and block bytes, or refusal 1, 25, 26, 16 or 28 and nothing written. Of an
+// accepted list misuktaan_from_lapack makes order and bytes again.
+// in: ncol; order, the head's, and blocks, ncol each. out: list, ncol.
+#[unsafe(no_mangle)]
+pub extern "C" fn misuktaan_to_lapack(ncol: usize, order: &[usize], blocks: &[u8], list: &mut [i32]) -> Outcome
+    ensures left { ◌≡◌ {A = ListLeft} (record { outcome = result; list = list.new })
+        (list_left (to_lapack_of ncol order.now blocks.now list.old)) }
+    ensures again { result.number ≡ 0 → GivesAgain ncol order.now blocks.now list.new }
+{
+    lapack::to_lapack(ncol, order, blocks, list).into()
+}
+
+// The order and the block bytes that LAPACK's list of pivots stands for, or refusal 1, 25, 30 or 29 and nothing
+// written. Of those misuktaan_to_lapack makes an accepted list again.
+// in: ncol; list, ncol. out: order, blocks, ncol each.
+#[unsafe(no_mangle)]
+pub extern "C" fn misuktaan_from_lapack(ncol: usize, list: &[i32], order: &mut [usize], blocks: &mut [u8]) -> Outcome
+    ensures left { ◌≡◌ {A = OrderLeft} (record { outcome = result; order = order.new; blocks = blocks.new })
+        (order_left (from_lapack_of ncol list.now order.old blocks.old)) }
+    ensures again { result.number ≡ 0 → GivesListAgain ncol list.now order.new blocks.new }
+{
+    lapack::from_lapack(ncol, list, order, blocks).into()
 }

@@ -1,5 +1,5 @@
 -- Laws of the block bytes and of a pivot read off the lists, by the test that reads a byte. Assumes nothing.
-use mathlib.Core.Path.{◌≡◌, sym, ◌∙◌}
+use mathlib.Core.Path.{◌≡◌, sym, ◌∙◌, ap}
 use mathlib.Core.Bool.{Bool, true, false}
 use mathlib.Core.List.{List}
 use Prim.Native.Nat.{ℕ, ◌+◌, ◌-◌}
@@ -10,6 +10,8 @@ use lib.ListN.{get_or}
 use lib.Ieee.{Float, nan}
 use Rattle.model.specs.Matrix.{vec, naturals}
 use Rattle.model.specs.Step.{begins, ends_block, past_of, block_at, diagonal_at}
+use Rattle.std.specs.Int.{from_bool}
+use Rattle.model.specs.Head.{last_of}
 use Rattle.model.specs.declared.Block.{Block}
 use Rattle.model.specs.declared.Diagonal.TheVariants.{One, Two}
 
@@ -39,3 +41,10 @@ module _ (ds subs : List Float) (bs : List ℕ) (k : ℕ) (t : Bool) (e : t ≡ 
   pub one_at : t ≡ false → One (get_or ds k nan) ≡ diagonal_at (vec ds) (vec subs) (naturals bs) k
   unfolding diagonal_at vec
   one_at z = rw (sym e ∙ z)
+
+-- ---- the last column
+
+pub last_by : (k n : ℕ) (b : Bool) → n ≡ from_bool b → k + n ≡ last_of k b
+unfolding last_of
+last_by k n true e = ap (λ (i : ℕ). k + i) e
+last_by k n false e = omega (arith, e)

@@ -4,9 +4,11 @@
 #![tactic(auto)]
 
 ghost use Rattle.std.specs.Prelude.{◌≡◌, ◌+◌, ◌<◌, ◌≤◌, min, length};
+ghost use Rattle.model.specs.Sizes.{most_columns};
 ghost use Rattle.model.specs.Matrix.{vec, naturals};
 ghost use Rattle.model.specs.Step.{block_of, block_at, diagonal_at, begins, ends_block, past_of};
 ghost use Rattle.model.specs.Step.{is_block, first_number, last_number, under_number};
+ghost use Rattle.model.specs.Head.{last_of};
 ghost use Rattle.diagonal.specs.Diagonal.{BlockPre, PivotPre};
 
 use model::{Block, Diagonal, DiagonalLists, Elim};
@@ -92,6 +94,14 @@ pub fn past(blocks: &[u8], k: Elim) -> usize
         return k.0 + 2;
     }
     k.0 + 1
+}
+
+// The last column of a pivot at k.
+pub fn last_column(k: usize, block: bool) -> usize
+    requires { k < most_columns }
+    ensures { result ≡ last_of k block }
+{
+    k + usize::from(block)
 }
 
 // Of n columns the first that is past the pivots of columns k to k + 3, whichever of them are blocks, or the end.

@@ -17,7 +17,8 @@ use Rattle.model.specs.declared.Settings.{Settings}
 use Rattle.model.specs.declared.Refusal.{Refusal}
 use Rattle.std.specs.Prelude.{Ok, Err}
 use Rattle.model.proofs.Entry.{Passed, passed}
-use Rattle.model.proofs.Accepted.{AtEnd, Kept, head-kept, bytes-sound}
+use Rattle.model.proofs.Bytes.{bytes-sound}
+use Rattle.model.proofs.Accepted.{AtEnd, Kept, head-kept}
 use Rattle.whole.specs.Whole.{ended}
 use Rattle.whole.proofs.Result.{Reached, run-ended, reached-pivots}
 use Rattle.scan.specs.Marks.{tail_marks}

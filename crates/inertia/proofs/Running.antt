@@ -18,7 +18,7 @@ use Rattle.model.proofs.Past.{past-above}
 use Rattle.diagonal.specs.Diagonal.{PivotPre}
 use Rattle.inertia.specs.Count.{counted_of, TallyPre}
 use Rattle.model.specs.declared.Diagonal.{Diagonal}
-use Rattle.checks.proofs.Bytes.{bytes-paired}
+use Rattle.model.proofs.Bytes.{bytes-paired}
 
 -- ---- how many were counted
 

@@ -15,7 +15,7 @@ use Rattle.model.specs.Answer.{Check}
 use Rattle.model.specs.declared.Tally.{Tally}
 use Rattle.model.specs.declared.Refusal.{Refusal}
 use Rattle.scan.specs.Marks.{tail_marks}
-use Rattle.checks.proofs.Bytes.{bytes-paired}
+use Rattle.model.proofs.Bytes.{bytes-paired}
 use Rattle.buffers.specs.Buffers.{buffers_of}
 use Rattle.soundness.specs.Result.{ResultPre}
 use Rattle.judge.specs.Judge.{outcome_of, judge_of, JudgePre}

@@ -1,21 +1,20 @@
 -- What an accepted call may be relied on for: its order is a permutation that leaves the tail in place, and its block bytes are well formed, so that
 -- inertia and update never answer 16 to them. Assumes nothing.
 use mathlib.Core.Path.{◌≡◌, refl, sym, ◌∙◌, ap, subst}
-use mathlib.Core.Bool.{true}
 use mathlib.Core.List.{List}
 use Prim.Native.Nat.{ℕ, zero, suc, ◌+◌, ◌-◌, ◌≤◌, ◌<◌, min, max}
 use native.Mathlib.Omega.{arith}
-use borrow.Author.Tests.{le-leb, ne_eqb, eqb-true, ltb-true, ltb-false}
-use lib.Dec.{ltb, eqb}
+use borrow.Author.Tests.{ltb-true, ltb-false}
+use lib.Dec.{ltb}
 use lib.ListN.{length}
 use Rattle.std.specs.Prelude.{Ok, Err}
-use Rattle.model.specs.Matrix.{Mat, view, head_of, naturals, exchanged_place, swapped, tabulate}
+use Rattle.model.specs.Matrix.{Mat, view, head_of, naturals, swapped, tabulate}
 use Rattle.model.specs.Step.{Pivots, is_block}
-use Rattle.model.specs.Kept.{Paired, Recorded}
+use Rattle.model.specs.Kept.{Recorded, Permutes}
 use Rattle.model.specs.Panel.{Panel}
 use Rattle.model.specs.Head as head
 use Rattle.model.specs.Head.{State, last_of, noted, Progress, stopped, going, panel_of, Run, done, closed, passed, with_panel, continued, panels_of}
-use Rattle.model.specs.Inertia.{byte_sound, bytes_from, check_bytes}
+use Rattle.model.specs.Inertia.{check_bytes}
 use Rattle.model.specs.Factor.{pivoting_of, Outcome, start, head_run_of, HeadAnswer, fails, stands, judged, judged_run, head_answer_of, entry_check, result_check}
 use Rattle.model.specs.Factor.{after_head, after_check, factor_of}
 use Rattle.model.specs.Answer.{Said, accepted, turned_away, Check}
@@ -26,38 +25,32 @@ use Rattle.model.specs.declared.Report.{Report}
 use Rattle.model.specs.declared.Refusal.{Refusal}
 use Rattle.model.proofs.Tabulated.{length-tabulate_from, get_d_tabulate}
 use Rattle.model.proofs.Cases.{test}
-use Rattle.model.proofs.Exchanged.{place_twice, place-past}
+use Rattle.model.proofs.Bytes.{tabulated-bytes}
+use Rattle.model.proofs.Exchanged.{swapped_same}
+use Rattle.model.proofs.Walked.{Walked, none-walked, step-walked}
+use Rattle.model.proofs.Order.{swapped-permutes, permutes-apart, permutes_inside, own-places}
 use Rattle.model.proofs.Entry.{Passed, passed as entry-passed, past-entry}
 use Rattle.model.proofs.Bounds.{GoodPivot}
-use Rattle.model.proofs.Recorded.{last-from, Reached, panel-reached, noted-recorded, none-recorded}
+use Rattle.model.proofs.Recorded.{last-from, step_bytes, Reached, panel-reached, noted-recorded, none-recorded}
 
--- ---- permutations
-
--- f has an inverse, and moves nothing at or past n
-pub record Permutes (n : ℕ) (f : ℕ → ℕ) : Type 0 where
-  pub inverse : ℕ → ℕ
-  pub left : (i : ℕ) → inverse (f i) ≡ i
-  pub right : (i : ℕ) → f (inverse i) ≡ i
-  pub fixes : (i : ℕ) → n ≤ i → f i ≡ i
-
--- an exchange of two places below n leaves a permutation
-pub swapped-permutes : (n : ℕ) (f : ℕ → ℕ) (p q : ℕ) → p < n → q < n → Permutes n f → Permutes n (swapped f p q)
-unfolding swapped
-swapped-permutes n f p q hp hq w = record {
-  inverse = λ i. exchanged_place p q (w.inverse i);
-  left = λ i. ap (λ (x : ℕ). exchanged_place p q x) (w.left (exchanged_place p q i)) ∙ place_twice p q i;
-  right = λ i. ap f (place_twice p q (w.inverse i)) ∙ w.right i;
-  fixes = λ i h. ap f (place-past p q n i hp hq h) ∙ w.fixes i h;
-}
-
--- ---- the run keeps both
+-- ---- the run keeps all three
 
 -- at column k of a run over ncol columns
 pub record Kept (ncol k : ℕ) (p : Pivots) : Type 0 where
   pub order : Permutes ncol p.notes.order
   pub recorded : Recorded k p.diagonals.blocks p.partners
+  pub walked : Walked ncol k p.notes.order p.diagonals.blocks
 
--- a step keeps both
+-- the first exchange is with the pivot's own row, and so none
+walked-noted : (ncol ke limit k : ℕ) (p : Pivots) (v : Pivot) → ke ≤ ncol → GoodPivot ke limit k v → Walked ncol k p.notes.order p.diagonals.blocks
+    → let e = last_of k (is_block v.diagonal) in
+    Walked ncol (e + 1) (noted p k e v).notes.order (noted p k e v).diagonals.blocks
+unfolding noted step_bytes
+walked-noted ncol ke limit k p v h g w =
+    let none : swapped p.notes.order k v.p.0 ≡ p.notes.order = sym (swapped_same p.notes.order k v.p.0 (sym g.own)) in
+    rw none (step-walked ncol k p.notes.order p.diagonals.blocks (is_block v.diagonal) v.kp.0 (omega (arith, g.last)) g.from (omega (arith, g.row)) w)
+
+-- a step keeps all three
 pub noted-kept : (ncol ke limit k : ℕ) (p : Pivots) (v : Pivot) → ke ≤ ncol → GoodPivot ke limit k v → Kept ncol k p
     → Kept ncol (last_of k (is_block v.diagonal) + 1) (noted p k (last_of k (is_block v.diagonal)) v)
 unfolding noted
@@ -66,15 +59,16 @@ noted-kept ncol ke limit k p v h g w = record {
       swapped-permutes ncol (swapped p.notes.order k v.p.0) (last_of k (is_block v.diagonal)) v.kp.0 (omega (arith, g.last)) (omega (arith, g.row))
       (swapped-permutes ncol p.notes.order k v.p.0 (omega (arith, g.last, last-from k (is_block v.diagonal))) (omega (arith, g.first)) w.order);
   recorded = noted-recorded ke limit k p v g w.recorded;
+  walked = walked-noted ncol ke limit k p v h g w.walked;
 }
 
--- a panel keeps both
+-- a panel keeps them
 pub panel-kept : (ncol ke : ℕ) (how : Pivoting) (n k : ℕ) (s : State) → k ≤ ke → ke ≤ ncol → ke - k ≤ n → Kept ncol k s.pivots
     → Reached (Kept ncol) ke (panel_of ke how n k s)
 panel-kept ncol ke how n k s h l f w =
     panel-reached ke how (Kept ncol) (λ j p v g x. noted-kept ncol ke how.limit j p v l g x) n k s h f w
 
--- where a run was done, both hold at its end
+-- where a run was done, they hold at its end
 abbrev pub AtEnd : ℕ → Run → Type 0
 AtEnd ncol (head.refused r) = Unit {0}
 AtEnd ncol (done s ps) = Kept ncol ncol s.pivots
@@ -95,7 +89,7 @@ pub same-pivots : (ncol k : ℕ) (p : Panel) (u : State) → Kept ncol k u.pivot
 unfolding passed
 same-pivots ncol k p u w = w
 
--- panels in turn keep both
+-- panels in turn keep them
 pub panels-kept : (how : Pivoting) (ncol nb n kb : ℕ) (s : State) → 1 ≤ nb → kb ≤ ncol → ncol - kb ≤ n → Kept ncol kb s.pivots
     → AtEnd ncol (panels_of how ncol nb n kb s)
 unfolding panels_of
@@ -117,8 +111,9 @@ unfolding head_run_of start
 head-kept how ncol nb a b =
     panels-kept how ncol (min nb (max ncol 1)) ncol 0 (start ncol (head_of ncol a)) (omega arith) (omega arith) (omega arith)
     (record {
-      order = record { inverse = λ i. i; left = λ i. refl; right = λ i. refl; fixes = λ i h. refl };
+      order = own-places ncol;
       recorded = none-recorded _ _;
+      walked = none-walked ncol;
     })
 
 -- ---- an accepted call
@@ -195,18 +190,10 @@ pub ordered : (ncol nrow : ℕ) (f : ℕ → ℕ) → ncol ≤ nrow → Permutes
 unfolding naturals
 ordered ncol nrow f l w = record {
   all = length-tabulate_from 0 nrow f;
-  inside = λ i h. subst (λ (v : ℕ). v < nrow) (sym (get_d_tabulate nrow i f 0 h)) (within i h);
-  distinct = λ i j h g e. injective i j (sym (get_d_tabulate nrow i f 0 h) ∙ e ∙ get_d_tabulate nrow j f 0 g);
+  inside = λ i h. subst (λ (v : ℕ). v < nrow) (sym (get_d_tabulate nrow i f 0 h)) (permutes_inside ncol nrow f w l i h);
+  distinct = λ i j h g e. permutes-apart ncol f w i j (sym (get_d_tabulate nrow i f 0 h) ∙ e ∙ get_d_tabulate nrow j f 0 g);
   tail = λ i h g. get_d_tabulate nrow i f 0 g ∙ w.fixes i h;
 }
-  where
-    injective : (i j : ℕ) → f i ≡ f j → i ≡ j
-    injective i j e = sym (w.left i) ∙ ap w.inverse e ∙ w.left j
-
-    within : (i : ℕ) → i < nrow → f i < nrow
-    within i h =
-        test (ltb (f i) nrow) (λ t. ltb-true (f i) nrow t)
-        (λ t. let g : nrow ≤ f i = ltb-false (f i) nrow t in let same : f i ≡ i = injective (f i) i (w.fixes (f i) (omega arith)) in omega arith)
 
 -- its order
 pub accepted-ordered : (x : Call) → Accepted x → Ordered x.settings.ncol x.settings.nrow (outcome_of x).buffers.order
@@ -217,36 +204,8 @@ accepted-ordered x w =
 
 -- ---- the block bytes
 
--- a well-formed byte is sound
-pub sound-at : (f : ℕ → ℕ) (n k : ℕ) → Paired n f → k < n → byte_sound f n k ≡ true
-unfolding byte_sound
-sound-at f n k w h =
-    rw (le-leb (f k) 1 (w.byte k h)) (test (eqb (f k) 1)
-    (λ t. let e : f k ≡ 1 = eqb-true (f k) 1 t in
-    let z : f (k + 1) ≡ 0 = w.apart k h e in
-    rw (t, ne_eqb (k + 1) n (λ x. omega (arith, w.room k h e)), ne_eqb (f (k + 1)) 1 (λ x. omega arith)))
-    (λ t. rw t))
-
--- so are all of them
-pub bytes-sound : (f : ℕ → ℕ) (n m k : ℕ) → k + m ≤ n → Paired n f → bytes_from f n m k ≡ Ok tt
-unfolding bytes_from
-bytes-sound f n zero k h w = refl
-bytes-sound f n (suc m) k h w = rw (sound-at f n k w (omega arith)) (bytes-sound f n m (k + 1) (omega arith) w)
-
--- a list made of well-formed bytes holds them
-pub tabulated-paired : (n : ℕ) (f : ℕ → ℕ) → Paired n f → Paired n (naturals (tabulate n f))
-unfolding naturals
-tabulated-paired n f w = record {
-  byte = λ c h. subst (λ (v : ℕ). v ≤ 1) (sym (get_d_tabulate n c f 0 h)) (w.byte c h);
-  room = λ c h e. w.room c h (sym (get_d_tabulate n c f 0 h) ∙ e);
-  apart = λ c h e. let g : f c ≡ 1 = sym (get_d_tabulate n c f 0 h) ∙ e in get_d_tabulate n (c + 1) f 0 (w.room c h g) ∙ w.apart c h g;
-}
-
 -- neither inertia nor an update answers 16 to what an accepted call emits
 pub accepted-bytes : (x : Call) → Accepted x → check_bytes (outcome_of x).buffers.blocks ≡ Ok tt
 accepted-bytes x w =
-    let n = x.settings.ncol in
-    let f = w.state.pivots.diagonals.blocks in
     ap (λ (o : Outcome). check_bytes o.buffers.blocks) (accepted-leaves x w)
-    ∙ ap (λ (m : ℕ). bytes_from (naturals (tabulate n f)) m m 0) (length-tabulate_from 0 n f)
-    ∙ bytes-sound (naturals (tabulate n f)) n n 0 (omega arith) (tabulated-paired n f (accepted-kept x w).recorded.paired)
+    ∙ tabulated-bytes x.settings.ncol w.state.pivots.diagonals.blocks (accepted-kept x w).recorded.paired

@@ -60,7 +60,7 @@ greatest-where f lo (suc n) best =
 abbrev pub Chosen : ℕ → ℕ → Choice → Type 0
 Chosen k ke choice.ZeroColumn = Unit {0}
 Chosen k ke (choice.Single kp) = (k ≤ kp.0) × (kp.0 < ke)
-Chosen k ke (choice.Block p kp) = (k < kp.0) × (kp.0 < ke) × (k ≤ p.0) × (p.0 < ke)
+Chosen k ke (choice.Block p kp) = (k < kp.0) × (kp.0 < ke) × (k ≤ p.0) × (p.0 < ke) × (p.0 ≡ k)
 
 either-chosen : (k ke : ℕ) (t : Bool) (a b : Choice) → Chosen k ke a → Chosen k ke b → Chosen k ke (cond t a b)
 either-chosen k ke true a b p q = p
@@ -112,7 +112,7 @@ some-chosen k ke at true own by_row other l r = tt
 some-chosen k ke at false true by_row other l r = (omega arith, omega arith)
 some-chosen k ke at false false true other l r = (omega arith, omega arith)
 some-chosen k ke at false false false true l r = (omega arith, omega arith)
-some-chosen k ke at false false false false l r = (l, r, omega arith, omega arith)
+some-chosen k ke at false false false false l r = (l, r, omega arith, omega arith, refl)
 
 -- a block's two rows are different rows of the panel, so it never crosses ke
 pub choose-in : (a : Mat) (k ke : ℕ) → k < ke → Chosen k ke (choose_of a k ke)
@@ -132,13 +132,15 @@ choose-in a k ke h =
 
 -- ---- a step
 
--- the pivot's last column and its rows stand within the panel, no row before the column that it is exchanged with; its rounds keep to the limit
+-- the pivot's last column and its rows stand within the panel, no row before the column that it is exchanged with; its first exchange is none, as the tests
+-- stand; its rounds keep to the limit
 pub record GoodPivot (ke limit k : ℕ) (v : Pivot) : Type 0 where
   pub last : last_of k (is_block v.diagonal) < ke
   pub from : last_of k (is_block v.diagonal) ≤ v.kp.0
   pub row : v.kp.0 < ke
   pub ahead : k ≤ v.p.0
   pub first : v.p.0 < ke
+  pub own : v.p.0 ≡ k
   pub few : v.rounds ≤ limit
 
 abbrev pub Good : ℕ → ℕ → ℕ → Tried → Type 0
@@ -174,15 +176,16 @@ module _ (ke : ℕ) (a m : Mat) (limit k : ℕ) where
   one-good : (kp : ℕ) (s : Option OneSettled) → k ≤ kp → kp < ke → Good ke limit k (after_one ke a m k kp s)
   unfolding last_of
   one-good kp None l r = tt
-  one-good kp (Some s) l r = record { last = omega arith; from = l; row = r; ahead = omega arith; first = omega arith; few = omega arith }
+  one-good kp (Some s) l r = record { last = omega arith; from = l; row = r; ahead = omega arith; first = omega arith; own = refl; few = omega arith }
 
-  two_good : (p kp : ℕ) (s : Result TwoSettled Unfit) → FewRounds limit s → k < kp → kp < ke → k ≤ p → p < ke → Good ke limit k (after_two ke a m k p kp s)
+  two_good : (p kp : ℕ) (s : Result TwoSettled Unfit) → FewRounds limit s → k < kp → kp < ke → k ≤ p → p < ke → p ≡ k
+      → Good ke limit k (after_two ke a m k p kp s)
   unfolding last_of
-  two_good p kp (Err Low) f l r g h = tt
-  two_good p kp (Err OutOfRounds) f l r g h = tt
-  two_good p kp (Ok s) f l r g h = record { last = omega arith; from = omega arith; row = r; ahead = g; first = h; few = f }
+  two_good p kp (Err Low) f l r g h o = tt
+  two_good p kp (Err OutOfRounds) f l r g h o = tt
+  two_good p kp (Ok s) f l r g h o = record { last = omega arith; from = omega arith; row = r; ahead = g; first = h; own = o; few = f }
 
-  block-good : (mode : Mode) (p kp : ℕ) → k < kp → kp < ke → k ≤ p → p < ke → Good ke limit k (try_block ke a m mode limit k p kp)
+  block-good : (mode : Mode) (p kp : ℕ) → k < kp → kp < ke → k ≤ p → p < ke → p ≡ k → Good ke limit k (try_block ke a m mode limit k p kp)
   block-good mode p kp = two_good p kp (settled_two mode limit _) (settled-few mode limit _)
 
 module _ (ke : ℕ) (a m : Mat) (limit k : ℕ) where
@@ -191,8 +194,8 @@ module _ (ke : ℕ) (a m : Mat) (limit k : ℕ) where
   by-good (Lift floor) choice.ZeroColumn h p = one-good ke a m limit k k (settled_one (Lift floor) (a k k)) (omega arith) h
   by-good Fail (choice.Single kp) h p = one-good ke a m limit k kp.0 (settled_one Fail (a kp.0 kp.0)) p.0 p.1
   by-good (Lift floor) (choice.Single kp) h p = one-good ke a m limit k kp.0 (settled_one (Lift floor) (a kp.0 kp.0)) p.0 p.1
-  by-good Fail (choice.Block q kp) h p = block-good ke (exchanged k q.0 ke a) m limit k Fail q.0 kp.0 p.0 p.1 p.2 p.3
-  by-good (Lift floor) (choice.Block q kp) h p = block-good ke (exchanged k q.0 ke a) m limit k (Lift floor) q.0 kp.0 p.0 p.1 p.2 p.3
+  by-good Fail (choice.Block q kp) h p = block-good ke (exchanged k q.0 ke a) m limit k Fail q.0 kp.0 p.0 p.1 p.2 p.3 p.4
+  by-good (Lift floor) (choice.Block q kp) h p = block-good ke (exchanged k q.0 ke a) m limit k (Lift floor) q.0 kp.0 p.0 p.1 p.2 p.3 p.4
 
 pub try-good : (ke : ℕ) (a m : Mat) (how : Pivoting) (k : ℕ) → k < ke → Good ke how.limit k (try_of ke a m how k)
 unfolding try_of

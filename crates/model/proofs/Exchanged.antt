@@ -1,10 +1,10 @@
 -- Laws of the symmetric exchange: where a place goes, and what stands in the triangle, above it, at the limit and past it. Assumes nothing.
 use Prim.Native.Nat.{ℕ, ◌<◌, ◌≤◌, min, max}
-use mathlib.Core.Path.{◌≡◌, refl, sym, ◌∙◌}
+use mathlib.Core.Path.{◌≡◌, refl, sym, ◌∙◌, ap, fun_ext}
 use native.Mathlib.Omega.{arith}
 use borrow.Author.Tests.{lt-ltb, le-ltb, le-leb, lt-leb, eq-eqb, ne_eqb, eqb-true}
 use lib.Dec.{leb, eqb}
-use Rattle.model.specs.Matrix.{Mat, exchanged, exchanged_place}
+use Rattle.model.specs.Matrix.{Mat, exchanged, exchanged_place, swapped}
 use Rattle.model.proofs.Cases.{test, no}
 
 -- ---- places
@@ -12,6 +12,10 @@ use Rattle.model.proofs.Cases.{test, no}
 -- an exchange with itself is none
 pub place_same : (p i : ℕ) → exchanged_place p p i ≡ i
 place_same p i = test (eqb i p) (λ e. rw e (sym (eqb-true i p e))) (λ e. rw e)
+
+pub swapped_same : (f : ℕ → ℕ) (p q : ℕ) → p ≡ q → f ≡ swapped f p q
+unfolding swapped
+swapped_same f p q e = rw (← e) (fun_ext λ i. ap f (sym (place_same p i)))
 
 -- done twice it is none
 pub place_twice : (p q i : ℕ) → exchanged_place p q (exchanged_place p q i) ≡ i

@@ -1,16 +1,20 @@
--- Laws of an order of rows: what refusal 26's test says of it, and a vector put back in it. Assumes nothing.
+-- Laws of an order of rows: what refusal 26's test says of it, a vector put back in it, and permutations. Assumes nothing.
 use Rattle.std.specs.Prelude.{Ok}
 use mathlib.Core.Path.{◌≡◌, refl, sym, ◌∙◌, ap}
 use mathlib.Core.Bool.{true, false, true≢false, not}
 use Prim.Native.Nat.{ℕ, zero, suc, ◌+◌, ◌≤◌, ◌<◌}
 use native.Mathlib.Omega.{arith}
-use borrow.Author.Tests.{not-true, eqb-true, eqb-false, eq-eqb, ne_eqb, lt-ltb, ltb-true}
+use borrow.Author.Tests.{not-true, eqb-true, eqb-false, eq-eqb, ne_eqb, lt-ltb, ltb-true, ltb-false}
 use lib.Dec.{ltb, eqb}
-use Rattle.model.specs.Matrix.{Row, put}
+use Rattle.model.specs.Matrix.{Row, put, exchanged_place, swapped, naturals, tabulate}
 use Rattle.model.specs.Assembly.{first_not}
 use Rattle.model.specs.Solve.{named, order_sound, order_at, returned_from}
 use Rattle.std.proofs.Math.Bool.{or-true}
-use Rattle.model.proofs.Cases.{test, and_left, and_right}
+use Rattle.model.proofs.Every.{first-all}
+use Rattle.model.proofs.Cases.{test, cmp, and_left, and_right}
+use Rattle.model.specs.Kept.{Permutes}
+use Rattle.model.proofs.Tabulated.{get_d_tabulate}
+use Rattle.model.proofs.Exchanged.{place_twice, place-past}
 
 -- ---- the test of a position
 
@@ -31,6 +35,15 @@ pub sound-apart : (f : ℕ → ℕ) (n k j : ℕ) → order_sound f n k ≡ true
 unfolding order_sound
 sound-apart f n k j h o e =
     true≢false (sym (named-there f k j (f k) o (sym e)) ∙ not-true (named f k (f k)) (and_right (ltb (f k) n) (not (named f k (f k))) h))
+
+-- of an order that refusal 26 does not meet
+pub order-inside : (f : ℕ → ℕ) (n : ℕ) → first_not (order_sound f n) order_at n 0 ≡ Ok tt → (i : ℕ) → i < n → f i < n
+order-inside f n h i l = sound-inside f n i (first-all (order_sound f n) order_at n i h l)
+
+pub order-apart : (f : ℕ → ℕ) (n : ℕ) → first_not (order_sound f n) order_at n 0 ≡ Ok tt → (i j : ℕ) → i < n → j < n → f i ≡ f j → i ≡ j
+order-apart f n h i j l m e =
+    cmp i j (λ c. absurd (sound-apart f n j i (first-all (order_sound f n) order_at n j h m) c (sym e))) (λ c. c)
+    (λ c. absurd (sound-apart f n i j (first-all (order_sound f n) order_at n i h l) c e))
 
 -- ---- an order that is a permutation
 
@@ -72,3 +85,36 @@ returned-at order x (suc m) k b i apart p q =
     returned-kept order x m (k + 1) (put b (order k) (x k)) (order i) (λ j u v. apart j (omega arith) (omega arith))
     ∙ rw (e, eq-eqb (order k) (order k) refl))
     (λ t. returned-at order x m (k + 1) (put b (order k) (x k)) i (λ j u v. apart j (omega arith) v) (omega (arith, eqb-false i k t)) (omega arith))
+
+-- ---- permutations
+
+-- every row in its place
+pub own-places : (n : ℕ) → Permutes n (λ i. i)
+own-places n = record { inverse = λ i. i; left = λ i. refl; right = λ i. refl; fixes = λ i h. refl }
+
+-- an exchange of two places below n leaves a permutation
+pub swapped-permutes : (n : ℕ) (f : ℕ → ℕ) (p q : ℕ) → p < n → q < n → Permutes n f → Permutes n (swapped f p q)
+unfolding swapped
+swapped-permutes n f p q hp hq w = record {
+  inverse = λ i. exchanged_place p q (w.inverse i);
+  left = λ i. ap (λ (x : ℕ). exchanged_place p q x) (w.left (exchanged_place p q i)) ∙ place_twice p q i;
+  right = λ i. ap f (place_twice p q (w.inverse i)) ∙ w.right i;
+  fixes = λ i h. ap f (place-past p q n i hp hq h) ∙ w.fixes i h;
+}
+
+pub permutes-apart : (n : ℕ) (f : ℕ → ℕ) → Permutes n f → (i j : ℕ) → f i ≡ f j → i ≡ j
+permutes-apart n f w i j e = sym (w.left i) ∙ ap w.inverse e ∙ w.left j
+
+-- from n on, a limit stays a limit
+pub permutes_inside : (n m : ℕ) (f : ℕ → ℕ) → Permutes n f → n ≤ m → (i : ℕ) → i < m → f i < m
+permutes_inside n m f w l i h =
+    test (ltb (f i) m) (λ t. ltb-true (f i) m t)
+    (λ t. let g : m ≤ f i = ltb-false (f i) m t in let same : f i ≡ i = permutes-apart n f w (f i) i (w.fixes (f i) (omega arith)) in omega arith)
+
+-- so refusal 26 does not meet it as a list
+pub tabulated-order : (n : ℕ) (f : ℕ → ℕ) → Permutes n f → first_not (order_sound (naturals (tabulate n f)) n) order_at n 0 ≡ Ok tt
+unfolding naturals
+tabulated-order n f w =
+    let at : (i : ℕ) → i < n → naturals (tabulate n f) i ≡ f i = λ i h. get_d_tabulate n i f 0 h in
+    sound-order n (naturals (tabulate n f)) (λ i h. omega (arith, at i h, permutes_inside n n f w (omega arith) i h))
+    (λ i j h g e. permutes-apart n f w i j (sym (at i h) ∙ e ∙ at j g)) n 0 (omega arith)

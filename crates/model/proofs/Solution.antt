@@ -21,7 +21,7 @@ use Rattle.model.specs.Solve.{Factor, solve_lengths, check_order, check_right_si
 use Rattle.model.specs.Solve.{forward_at, forward_from, divided, back_at, back_from, substituted, ordered, returned_from, solution_of, solve_of, solved_after}
 use Rattle.model.specs.Independence.{outcome_of}
 use Rattle.model.specs.Solution.{left_in, RefusedForTheVectorAlone, ReadsEntriesAlone, ComesBackRenumbered}
-use Rattle.model.specs.declared.Refusal.TheVariants.{SolveLength}
+use Rattle.model.specs.declared.Refusal.TheVariants.{BufferLength}
 use Rattle.model.proofs.Cases.{test}
 use Rattle.model.proofs.Order.{sound-order}
 use Rattle.model.proofs.Tabulated.{length-tabulate_from}
@@ -34,7 +34,7 @@ use Rattle.model.proofs.Accepted.{Accepted, accepted-is, accepted-leaves, accept
 -- a root node whose shape, lengths, order and block bytes are sound: the vector is left to check
 vector-alone : (n : ℕ) (f : Factor) (vector : List Float) → shape_sound n n ≡ true → length f.panel ≡ n * n → length f.d ≡ n → length f.sub ≡ n
     → length f.blocks ≡ n → length f.order ≡ n → check_order n (naturals f.order) ≡ Ok tt → check_bytes f.blocks ≡ Ok tt
-    → solve_check n n f vector ≡ or_else (refuse_if (not (eqb (length vector) n)) SolveLength) (check_right_side n (vec vector))
+    → solve_check n n f vector ≡ or_else (refuse_if (not (eqb (length vector) n)) BufferLength) (check_right_side n (vec vector))
 unfolding solve_check solve_lengths
 vector-alone n f vector shape panel d sub blocks order places bytes =
     rw (

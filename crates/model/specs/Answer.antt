@@ -4,8 +4,8 @@ use Rattle.std.specs.Prelude.{Bool, cond, ℕ, Result, Ok, Err}
 use Rattle.model.specs.declared.Refusal.{Refusal}
 use Rattle.model.specs.declared.Refusal.TheVariants.{Shape, Width, Length, Floor, Limit, Input, ZeroColumn, Rounds, NotFinite, AssemblyLength}
 use Rattle.model.specs.declared.Refusal.TheVariants.{AssemblyPlace, AssemblyNumber, UpdateLength, TargetRows, DescendantRows, BlockByte, AbsentRow}
-use Rattle.model.specs.declared.Refusal.TheVariants.{DescendantNumber, InertiaLength, ZeroPivot, LowBlock, SolveLength, OrderPlace}
-use Rattle.model.specs.declared.Refusal.TheVariants.{RightSide}
+use Rattle.model.specs.declared.Refusal.TheVariants.{DescendantNumber, InertiaLength, ZeroPivot, LowBlock, BufferLength, OrderPlace}
+use Rattle.model.specs.declared.Refusal.TheVariants.{RightSide, BlockRow, ListNumber, ListPair}
 use Rattle.model.specs.declared.Report.{Report}
 use Rattle.model.specs.declared.Tally.{Tally}
 
@@ -28,7 +28,7 @@ or_else (Err r) c = Err r
 abbrev pub refuse_if : Bool → Refusal → Check
 refuse_if b r = cond b (Err r) (Ok tt)
 
--- the answer of a factor call; of an inertia call; of an assembly, an update or a solve
+-- the answer of a factor call; of an inertia call; of every other
 abbrev pub Factored : Type 0
 Factored = Result Report Refusal
 
@@ -61,9 +61,12 @@ numbered (DescendantNumber at) = (18, at.0, 0)
 numbered InertiaLength = (19, 0, 0)
 numbered (ZeroPivot at) = (23, at.0, 0)
 numbered (LowBlock at) = (24, at.0, 0)
-numbered SolveLength = (25, 0, 0)
+numbered BufferLength = (25, 0, 0)
 numbered (OrderPlace at) = (26, at.0, 0)
 numbered (RightSide at) = (27, at.0, 0)
+numbered (BlockRow at) = (28, at.0, 0)
+numbered (ListNumber at) = (29, at.0, 0)
+numbered (ListPair at) = (30, at.0, 0)
 
 abbrev pub turned_away : {A : Type 0} → Refusal → Said A
 turned_away r = refused (numbered r).0 (numbered r).1 (numbered r).2

@@ -1,4 +1,5 @@
--- What the record of pivots keeps to in every run; proofs/Recorded.antt shows it. No definition of an answer cites it: proofs of the code rely on it.
+-- What the record of pivots keeps to in every run (proofs/Recorded.antt shows it), and an order on the way to LAPACK. No definition of an answer cites it:
+-- proofs of the code rely on it.
 -- Definitions only. Assumes nothing.
 use Rattle.std.specs.Prelude.{◌≡◌, ℕ, ◌+◌, ◌≤◌, ◌<◌}
 use Rattle.model.specs.Step.{past_of, first_of}
@@ -22,3 +23,15 @@ pub record Ahead (blocks partners : ℕ → ℕ) (k : ℕ) : Type 0 where
 pub record Recorded (n : ℕ) (blocks partners : ℕ → ℕ) : Type 0 where
   pub paired : Paired n blocks
   pub ahead : (k : ℕ) → k < n → Starts blocks k → Ahead blocks partners k
+
+-- f has an inverse, and moves nothing at or past n
+pub record Permutes (n : ℕ) (f : ℕ → ℕ) : Type 0 where
+  pub inverse : ℕ → ℕ
+  pub left : (i : ℕ) → inverse (f i) ≡ i
+  pub right : (i : ℕ) → f (inverse i) ≡ i
+  pub fixes : (i : ℕ) → n ≤ i → f i ≡ i
+
+-- a walk to LAPACK at column k: the rows of the places before it stand there
+pub record Standing (n : ℕ) (order : ℕ → ℕ) (k : ℕ) (rows : ℕ → ℕ) : Type 0 where
+  pub permutes : Permutes n rows
+  pub placed : (i : ℕ) → i < k → rows i ≡ order i

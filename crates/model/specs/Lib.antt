@@ -14,9 +14,11 @@ pub mod Factor
 pub mod Assembly
 pub mod Update
 pub mod Solve
+pub mod Lapack
 pub mod Independence
 pub mod Ends
 pub mod Solution
+pub mod ForthAndBack
 pub mod Stations
 -- What proofs of the code rely on beside it.
 pub mod Kept

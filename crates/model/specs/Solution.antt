@@ -10,7 +10,7 @@ use Rattle.model.specs.Answer.{accepted, or_else, refuse_if}
 use Rattle.model.specs.Independence.{Call, outcome_of}
 use Rattle.model.specs.Solve.{Factor, solve_check, check_right_side, has_entry, divided, ordered, solution_of, solve_of}
 use Rattle.model.specs.declared.Report.{Report}
-use Rattle.model.specs.declared.Refusal.TheVariants.{SolveLength}
+use Rattle.model.specs.declared.Refusal.TheVariants.{BufferLength}
 
 -- what a factor call of a root node left in its buffers, as solve takes it
 abbrev pub left_in : factor.Buffers → Factor
@@ -22,7 +22,7 @@ abbrev pub RefusedForTheVectorAlone : Type 0
 RefusedForTheVectorAlone =
     (x : Call) (r : Report) (vector : List Float) → (outcome_of x).answer ≡ accepted r → x.settings.nrow ≡ x.settings.ncol
     → let n = x.settings.ncol in
-    solve_check n n (left_in (outcome_of x).buffers) vector ≡ or_else (refuse_if (not (eqb (length vector) n)) SolveLength) (check_right_side n (vec vector))
+    solve_check n n (left_in (outcome_of x).buffers) vector ≡ or_else (refuse_if (not (eqb (length vector) n)) BufferLength) (check_right_side n (vec vector))
 
 -- Solve reads nothing of the panel but the entries of L: two factors that agree in those, and in the rest, are solved alike, whatever their panels hold on the
 -- diagonal, above it and inside of the blocks.

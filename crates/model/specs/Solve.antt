@@ -9,7 +9,7 @@ use Rattle.model.specs.Inertia.{check_bytes}
 use Rattle.model.specs.Factor.{shape_sound}
 use Rattle.model.specs.Assembly.{first_not}
 use Rattle.model.specs.declared.Refusal.{Refusal}
-use Rattle.model.specs.declared.Refusal.TheVariants.{Shape, SolveLength, OrderPlace, RightSide}
+use Rattle.model.specs.declared.Refusal.TheVariants.{Shape, BufferLength, OrderPlace, RightSide}
 
 -- what a factor call left of the node: the panel with L, D, the order
 pub record Factor : Type 0 where
@@ -59,7 +59,7 @@ check_right_side n b = first_not (λ i. is_finite (b i)) right_side_at n 0
 unfoldable pub solve_check : ℕ → ℕ → Factor → List Float → Check
 solve_check ncol nrow f vector =
     or_else (refuse_if (not (square_sound ncol nrow)) Shape)
-    (or_else (refuse_if (not (solve_lengths ncol nrow f vector)) SolveLength)
+    (or_else (refuse_if (not (solve_lengths ncol nrow f vector)) BufferLength)
     (or_else (check_order ncol (naturals f.order)) (or_else (check_bytes f.blocks) (check_right_side ncol (vec vector)))))
 
 -- ---- L

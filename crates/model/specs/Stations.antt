@@ -1,12 +1,13 @@
 -- The starred stations of docs/SCOPE.md, "Stations", as one list: what is given and the lines that it must give. proofs/Stations.antt has the claim.
 -- Numbers are written by their bits. Fail, nb = ncol and limit 1 unless said. Definitions only. Assumes nothing.
-use Rattle.std.specs.Prelude.{List, [], ◌∷◌, map, ℕ, ◌-◌, ◌*◌, replicate, Float}
+use Rattle.std.specs.Prelude.{cond, List, [], ◌∷◌, map, ℕ, ◌-◌, ◌*◌, replicate, ℤ, pos, negsuc, unsigned_abs, Float}
 use Rattle.std.specs.Float.{nan, binary64}
 use Rattle.std.specs.Float.Ieee.{to_bits, of_bits}
 use Rattle.model.specs.Inertia.{inertia_of}
 use Rattle.model.specs.Factor.{Buffers, factor_of, work_length}
 use Rattle.model.specs.Answer.{Said, refused, accepted}
 use Rattle.model.specs.Solve.{Solved, solve_of}
+use Rattle.model.specs.Lapack.{is_negative, Listed, to_lapack_of, Read, from_lapack_of}
 use Rattle.model.specs.Solution.{left_in}
 use Rattle.model.specs.declared.Mode.TheVariants.{Fail, Lift}
 use Rattle.model.specs.declared.Settings.{Settings}
@@ -37,6 +38,21 @@ inertia_lines (accepted t) = count_line t ∷ []
 abbrev solve_says : Said (Unit {0}) → List Float → Lines
 solve_says (refused n a b) x = (n ∷ a ∷ b ∷ []) ∷ []
 solve_says (accepted t) x = bits x ∷ []
+
+-- a list of pivots: the numbers' sizes, and a 1 where one is negative
+abbrev to_lines : Listed → Lines
+to_lines x = to_says x.answer x.list
+  where
+    to_says : Said (Unit {0}) → List ℤ → Lines
+    to_says (refused n a b) zs = (n ∷ a ∷ b ∷ []) ∷ []
+    to_says (accepted t) zs = map unsigned_abs zs ∷ map (λ z. cond (is_negative z) 1 0) zs ∷ []
+
+abbrev from_lines : Read → Lines
+from_lines x = from_says x.answer x.order x.blocks
+  where
+    from_says : Said (Unit {0}) → List ℕ → List ℕ → Lines
+    from_says (refused n a b) order blocks = (n ∷ a ∷ b ∷ []) ∷ []
+    from_says (accepted t) order blocks = order ∷ blocks ∷ []
 
 -- ---- calls
 
@@ -178,6 +194,13 @@ zero_diagonal = 0 ∷ one ∷ 0 ∷ 0 ∷ []
 abbrev exchanging : List ℕ
 exchanging = one ∷ two ∷ 0 ∷ eight ∷ []
 
+-- to LAPACK, and from it, with something in the buffers that are written
+unfoldable pub to_gives : ℕ → List ℕ → List ℕ → Lines
+to_gives n order blocks = to_lines (to_lapack_of n order blocks (replicate n (pos 9)))
+
+unfoldable pub from_gives : ℕ → List ℤ → Lines
+from_gives n list = from_lines (from_lapack_of n list (replicate n 9) (replicate n 9))
+
 -- a one, and a zero, at each of three places
 abbrev ones : List ℕ
 ones = replicate 3 one
@@ -253,4 +276,32 @@ stations =
     (solve_gives 2 exchanging (one ∷ eight ∷ []) (0 ∷ 0 ∷ []) (2 ∷ 0 ∷ []) (0 ∷ 0 ∷ []) (infinite ∷ eighteen ∷ []) ⇒ (26 ∷ 1 ∷ 0 ∷ []) ∷ []) ∷
     -- with the order 1 0, the block bytes 2 0 and an infinite right side: 16 at 0
     (solve_gives 2 exchanging (one ∷ eight ∷ []) (0 ∷ 0 ∷ []) (2 ∷ 0 ∷ []) (1 ∷ 0 ∷ []) (infinite ∷ eighteen ∷ []) ⇒ (16 ∷ 0 ∷ 0 ∷ []) ∷ []) ∷
+    -- ncol 0 to LAPACK, and from it: nothing
+    (to_gives 0 [] [] ⇒ [] ∷ [] ∷ []) ∷
+    (from_gives 0 [] ⇒ [] ∷ [] ∷ []) ∷
+    -- order 2 0 1, no block: list 3 3 3; and back
+    (to_gives 3 (2 ∷ 0 ∷ 1 ∷ []) zeros ⇒ (3 ∷ 3 ∷ 3 ∷ []) ∷ (0 ∷ 0 ∷ 0 ∷ []) ∷ []) ∷
+    (from_gives 3 (pos 3 ∷ pos 3 ∷ pos 3 ∷ []) ⇒ (2 ∷ 0 ∷ 1 ∷ []) ∷ (0 ∷ 0 ∷ 0 ∷ []) ∷ []) ∷
+    -- order 2 1 0, a block at 1: list 3 −3 −3; and back
+    (to_gives 3 (2 ∷ 1 ∷ 0 ∷ []) (0 ∷ 1 ∷ 0 ∷ []) ⇒ (3 ∷ 3 ∷ 3 ∷ []) ∷ (0 ∷ 1 ∷ 1 ∷ []) ∷ []) ∷
+    (from_gives 3 (pos 3 ∷ negsuc 2 ∷ negsuc 2 ∷ []) ⇒ (2 ∷ 1 ∷ 0 ∷ []) ∷ (0 ∷ 1 ∷ 0 ∷ []) ∷ []) ∷
+    -- order 1 0 2, a block at 1: list 2 −3 −3, row 0 stands in its place by then; and back
+    (to_gives 3 (1 ∷ 0 ∷ 2 ∷ []) (0 ∷ 1 ∷ 0 ∷ []) ⇒ (2 ∷ 3 ∷ 3 ∷ []) ∷ (0 ∷ 1 ∷ 1 ∷ []) ∷ []) ∷
+    (from_gives 3 (pos 2 ∷ negsuc 2 ∷ negsuc 2 ∷ []) ⇒ (1 ∷ 0 ∷ 2 ∷ []) ∷ (0 ∷ 1 ∷ 0 ∷ []) ∷ []) ∷
+    -- order 1 2 0, a block at 0: 28 at 0
+    (to_gives 3 (1 ∷ 2 ∷ 0 ∷ []) (1 ∷ 0 ∷ 0 ∷ []) ⇒ (28 ∷ 0 ∷ 0 ∷ []) ∷ []) ∷
+    -- order 1 0 0, block bytes 0 1 1: 26 at 2
+    (to_gives 3 (1 ∷ 0 ∷ 0 ∷ []) (0 ∷ 1 ∷ 1 ∷ []) ⇒ (26 ∷ 2 ∷ 0 ∷ []) ∷ []) ∷
+    -- order 1 0 2, block bytes 1 1 0: 16 at 0
+    (to_gives 3 (1 ∷ 0 ∷ 2 ∷ []) (1 ∷ 1 ∷ 0 ∷ []) ⇒ (16 ∷ 0 ∷ 0 ∷ []) ∷ []) ∷
+    -- list −2 −2 −3: 30 at 2, it stands last
+    (from_gives 3 (negsuc 1 ∷ negsuc 1 ∷ negsuc 2 ∷ []) ⇒ (30 ∷ 2 ∷ 0 ∷ []) ∷ []) ∷
+    -- list 1 −1 −2: 30 at 1; −1 is before the column that it moves, too
+    (from_gives 3 (pos 1 ∷ negsuc 0 ∷ negsuc 1 ∷ []) ⇒ (30 ∷ 1 ∷ 0 ∷ []) ∷ []) ∷
+    -- list 3 1 3: 29 at 1, before the column that it moves
+    (from_gives 3 (pos 3 ∷ pos 1 ∷ pos 3 ∷ []) ⇒ (29 ∷ 1 ∷ 0 ∷ []) ∷ []) ∷
+    -- list −1 −1: 29 at 0, a block moves its second column
+    (from_gives 2 (negsuc 0 ∷ negsuc 0 ∷ []) ⇒ (29 ∷ 0 ∷ 0 ∷ []) ∷ []) ∷
+    -- list −2147483648 twice: 29 at 0
+    (from_gives 2 (negsuc 2147483647 ∷ negsuc 2147483647 ∷ []) ⇒ (29 ∷ 0 ∷ 0 ∷ []) ∷ []) ∷
     []

@@ -193,7 +193,7 @@ pub struct Report {
     pub inertia: Tally,
 }
 
-// The refusals 1 to 19 and 23 to 27 of docs/REFUSALS.md in order. `numbered` of specs/Answer.antt gives the number and
+// The refusals 1 to 19 and 23 to 30 of docs/REFUSALS.md in order. `numbered` of specs/Answer.antt gives the number and
 // the place of each. A check answers Ok(()) or one of these; a call answers Ok with what it accepts with, or one of
 // these.
 #[derive(Clone, Copy)]
@@ -219,7 +219,10 @@ pub enum Refusal {
     InertiaLength,
     ZeroPivot(Elim),
     LowBlock(Elim),
-    SolveLength,
+    BufferLength,
     OrderPlace(Elim),
     RightSide(LocalRow),
+    BlockRow(Elim),
+    ListNumber(Elim),
+    ListPair(Elim),
 }

@@ -18,16 +18,10 @@ use Rattle.model.specs.Step.{Pivots, is_block, first_number, last_number, under_
 use Rattle.model.specs.Head.{last_of, byte_of, lift_byte, lift_amount, noted}
 use Rattle.model.specs.declared.Pivot.{Pivot}
 use Rattle.kernels.proofs.Laws.{vec-set}
+use Rattle.model.proofs.Stores.{naturals-set, both-naturals}
 use Rattle.model.proofs.Cases.{test}
 
 -- ---- stores
-
-pub naturals-set : (xs : List ℕ) (i v : ℕ) → i < length xs → naturals (set xs i v) ≡ put (naturals xs) i v
-unfolding naturals put
-naturals-set xs i v h =
-    fun_ext λ a. test (eqb a i)
-    (λ p. rw (p, eqb-true a i p) (get_or-set_same xs i v 0 h))
-    (λ p. rw p (get_or-set_other xs i a v 0 (eqb-false a i p)))
 
 -- ys is xs with y at e, then x at k
 pub both-vec : (xs ys : List Float) (k e : ℕ) (x y x' y' : Float) → ys ≡ set (set xs e y) k x → x ≡ x' → y ≡ y' → k ≤ e → e < length xs
@@ -35,62 +29,10 @@ pub both-vec : (xs ys : List Float) (k e : ℕ) (x y x' y' : Float) → ys ≡ s
 both-vec xs ys k e x y x' y' h p q l m =
     ap vec h ∙ vec-set (set xs e y) k x (rw (length-set xs e y) (omega arith)) ∙ rw (vec-set xs e y m, p, q)
 
-pub both-naturals : (xs ys : List ℕ) (k e x y x' y' : ℕ) → ys ≡ set (set xs e y) k x → x ≡ x' → y ≡ y' → k ≤ e → e < length xs
-    → naturals ys ≡ put (put (naturals xs) e y') k x'
-both-naturals xs ys k e x y x' y' h p q l m =
-    ap naturals h ∙ naturals-set (set xs e y) k x (rw (length-set xs e y) (omega arith)) ∙ rw (naturals-set xs e y m, p, q)
-
--- within the list the default plays no part
-pub place_at : (xs : List ℕ) (i : ℕ) → i < length xs → get_or xs i 0 ≡ places xs i
-unfolding places
-place_at xs i l = sym (get_or-set_same xs i (get_or xs i 0) i l) ∙ ap (λ (zs : List ℕ). get_or zs i i) (set-get_or xs i 0)
-
-pub places-set : (xs : List ℕ) (i v : ℕ) → i < length xs → places (set xs i v) ≡ put (places xs) i v
-unfolding places put
-places-set xs i v h =
-    fun_ext λ a. test (eqb a i)
-    (λ p. rw (p, eqb-true a i p) (get_or-set_same xs i v i h))
-    (λ p. rw p (get_or-set_other xs i a v a (eqb-false a i p)))
-
--- an exchange of a place with itself
-pub swapped_same : (f : ℕ → ℕ) (p q : ℕ) → p ≡ q → f ≡ swapped f p q
-unfolding swapped
-swapped_same f p q e =
-    fun_ext λ i. ap f
-    (test (eqb i p)
-    (λ y. rw y (eqb-true i p y ∙ e))
-    (λ y. rw y (test (eqb i q) (λ z. rw z (eqb-true i q z ∙ sym e)) (λ z. rw z))))
-
--- two stores exchange two places, which may be one
-pub stores-swap : (f g h : ℕ → ℕ) (p q a b : ℕ) → a ≡ f p → b ≡ f q → g ≡ put f p b → h ≡ put g q a → h ≡ swapped f p q
-unfolding put swapped
-stores-swap f g h p q a b ea eb eg eh =
-    eh ∙ rw eg (fun_ext λ i. test (eqb i q)
-    (λ z. rw z (test (eqb i p) (λ y. rw y (ea ∙ ap f (sym (eqb-true i p y) ∙ eqb-true i q z))) (λ y. rw y ea)))
-    (λ z. rw z (test (eqb i p) (λ y. rw y eb) (λ y. rw y))))
-
--- of a list
-pub swap-places : (xs ys : List ℕ) (p q : ℕ) → p < length xs → q < length xs → ys ≡ set (set xs p (get_or xs q 0)) q (get_or xs p 0)
-    → places ys ≡ swapped (places xs) p q
-swap-places xs ys p q h l e =
-    let put_first : List ℕ = set xs p (get_or xs q 0) in
-    stores-swap (places xs) (places put_first) (places ys) p q (get_or xs p 0) (get_or xs q 0) (place_at xs p h) (place_at xs q l)
-    (places-set xs p (get_or xs q 0) h)
-    (ap places e ∙ places-set put_first q (get_or xs p 0) (rw (length-set xs p (get_or xs q 0)) l))
 
 -- two exchanges, one after the other
 pub swapped-twice : (f g h : ℕ → ℕ) (k p e kp : ℕ) → g ≡ swapped f k p → h ≡ swapped g e kp → h ≡ swapped (swapped f k p) e kp
 swapped-twice f g h k p e kp x y = y ∙ rw x
-
--- ---- a pivot's columns
-
-last_byte : (k : ℕ) (b : Bool) → k + from_bool b ≡ last_of k b
-unfolding last_of
-last_byte k true = refl
-last_byte k false = omega arith
-
-pub last_by : (k n : ℕ) (t b : Bool) → t ≡ b → n ≡ from_bool t → k + n ≡ last_of k b
-last_by k n t b e h = ap (λ (i : ℕ). k + i) (h ∙ ap from_bool e) ∙ last_byte k b
 
 -- ---- the record
 

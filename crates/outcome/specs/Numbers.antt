@@ -31,7 +31,7 @@ abbrev pub inertia_numbers : Said Tally → Outcome
 inertia_numbers (refused n a b) = refused_as n a b
 inertia_numbers (accepted t) = reported_as 0 t
 
--- an assembly, an update or a solve has neither
+-- every other call has neither
 abbrev pub panel_numbers : Said (Unit {0}) → Outcome
 panel_numbers (refused n a b) = refused_as n a b
 panel_numbers (accepted x) = reported_as 0 empty

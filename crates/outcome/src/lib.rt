@@ -12,7 +12,7 @@ use model::{Mode, Refusal, Report, Tally};
 use refusal::NumberAndPlace;
 
 // What a call answers. Number 0 is acceptance: a factor call has the rounds of all block lifts and the inertia, an
-// inertia call the inertia, an assembly, an update or a solve neither. Any other is the refusal's, with its place a, b.
+// inertia call the inertia, every other call neither. Any other number is the refusal's, with its place a, b.
 // What a call does not have is 0.
 #[repr(C)]
 #[derive(Clone, Copy, PartialEq, Eq)]
@@ -80,7 +80,7 @@ impl From<Result<Tally, Refusal>> for Outcome {
     }
 }
 
-// Of an assembly, an update or a solve.
+// Of every other call.
 impl From<Result<(), Refusal>> for Outcome {
     ghost from_gives = { λ answer r. r ≡ panel_numbers (applied_says answer) };
 

@@ -144,13 +144,6 @@ fn own_columns(part: &mut [f64], nrow: usize, rows: usize, k: usize, x: Diagonal
     }
 }
 
-// The last column of a pivot at column 0.
-fn last_column(block: bool) -> usize
-    ensures { result ≡ last_of 0 block }
-{
-    usize::from(block)
-}
-
 // The rows below after the step of a pivot in the part's first columns.
 // in: mult, first / in and out: part
 // origin: src/numeric/ldlt/bunch_kaufman.rs, fn apply_bk_panel_trailing
@@ -162,7 +155,7 @@ pub fn below_step(part: &mut [f64], mult: &[f64], at: Part, first: Taken)
         (column_of (view at.nb mult.now) 1))) (view at.nrow part.old) }
 {
     let block = is_block(first.pivot);
-    let last = last_column(block);
+    let last = diagonal::last_column(0, block);
     columns::exchange(part, at.nrow, last, first.row, 0, at.rows);
     sweep_first(part, mult, block, at, last + 1, at.columns, last, last);
     own_columns(part, at.nrow, at.rows, 0, first.pivot);

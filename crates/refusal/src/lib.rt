@@ -49,9 +49,12 @@ impl From<Refusal> for NumberAndPlace {
             Refusal::InertiaLength => at(19, 0, 0),
             Refusal::ZeroPivot(k) => at(23, k.0, 0),
             Refusal::LowBlock(k) => at(24, k.0, 0),
-            Refusal::SolveLength => at(25, 0, 0),
+            Refusal::BufferLength => at(25, 0, 0),
             Refusal::OrderPlace(k) => at(26, k.0, 0),
             Refusal::RightSide(row) => at(27, row.0, 0),
+            Refusal::BlockRow(k) => at(28, k.0, 0),
+            Refusal::ListNumber(k) => at(29, k.0, 0),
+            Refusal::ListPair(k) => at(30, k.0, 0),
         }
     }
 }

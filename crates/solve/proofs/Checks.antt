@@ -15,7 +15,7 @@ use Rattle.model.specs.Assembly.{first_not}
 use Rattle.model.specs.Inertia.{check_bytes}
 use Rattle.model.specs.Solve.{Factor, square_sound, solve_lengths, order_sound, order_at, check_order, right_side_at, solve_check, solution_of, solve_of}
 use Rattle.model.specs.declared.Refusal.{Refusal}
-use Rattle.model.specs.declared.Refusal.TheVariants.{Shape, SolveLength}
+use Rattle.model.specs.declared.Refusal.TheVariants.{Shape, BufferLength}
 use Rattle.model.specs.Answer.{Check}
 use Rattle.std.specs.Prelude.{Ok, Err}
 use Rattle.model.proofs.Cases.{and_left, and_right}
@@ -24,7 +24,7 @@ use Rattle.model.proofs.Tabulated.{is-tabulate}
 use Rattle.kernels.proofs.Parts.{mid-count}
 use Rattle.checks.specs.Finite.{finite_at}
 use Rattle.checks.proofs.Answers.{first-refuses, second-decides}
-use Rattle.checks.proofs.Bytes.{bytes-paired}
+use Rattle.model.proofs.Bytes.{bytes-paired}
 use Rattle.model.proofs.Every.{first-all}
 use Rattle.model.proofs.Order.{sound-inside}
 use Rattle.solve.specs.Call.{solve_leaves, SubstitutePre}
@@ -69,7 +69,7 @@ module _ (ncol nrow : ℕ) (f : Factor) (vector : List Float) (b : Bool) (h : b 
   shape-passed x = sym h ∙ not-false b x
 
   module _ (x : not b ≡ false) (t : Bool) (g : t ≡ solve_lengths ncol nrow f vector) where
-    pub check-lengths : not t ≡ true → Err SolveLength ≡ solve_check ncol nrow f vector
+    pub check-lengths : not t ≡ true → Err BufferLength ≡ solve_check ncol nrow f vector
     unfolding solve_check
     check-lengths y = rw (← h, x, ← g, y)
 
@@ -109,7 +109,7 @@ module _ (ncol nrow : ℕ) (f : Factor) (vector : List Float) (k : Check) (e : k
     unfolding solve_check
     all-lengths =
         let pass : solve_check ncol nrow f vector ≡ Ok tt = sym e ∙ h in
-        lengths ncol nrow f vector (not-refused (solve_lengths ncol nrow f vector) SolveLength (search (first-sound, second-sound)))
+        lengths ncol nrow f vector (not-refused (solve_lengths ncol nrow f vector) BufferLength (search (first-sound, second-sound)))
 
     rows-sound : check_order ncol (naturals f.order) ≡ Ok tt
     unfolding solve_check

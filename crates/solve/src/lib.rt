@@ -63,7 +63,7 @@ fn solve_check(ncol: usize, nrow: usize, f: Factor, vector: &[f64]) -> Result<()
         return Err(Refusal::Shape);
     }
     if !lengths_sound(ncol, nrow, f, vector) {
-        return Err(Refusal::SolveLength);
+        return Err(Refusal::BufferLength);
     }
     order::first_bad_row(f.order)?;
     checks::first_bad_byte(f.diagonals.blocks)?;

@@ -19,7 +19,7 @@ use Rattle.kernels.specs.Rules.{zeroed, plus_times}
 use Rattle.grid.proofs.Laws.{col-in, view-read}
 use Rattle.kernels.proofs.Laws.{vec-set, with_part-in, with_part-past, with_part-step}
 use Rattle.grid.proofs.Parts.{column-at}
-use Rattle.checks.proofs.Bytes.{bytes-paired}
+use Rattle.model.proofs.Bytes.{bytes-paired}
 use Rattle.model.specs.Update.{Descendant}
 use Rattle.update_sums.specs.Acc.{weighed, acc_of, matrix_of, weights_of, sums_of, from_row, two_added, WeightPre, SumPre}
 

@@ -5,7 +5,7 @@ use lib.ListN.{length}
 use Rattle.model.specs.Matrix.{naturals}
 use Rattle.model.specs.Assembly.{first_not}
 use Rattle.model.specs.Inertia.{byte_sound, check_bytes}
-use Rattle.checks.proofs.Bytes.{byte_at}
+use Rattle.model.proofs.Bytes.{byte_at}
 use Rattle.checks.proofs.first_bad_byte.Given as goal
 
 abbrev pub invariant-loop-k : goal.invariant-loop-k

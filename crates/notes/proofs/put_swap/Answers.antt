@@ -1,5 +1,6 @@
 -- `notes::put_swap` meets its contract: two stores exchange two places, and one place is its own exchange. Assumes nothing.
-use Rattle.notes.proofs.Laws.{swapped_same, swap-places}
+use Rattle.model.proofs.Exchanged.{swapped_same}
+use Rattle.model.proofs.Stores.{swap-places}
 use Rattle.notes.proofs.put_swap.Goals as goal
 
 pub returns-then-e-kp : goal.returns-then-e-kp

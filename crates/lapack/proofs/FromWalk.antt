@@ -1,0 +1,163 @@
+-- Laws of the walk from LAPACK, one pivot at a time and in turn. Assumes nothing.
+use Rattle.std.specs.Prelude.{ℤ, pos, unsigned_abs, Result, Ok, Err}
+use Rattle.std.specs.Int.{from_bool}
+use mathlib.Core.Path.{◌≡◌, refl, sym, ◌∙◌, ap}
+use mathlib.Core.Bool.{Bool, true, false, not, ◌&&◌}
+use mathlib.Core.List.{List}
+use Prim.Native.Nat.{ℕ, suc, ◌+◌, ◌-◌, ◌<◌, ◌≤◌}
+use native.Mathlib.Omega.{arith}
+use borrow.Author.Tests.{lt-ltb, le-ltb, ltb-true, leb-true}
+use lib.Dec.{ltb, leb}
+use lib.ListN.{length, get_or, set, replicate}
+use mir.Syntax.{w32}
+use mir.Val.{of_z, to_z, SFits}
+use Rattle.std.proofs.lemmas.Int.{to_z-of_z}
+use Rattle.model.specs.Matrix.{naturals, places, put, swapped}
+use Rattle.model.specs.Head.{last_of, byte_of}
+use Rattle.model.specs.Lapack.{integers, is_negative, same_number, pair_sound, row_sound, fault_at, Arranged, past_pivot, read_from, arranged_of}
+use Rattle.model.specs.declared.Refusal.{Refusal}
+use Rattle.model.specs.declared.Refusal.TheVariants.{ListNumber, ListPair}
+use Rattle.model.proofs.Cases.{and_left, and_right}
+use Rattle.model.proofs.Stores.{swap-places, both-naturals}
+use Rattle.model.proofs.Recorded.{last-from}
+use Rattle.model.proofs.Walked.{read-fuel}
+use Rattle.model.specs.Answer.{Check}
+use Rattle.model.proofs.Tabulated.{length-tabulate_from}
+use Rattle.model.proofs.Lapack.{passes-faultless}
+use Rattle.buffers.specs.Buffers.{in_order}
+use Rattle.buffers.proofs.Buffers.{bytes-zeros, places-in_order}
+use Rattle.lapack.specs.Walks.{stepped, arranged, pivot_read, ReadPre}
+use Rattle.lapack.proofs.ToWalk.{goes, same-ok}
+
+-- ---- a pair; the code holds a number by its bits
+
+module _ (xs : List ℤ) (k : ℕ) (own : SFits w32 (get_or xs k (pos 0))) where
+  here : to_z w32 (of_z w32 (get_or xs k (pos 0))) ≡ integers xs k
+  unfolding integers
+  here = to_z-of_z w32 (get_or xs k (pos 0)) own
+
+  pub negative-own : (t : Bool) → t ≡ is_negative (to_z w32 (of_z w32 (get_or xs k (pos 0)))) → t ≡ is_negative (integers xs k)
+  negative-own t e = e ∙ ap is_negative here
+
+  pub size-own : (n : ℕ) → n ≡ unsigned_abs (to_z w32 (of_z w32 (get_or xs k (pos 0)))) → n ≡ unsigned_abs (integers xs k)
+  size-own n e = e ∙ ap unsigned_abs here
+
+  pub pair-positive : (t : Bool) → t ≡ is_negative (integers xs k) → t ≡ false → not t ≡ pair_sound (length xs) (integers xs) k
+  pair-positive t e f = rw (← e, f) refl
+
+  pub pair-same : (t s : Bool) → t ≡ is_negative (integers xs k) → t ≡ true → k + 1 < length xs → SFits w32 (get_or xs (k + 1) (pos 0))
+      → s
+      ≡ same_number (to_z w32 (of_z w32 (get_or xs (k + 1) (pos 0)))) (to_z w32 (of_z w32 (get_or xs k (pos 0)))) → s ≡ pair_sound (length xs) (integers xs) k
+  unfolding integers
+  pair-same t s e f l next q =
+      rw (← e, f, lt-ltb (k + 1) (length xs) l) (q ∙ rw (to_z-of_z w32 (get_or xs (k + 1) (pos 0)) next, to_z-of_z w32 (get_or xs k (pos 0)) own) refl)
+
+  pub pair-last : (t : Bool) → t ≡ is_negative (integers xs k) → t ≡ true → length xs ≤ k + 1 → ltb (k + 1) (length xs) ≡ pair_sound (length xs) (integers xs) k
+  pair-last t e f l = rw (← e, f, le-ltb (k + 1) (length xs) l) refl
+
+-- ---- one pivot from LAPACK
+
+module _ (n : ℕ) (list : ℕ → ℤ) (k : ℕ) (a : Arranged) (t : Bool) (p : t ≡ pair_sound n list k) where
+  pub pair-refused : t ≡ false → Err (ListPair (record { 0 = k })) ≡ pivot_read n list k a
+  unfolding pivot_read fault_at
+  pair-refused f = rw (← p, f) refl
+
+  module _ (h : t ≡ true) (block : Bool) (b : block ≡ is_negative (list k)) (e row : ℕ) (l : e ≡ last_of k block) (r : row ≡ unsigned_abs (list k)) where
+    pub number-refused : ltb e row && leb row n ≡ false → Err (ListNumber (record { 0 = k })) ≡ pivot_read n list k a
+    unfolding pivot_read fault_at
+    number-refused f =
+        let no : row_sound n (last_of k (is_negative (list k))) (list k) ≡ false = rw (← b, ← l, ← r) f in
+        rw (← p, h, no) refl
+
+    pub number-taken : ltb e row && leb row n ≡ true → Ok (last_of k (is_negative (list k)) + 1, past_pivot a k (list k)) ≡ pivot_read n list k a
+    unfolding pivot_read fault_at
+    number-taken f =
+        let yes : row_sound n (last_of k (is_negative (list k))) (list k) ≡ true = rw (← b, ← l, ← r) f in
+        rw (← p, h, yes) refl
+
+-- the pivot's last column and the row that its number names are among the places
+pub read-in : (n k e row : ℕ) (block : Bool) → e ≡ last_of k block → ltb e row && leb row n ≡ true → (k ≤ e) × (e < row) × (row ≤ n)
+read-in n k e row block l f =
+    (rw l (last-from k block), ltb-true e row (and_left (ltb e row) (leb row n) f), leb-true row n (and_right (ltb e row) (leb row n) f))
+
+past-arranged : (rows blocks new bytes : List ℕ) (k : ℕ) (z : ℤ) (block : Bool) (e row : ℕ) → block ≡ is_negative z → e ≡ last_of k block → row ≡ unsigned_abs z
+    → places new ≡ swapped (places rows) e (row - 1) → naturals bytes ≡ put (put (naturals blocks) e 0) k (byte_of block)
+    → past_pivot (arranged rows blocks) k z ≡ arranged new bytes
+unfolding past_pivot
+past-arranged rows blocks new bytes k z block e row b l r x y = rw (x, y, l, r, b) refl
+
+pub read-done : (n : ℕ) (list : ℕ → ℤ) (k : ℕ) (rows blocks new bytes : List ℕ) (t block : Bool) (e row byte : ℕ) → ReadPre n k (length rows) (length blocks)
+    → t ≡ pair_sound n list k → t ≡ true → block ≡ is_negative (list k) → e ≡ last_of k block → row ≡ unsigned_abs (list k) → ltb e row && leb row n ≡ true
+    → new ≡ set (set rows e (get_or rows (row - 1) 0)) (row - 1) (get_or rows e 0) → byte ≡ from_bool block → bytes ≡ set (set blocks e 0) k byte
+    → Ok (e + 1, arranged new bytes) ≡ pivot_read n list k (arranged rows blocks)
+read-done n list k rows blocks new bytes t block e row byte w p h b l r f x y z =
+    let inn = read-in n k e row block l f in
+    let swap : places new ≡ swapped (places rows) e (row - 1)
+    = swap-places rows new e (row - 1) (omega (arith, w.rows, inn.1, inn.2)) (omega (arith, w.rows, inn.1, inn.2)) x in
+    let noted = both-naturals blocks bytes k e byte 0 (byte_of block) 0 z (y ∙ own block) refl inn.0 (omega (arith, w.bytes, inn.1, inn.2)) in
+    let past = past-arranged rows blocks new bytes k (list k) block e row b l r swap noted in
+    let last : e + 1 ≡ last_of k (is_negative (list k)) + 1 = rw (l, b) refl in
+    rw (← past, last) (number-taken n list k (arranged rows blocks) t p h block b e row l r f)
+  where
+    own : (c : Bool) → from_bool c ≡ byte_of c
+    own true = refl
+    own false = refl
+
+-- ---- the pivots from LAPACK in turn
+
+module _ (n : ℕ) (list : ℕ → ℤ) where
+  read-goes : (m k : ℕ) (a : Arranged) → k < n → read_from n list (suc m) k a ≡ goes (pivot_read n list k a) (read_from n list m)
+  unfolding read_from pivot_read goes
+  read-goes m k a h = by-fault (fault_at n list k) refl
+    where
+      by-fault : (c : Check) → fault_at n list k ≡ c → read_from n list (suc m) k a ≡ goes (pivot_read n list k a) (read_from n list m)
+      by-fault (Ok u) e = rw (lt-ltb k n h, e) refl
+      by-fault (Err r) e = rw (lt-ltb k n h, e) refl
+
+  module _ (k : ℕ) (a new : Arranged) (r : Result ℕ Refusal) (h : k < n) (e : stepped r new ≡ pivot_read n list k a) where
+    -- a step that was taken
+    pub read-taken : (l : ℕ) → r ≡ Ok l → (fault_at n list k ≡ Ok tt) × (l ≡ last_of k (is_negative (list k)) + 1)
+    unfolding pivot_read
+    read-taken l o = by-fault (fault_at n list k) refl
+      where
+        by-fault : (c : Check) → fault_at n list k ≡ c → (fault_at n list k ≡ Ok tt) × (l ≡ last_of k (is_negative (list k)) + 1)
+        by-fault (Ok u) f =
+            let y = same-ok (l, new) (last_of k (is_negative (list k)) + 1, past_pivot a k (list k)) (rw (o, f) at e) in
+            (f, ap (λ (x : ℕ × Arranged). x.0) y)
+        by-fault (Err why) f = absurd (let z : Ok (l, new) ≡ Err why = rw (o, f) at e in let v : ◌≡◌ {A = ℕ} 0 1 = cc in omega arith)
+
+    pub read-on : (l : ℕ) (w : Result Arranged Refusal) → r ≡ Ok l → read_from n list (n - k) k a ≡ w → read_from n list (n - l) l new ≡ w
+    unfolding goes
+    read-on l w o x =
+        let m : n - k ≡ suc (n - (k + 1)) = omega arith in
+        let late : k ≤ last_of k (is_negative (list k)) = last-from k (is_negative (list k)) in
+        let at : l ≡ last_of k (is_negative (list k)) + 1 = (read-taken l o).1 in
+        let turn = read-goes (n - (k + 1)) k a h in
+        read-fuel n list (n - l) (n - (k + 1)) l new (omega arith) (omega arith) ∙ sym (turn ∙ rw (← e, o) refl) ∙ rw (← m) x
+
+    pub read-stop : (why : Refusal) (w : Result Arranged Refusal) → r ≡ Err why → read_from n list (n - k) k a ≡ w → Err why ≡ w
+    unfolding goes
+    read-stop why w o x =
+        let m : n - k ≡ suc (n - (k + 1)) = omega arith in
+        let turn = read-goes (n - (k + 1)) k a h in
+        sym (turn ∙ rw (← e, o) refl) ∙ rw (← m) x
+
+    pub read_next : (l : ℕ) → r ≡ Ok l → (l ≤ n) × (k < l)
+    read_next l o =
+        let t = read-taken l o in
+        let f = passes-faultless n list k t.0 in
+        (omega (arith, t.1, f.low, f.high), omega (arith, t.1, last-from k (is_negative (list k))))
+
+  pub read-end : (k : ℕ) (a : Arranged) (w : Result Arranged Refusal) → n ≤ k → read_from n list (n - k) k a ≡ w → Ok a ≡ w
+  unfolding read_from
+  read-end k a w h x = let m : n - k ≡ 0 = omega arith in rw m at x
+
+-- as the walk begins
+pub from-begins : (n m : ℕ) (list : ℕ → ℤ) (rows blocks : List ℕ) → rows ≡ in_order m → m ≡ n → blocks ≡ replicate n 0
+    → (length rows ≡ n) × (read_from n list (n - 0) 0 (arranged rows blocks) ≡ arranged_of n list)
+unfolding in_order
+from-begins n m list rows blocks e l z =
+    let own : places rows ≡ (λ i. i) = ap places e ∙ places-in_order m in
+    let count : n - 0 ≡ n = omega arith in
+    let zeros : naturals blocks ≡ (λ i. 0) = ap naturals z ∙ bytes-zeros n in
+    (ap length e ∙ length-tabulate_from 0 m (λ k. k) ∙ l, rw (count, own, zeros) refl)

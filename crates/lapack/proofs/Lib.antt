@@ -1,0 +1,4 @@
+-- Laws of the two walks and of the two calls.
+pub mod ToWalk
+pub mod FromWalk
+pub mod Calls
