@@ -1,8 +1,9 @@
 /*
  * Misuktaan: the real f64 LDL^T factorization of one supernode (Bunch-Kaufman, blocked, with tail rows), its inertia,
- * assembly and update, and the solve of a root node. Every function of the library is proved to answer as the
- * definitions in crates/model/specs say, whatever numbers and lengths it is given; those few that are written out here
- * are tested. C11 or later, or C++11 or later; Linux on x86-64 processors, from x86-64-v2 on.
+ * assembly and update, the solve of a root node, and a head's pivots as LAPACK's list and back. Every function of the
+ * library is proved to answer as the definitions in crates/model/specs say, whatever numbers and lengths it is given;
+ * those few that are written out here are tested. C11 or later, or C++11 or later; Linux on x86-64 processors, from
+ * x86-64-v2 on.
  *
  * THE NODE. A node has ncol columns and nrow rows, ncol <= nrow. Its panel is column-major: row i of column j stands
  * at i + j * nrow. The head is rows 0 to ncol - 1, the tail the rest; a root node has no tail. Upper positions (row <
@@ -28,50 +29,57 @@
  * answer. Numbers never shift. Places count from 0, and are 0, 0 where none is named. COLUMNS_MAX, ROWS_MAX, WIDTH_MAX
  * and LIMIT_MAX are the constants MISUKTAAN_COLUMNS_MAX and so on below, here and wherever a size is stated.
  *
- *   number  call      condition                                                       place a, b
- *   1       factor,   ncol > COLUMNS_MAX, nrow > ROWS_MAX or nrow < ncol; in solve,   0, 0
- *           solve     nrow > ncol too
- *   2       factor    nb is 0 or above WIDTH_MAX                                      0, 0
- *   3       factor    a buffer's length differs from its stated one                   0, 0
- *   4       factor    with lifts: the floor is not finite or not above zero           0, 0
- *   5       factor    with lifts: the round limit is 0 or above LIMIT_MAX             0, 0
- *   6       factor    a lower or tail number of the input is not finite               least such column, its least
- *                                                                                     such row
- *   7       factor    without lifts: the column test finds zero                       elimination position, 0
- *   8       factor    with lifts: a block needs more rounds than the limit            elimination position, 0
- *   9       factor    after the last column: a column holds a d, subdiagonal, lower   least such column, 0
- *                     head number, block determinant, or reciprocal of a 1x1 pivot
- *                     or determinant that is not finite; a block's determinant
- *                     belongs to its first column
- *   10      assemble  the shape fails as in 1, or a list's or the panel's length is   0, 0
- *                     wrong
- *   11      assemble  an entry has row >= nrow, column >= ncol or row < column        first such entry, 0
- *   12      assemble  an entry is not finite                                          first such entry, 0
- *   13      update    the target's shape fails as in 1, nk > COLUMNS_MAX, nk + mk >   0, 0
- *                     ROWS_MAX, or a length is wrong
- *   14      update    target rows do not rise strictly, or do not begin first, first  0, 0
- *                     + 1, .. for ncol rows
- *   15      update    descendant rows do not rise strictly                            0, 0
- *   16      update,   a block byte is not 0 or 1, or a 1 stands last or right before  least such place, 0
- *           inertia,  another 1
- *           solve
- *   17      update    nk > 0, a descendant row lands on the target's columns, and it  place of the first such
- *                     or a later row is absent from the target                        descendant row, 0
- *   18      update    a descendant column has a number below its head, or a d, or a   least such column, 0
- *                     subdiagonal under a 1, that is not finite
- *   19      inertia   the three lists differ in length or exceed COLUMNS_MAX          0, 0
- *   23      factor    without lifts: the chosen 1x1 pivot is zero                     elimination position, 0
- *   24      factor    without lifts: a block's |det| is at most its growth floor      elimination position, 0
- *   25      solve     a buffer's length differs from its stated one                   0, 0
- *   26      solve     the order is no permutation: a row in it is >= ncol, or stands  least such position, 0
- *                     at an earlier position too
- *   27      solve     a number of the right side is not finite                        least such row, 0
+ *   number  call               condition                                                      place a, b
+ *   1       factor, solve,     ncol > COLUMNS_MAX, nrow > ROWS_MAX or nrow < ncol; in solve,  0, 0
+ *           to_lapack,         nrow > ncol too; to and from LAPACK, the first alone
+ *           from_lapack
+ *   2       factor             nb is 0 or above WIDTH_MAX                                     0, 0
+ *   3       factor             a buffer's length differs from its stated one                  0, 0
+ *   4       factor             with lifts: the floor is not finite or not above zero          0, 0
+ *   5       factor             with lifts: the round limit is 0 or above LIMIT_MAX            0, 0
+ *   6       factor             a lower or tail number of the input is not finite              least such column, its
+ *                                                                                             least such row
+ *   7       factor             without lifts: the column test finds zero                      elimination position, 0
+ *   8       factor             with lifts: a block needs more rounds than the limit           elimination position, 0
+ *   9       factor             after the last column: a column holds a d, subdiagonal, lower  least such column, 0
+ *                              head number, block determinant, or reciprocal of a 1x1 pivot
+ *                              or determinant that is not finite; a block's determinant
+ *                              belongs to its first column
+ *   10      assemble           the shape fails as in 1, or a list's or the panel's length is  0, 0
+ *                              wrong
+ *   11      assemble           an entry has row >= nrow, column >= ncol or row < column       first such entry, 0
+ *   12      assemble           an entry is not finite                                         first such entry, 0
+ *   13      update             the target's shape fails as in 1, nk > COLUMNS_MAX, nk + mk >  0, 0
+ *                              ROWS_MAX, or a length is wrong
+ *   14      update             target rows do not rise strictly, or do not begin first,       0, 0
+ *                              first + 1, .. for ncol rows
+ *   15      update             descendant rows do not rise strictly                           0, 0
+ *   16      update, inertia,   a block byte is not 0 or 1, or a 1 stands last or right        least such place, 0
+ *           solve, to_lapack   before another 1
+ *   17      update             nk > 0, a descendant row lands on the target's columns, and    place of the first such
+ *                              it or a later row is absent from the target                    descendant row, 0
+ *   18      update             a descendant column has a number below its head, or a d, or a  least such column, 0
+ *                              subdiagonal under a 1, that is not finite
+ *   19      inertia            the three lists differ in length or exceed COLUMNS_MAX         0, 0
+ *   23      factor             without lifts: the chosen 1x1 pivot is zero                    elimination position, 0
+ *   24      factor             without lifts: a block's |det| is at most its growth floor     elimination position, 0
+ *   25      solve, to_lapack,  a buffer's length differs from its stated one                  0, 0
+ *           from_lapack
+ *   26      solve, to_lapack   the order is no permutation: a row in it is >= ncol, or        least such position, 0
+ *                              stands at an earlier position too
+ *   27      solve              a number of the right side is not finite                       least such row, 0
+ *   28      to_lapack          a block's first row is not in its place after the exchanges    first such block's
+ *                              of the pivots before                                           position, 0
+ *   29      from_lapack        a number is 0, beyond ncol, or before the column that it       least column with a
+ *                              moves, which is k + 1 for a pair at k                          fault, 0
+ *   30      from_lapack        a negative number stands last or differs from the one after    least column with a
+ *                              it                                                             fault, 0
  *
  * (20 to 22 are those of the program node.) An elimination position is a pivot's turn, a block's first, and not a row
  * or column of the input.
  *
  * What is written:
- *   1 to 6, 10 to 19, 25 to 27   nothing: every buffer is as it was, bit for bit.
+ *   1 to 6, 10 to 19, 25 to 30   nothing: every buffer is as it was, bit for bit.
  *   7, 8, 9, 23, 24              zeros in every buffer of the factor call but its input.
  */
 #ifndef MISUKTAAN_H
@@ -236,6 +244,42 @@ struct misuktaan_outcome misuktaan_solve(
     const uint8_t *blocks, size_t blocks_len,
     const size_t *order, size_t order_len,
     double *vector, size_t vector_len);
+
+/*
+ * Turns a head's order and block bytes into the list of pivots that LAPACK's xSYTF2 has for a lower triangle. There is
+ * a number for each column, and rows and columns are counted from 1: p > 0 at k is a 1x1 at k, for which rows k and p
+ * were exchanged; -p at k and at k + 1 is a block there, for which rows k + 1 and p were.
+ *
+ * Returns: number 0, nothing counted; or a refusal of 1, 25, 26, 16, 28.
+ * In:   ncol          the head's columns, 0 <= ncol <= COLUMNS_MAX.
+ *       order         ncol: the head's order, a permutation of its rows: the first ncol places of a factor call's.
+ *       blocks        ncol: the block bytes.
+ * Out:  list          ncol, any on entry. After acceptance the list; after a refusal as it was, bit for bit.
+ * What an accepted factor call leaves is never refused with 26, 16 or 28.
+ */
+struct misuktaan_outcome misuktaan_to_lapack(
+    size_t ncol,
+    const size_t *order, size_t order_len,
+    const uint8_t *blocks, size_t blocks_len,
+    int32_t *list, size_t list_len);
+
+/*
+ * Turns LAPACK's list of pivots for a lower triangle back into an order and block bytes. What the one of the two calls
+ * accepts, the other turns back into the very same.
+ *
+ * Returns: number 0, nothing counted; or a refusal of 1, 25, 30, 29.
+ * In:   ncol          the list's columns, 0 <= ncol <= COLUMNS_MAX.
+ *       list          ncol: the list, as xSYTF2 leaves it; any numbers.
+ * Out:  order         ncol, any on entry. After acceptance the input row that each row stands for.
+ *       blocks        ncol, any on entry. After acceptance 1 at a block's first position, else 0.
+ * The list is gone through by rising column, the two of a pair as one, and its first fault is the refusal. After a
+ * refusal the buffers of Out are as they were, bit for bit.
+ */
+struct misuktaan_outcome misuktaan_from_lapack(
+    size_t ncol,
+    const int32_t *list, size_t list_len,
+    size_t *order, size_t order_len,
+    uint8_t *blocks, size_t blocks_len);
 
 /*
  * ---- The leaves that the calls are made of, for tests and for those who compare. They refuse nothing.
