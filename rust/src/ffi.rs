@@ -115,6 +115,26 @@ unsafe extern "C" {
         vector: *mut f64,
         vector_len: usize,
     ) -> Outcome;
+
+    fn misuktaan_to_lapack(
+        ncol: usize,
+        order: *const usize,
+        order_len: usize,
+        blocks: *const u8,
+        blocks_len: usize,
+        list: *mut i32,
+        list_len: usize,
+    ) -> Outcome;
+
+    fn misuktaan_from_lapack(
+        ncol: usize,
+        list: *const i32,
+        list_len: usize,
+        order: *mut usize,
+        order_len: usize,
+        blocks: *mut u8,
+        blocks_len: usize,
+    ) -> Outcome;
 }
 
 #[rustfmt::skip]
@@ -204,6 +224,34 @@ pub fn solve(
             blocks.as_ptr(), blocks.len(),
             order.as_ptr(), order.len(),
             vector.as_mut_ptr(), vector.len(),
+        )
+    }
+}
+
+#[rustfmt::skip]
+pub fn to_lapack(ncol: usize, order: &[usize], blocks: &[u8], list: &mut [i32]) -> Outcome {
+    // SAFETY: each pointer comes with the length of its own slice, live for the call; `list` overlaps no other.
+    // The call reads and writes within the lengths, whatever they are, and keeps no pointer.
+    unsafe {
+        misuktaan_to_lapack(
+            ncol,
+            order.as_ptr(), order.len(),
+            blocks.as_ptr(), blocks.len(),
+            list.as_mut_ptr(), list.len(),
+        )
+    }
+}
+
+#[rustfmt::skip]
+pub fn from_lapack(ncol: usize, list: &[i32], order: &mut [usize], blocks: &mut [u8]) -> Outcome {
+    // SAFETY: each pointer comes with the length of its own slice, live for the call; neither `order` nor `blocks`
+    // overlaps another. The call reads and writes within the lengths, whatever they are, and keeps no pointer.
+    unsafe {
+        misuktaan_from_lapack(
+            ncol,
+            list.as_ptr(), list.len(),
+            order.as_mut_ptr(), order.len(),
+            blocks.as_mut_ptr(), blocks.len(),
         )
     }
 }

@@ -1,14 +1,14 @@
 //! The real f64 LDLᵀ factorization of one supernode (Bunch-Kaufman, blocked, with tail rows), its inertia, assembly
-//! and update, and the solve of a root node. Every call is proved to answer as the definitions in the repository's
-//! `crates/model/specs` say, whatever numbers and lengths it is given; this crate hands slices over to it, and adds
-//! nothing.
+//! and update, the solve of a root node, and a head's pivots as LAPACK's list and back. Every call is proved to answer
+//! as the definitions in the repository's `crates/model/specs` say, whatever numbers and lengths it is given; this
+//! crate hands slices over to it, and adds nothing.
 //!
 //! A node has `ncol` columns and `nrow` rows, `ncol <= nrow`. Its panel is column-major: row `i` of column `j`
 //! stands at `i + j * nrow`. The head is the rows below `ncol`, the tail the rest; a root node has no tail. Upper
 //! positions (row < column) are never read as numbers, and are copied bit for bit.
 //!
 //! A call is accepted, or it is refused with a [`Refusal`]: a number and a place. Refusals 1 to 6, 10 to 19 and 25 to
-//! 27 write nothing. After 7, 8, 9, 23 and 24 every buffer that a factor call writes holds zeros.
+//! 30 write nothing. After 7, 8, 9, 23 and 24 every buffer that a factor call writes holds zeros.
 //!
 //! No call allocates, waits or panics, and buffers cannot overlap, since what is written is lent as `&mut`. The thread
 //! rounds to nearest and keeps subnormal numbers, as at a program's start.
@@ -41,7 +41,7 @@ pub const LIMIT_MAX: usize = 64;
 
 // ---- answers
 
-/// Why a call was turned away: the refusal's number, 1 to 19 or 23 to 27, and its place.
+/// Why a call was turned away: the refusal's number, 1 to 19 or 23 to 30, and its place.
 ///
 /// Numbers never shift. `docs/REFUSALS.md` of the repository has the table of them. Places count from 0 and are 0
 /// where a refusal names none.
@@ -59,7 +59,10 @@ impl Refusal {
     /// The condition in words.
     pub fn condition(&self) -> &'static str {
         match self.number {
-            1 => "ncol > COLUMNS_MAX, nrow > ROWS_MAX or nrow < ncol; in solve, nrow > ncol too",
+            1 => {
+                "ncol > COLUMNS_MAX, nrow > ROWS_MAX or nrow < ncol; in solve, nrow > ncol too; to and from LAPACK, \
+                 the first alone"
+            }
             2 => "nb is 0 or above WIDTH_MAX",
             3 => "a buffer's length differs from its stated one",
             4 => "with lifts: the floor is not finite or not above zero",
@@ -93,6 +96,9 @@ impl Refusal {
             25 => "a buffer's length differs from its stated one",
             26 => "the order is no permutation: a row in it is >= ncol, or stands at an earlier position too",
             27 => "a number of the right side is not finite",
+            28 => "a block's first row is not in its place after the exchanges of the pivots before",
+            29 => "a number is 0, beyond ncol, or before the column that it moves, which is k + 1 for a pair at k",
+            30 => "a negative number stands last or differs from the one after it",
             _ => "not a refusal",
         }
     }
@@ -449,4 +455,69 @@ pub fn solve(
     vector: &mut [f64],
 ) -> Result<(), Refusal> {
     ffi::solve(ncol, nrow, panel, d, sub, blocks, order, vector).accepted().map(|_| ())
+}
+
+// ---- LAPACK's list of pivots
+
+/// Turns a head's order and block bytes into the list of pivots that LAPACK's xSYTF2 has for a lower triangle. There is
+/// a number for each column, and rows and columns are counted from 1: p > 0 at k is a 1x1 at k, for which rows k and p
+/// were exchanged; -p at k and at k + 1 is a block there, for which rows k + 1 and p were.
+///
+/// All lists have `ncol` places: the order is the head's, a factor call's first `ncol`. `list` may hold anything on
+/// entry. What an accepted factor call leaves is never refused with 26, 16 or 28.
+///
+/// ```
+/// use misuktaan::{factor, to_lapack, Factors, Mode, Settings};
+///
+/// let settings = Settings { ncol: 2, nrow: 3, nb: 2, mode: Mode::Fail, limit: 1 };
+/// let mut f = Factors::zeros(2, 3, 2);
+/// // [1, 2; 8] over a tail row 3, 4: row 1 is taken first
+/// factor(&settings, &[1.0, 2.0, 3.0, 0.0, 8.0, 4.0], f.lend())?;
+/// let mut list = [0; 2];
+/// to_lapack(2, &f.order[..2], &f.blocks, &mut list)?;
+/// assert_eq!((&f.order[..2], list), (&[1, 0][..], [2, 2]));
+///
+/// // a block whose first row was moved there has no such list
+/// let refusal = to_lapack(2, &[1, 0], &[1, 0], &mut list).unwrap_err();
+/// assert_eq!((refusal.number, refusal.a, refusal.b), (28, 0, 0));
+/// assert_eq!(list, [2, 2]);
+/// # Ok::<(), misuktaan::Refusal>(())
+/// ```
+///
+/// # Errors
+///
+/// Refusals 1, 25, 26, 16 and 28; nothing is written.
+pub fn to_lapack(ncol: usize, order: &[usize], blocks: &[u8], list: &mut [i32]) -> Result<(), Refusal> {
+    ffi::to_lapack(ncol, order, blocks, list).accepted().map(|_| ())
+}
+
+/// Turns LAPACK's list of pivots for a lower triangle back into an order and block bytes. What the one of the two
+/// calls accepts, the other turns back into the very same.
+///
+/// All lists have `ncol` places; `order` and `blocks` may hold anything on entry. The list is gone through by rising
+/// column, the two of a pair as one, and its first fault is the refusal.
+///
+/// ```
+/// use misuktaan::{from_lapack, to_lapack};
+///
+/// // rows 1 and 3, as LAPACK counts, exchanged for a 1x1; then a block with no exchange
+/// let (mut order, mut blocks) = ([0; 3], [0; 3]);
+/// from_lapack(3, &[3, -3, -3], &mut order, &mut blocks)?;
+/// assert_eq!((order, blocks), ([2, 1, 0], [0, 1, 0]));
+///
+/// let mut list = [0; 3];
+/// to_lapack(3, &order, &blocks, &mut list)?;
+/// assert_eq!(list, [3, -3, -3]);
+///
+/// // the second of a pair is missing
+/// let refusal = from_lapack(3, &[3, 2, -3], &mut order, &mut blocks).unwrap_err();
+/// assert_eq!((refusal.number, refusal.a, refusal.b), (30, 2, 0));
+/// # Ok::<(), misuktaan::Refusal>(())
+/// ```
+///
+/// # Errors
+///
+/// Refusals 1, 25, 30 and 29; nothing is written.
+pub fn from_lapack(ncol: usize, list: &[i32], order: &mut [usize], blocks: &mut [u8]) -> Result<(), Refusal> {
+    ffi::from_lapack(ncol, list, order, blocks).accepted().map(|_| ())
 }
