@@ -28,10 +28,10 @@ static void fill(void)
 
 /* ---- the case at hand */
 
-enum type { F64, BYTE, SIZE, U32 };
+enum type { F64, BYTE, SIZE, U32, I32 };
 
-static const size_t width[] = {8, 1, sizeof(size_t), 4};
-static const size_t greatest[] = {0, UINT8_MAX, SIZE_MAX, UINT32_MAX};
+static const size_t width[] = {8, 1, sizeof(size_t), 4, 4};
+static const size_t greatest[] = {0, UINT8_MAX, SIZE_MAX, UINT32_MAX, INT32_MAX};
 
 /* Buffers that are as they were unless an answer says more; buffers for output alone; working buffers. */
 enum role { KEPT, WRITTEN, WORK };
@@ -122,6 +122,16 @@ static size_t solve_stated(size_t buffer)
     return buffer == 0 ? size[0] * size[1] : size[0];
 }
 
+static struct misuktaan_outcome to_lapack(void)
+{
+    return misuktaan_to_lapack(size[0], LENT(size_t, 0), LENT(uint8_t, 1), LENT(int32_t, 2));
+}
+
+static struct misuktaan_outcome from_lapack(void)
+{
+    return misuktaan_from_lapack(size[0], LENT(int32_t, 0), LENT(size_t, 1), LENT(uint8_t, 2));
+}
+
 static const struct call calls[] = {
     {"factor",
      {"ncol", "nrow", "nb", "lift", "limit"},
@@ -144,6 +154,11 @@ static const struct call calls[] = {
      {{"panel", F64, KEPT}, {"d", F64, KEPT}, {"sub", F64, KEPT}, {"blocks", BYTE, KEPT}, {"order", SIZE, KEPT},
       {"vector", F64, KEPT}},
      solve, solve_stated, NULL},
+    {"to_lapack", {"ncol"}, {{"order", SIZE, KEPT}, {"blocks", BYTE, KEPT}, {"list", I32, KEPT}}, to_lapack, NULL, NULL},
+    {"from_lapack",
+     {"ncol"},
+     {{"list", I32, KEPT}, {"order", SIZE, KEPT}, {"blocks", BYTE, KEPT}},
+     from_lapack, NULL, NULL},
 };
 
 enum { CALLS = sizeof calls / sizeof calls[0], LINE = 512 };
@@ -181,7 +196,8 @@ static bool real(const char *text, double *x)
     return end != text && *end == '\0';
 }
 
-/* An element, which is written to `to`, unless it is ?. */
+/* An element, which is written to `to`, unless it is ?. Of an I32 it may be a whole number after a minus; its bits are
+ * then those of 2^32 less the number. */
 static bool element(const char *text, enum type type, unsigned char *to)
 {
     double x = 0.0;
@@ -189,8 +205,10 @@ static bool element(const char *text, enum type type, unsigned char *to)
     if (strcmp(text, "?") == 0) {
         return true;
     }
-    bool read = type == F64 ? real(text, &x) : whole(text, &n) && n <= greatest[type];
-    const void *const from[] = {&x, &(uint8_t){(uint8_t)n}, &n, &(uint32_t){(uint32_t)n}};
+    bool minus = type == I32 && *text == '-';
+    bool read = type == F64 ? real(text, &x) : whole(text + minus, &n) && n <= greatest[type] + minus;
+    const uint32_t four = (uint32_t)(minus ? 0 - n : n);
+    const void *const from[] = {&x, &(uint8_t){(uint8_t)n}, &n, &four, &four};
     memcpy(to, from[type], width[type]);
     return read;
 }

@@ -4,8 +4,9 @@
 mod common;
 
 use common::bits;
-use misuktaan::{assemble, inertia, solve, update, Descendant, Entries, Factors, Inertia, Mode, Refusal, Report};
-use misuktaan::{Settings, Target, COLUMNS_MAX, LIMIT_MAX, ROWS_MAX, WIDTH_MAX};
+use misuktaan::{assemble, from_lapack, inertia, solve, to_lapack, update};
+use misuktaan::{Descendant, Entries, Factors, Inertia, Mode, Refusal, Report, Settings, Target};
+use misuktaan::{COLUMNS_MAX, LIMIT_MAX, ROWS_MAX, WIDTH_MAX};
 use std::collections::BTreeMap;
 
 /// Buffers by their names.
@@ -40,7 +41,7 @@ impl Case<'_> {
 
 // ---- the calls
 
-const CALLS: [Call; 5] = [
+const CALLS: [Call; 7] = [
     Call {
         name: "factor",
         settings: &["ncol", "nrow", "nb", "lift", "limit"],
@@ -66,6 +67,13 @@ const CALLS: [Call; 5] = [
         settings: &["ncol", "nrow"],
         buffers: "panel:f64 d:f64 sub:f64 blocks:u8 order:usize vector:f64",
         make: solve_call,
+    },
+    Call { name: "to_lapack", settings: &["ncol"], buffers: "order:usize blocks:u8 list:i32", make: to_lapack_call },
+    Call {
+        name: "from_lapack",
+        settings: &["ncol"],
+        buffers: "list:i32 order:usize blocks:u8",
+        make: from_lapack_call,
     },
 ];
 
@@ -123,6 +131,22 @@ fn solve_call(c: &Case) -> (Result<Report, Refusal>, Buffers<'static>) {
     (answer.map(|()| UNCOUNTED), Buffers::from([("vector", bits(&vector))]))
 }
 
+fn to_lapack_call(c: &Case) -> (Result<Report, Refusal>, Buffers<'static>) {
+    let (order, blocks) = (c.list("order", |x| x as usize), c.list("blocks", |x| x as u8));
+    let mut list = c.list("list", |x| x as i32);
+    let answer = to_lapack(c.sizes["ncol"], &order, &blocks, &mut list);
+    (answer.map(|()| UNCOUNTED), Buffers::from([("list", list.iter().map(|&x| x as u64).collect())]))
+}
+
+fn from_lapack_call(c: &Case) -> (Result<Report, Refusal>, Buffers<'static>) {
+    let list = c.list("list", |x| x as i32);
+    let (mut order, mut blocks) = (c.list("order", |x| x as usize), c.list("blocks", |x| x as u8));
+    let answer = from_lapack(c.sizes["ncol"], &list, &mut order, &mut blocks);
+    let order = order.iter().map(|&x| x as u64).collect();
+    let blocks = blocks.iter().map(|&x| u64::from(x)).collect();
+    (answer.map(|()| UNCOUNTED), Buffers::from([("order", order), ("blocks", blocks)]))
+}
+
 // ---- values and words; None if they cannot be read
 
 fn whole(text: &str) -> Option<usize> {
@@ -138,7 +162,14 @@ fn whole(text: &str) -> Option<usize> {
     n.checked_add_signed(if more.is_empty() { 0 } else { more.parse().ok()? })
 }
 
-/// The elements of a list by their bits, over what they held.
+/// A whole number, or one after a minus.
+fn signed(text: &str) -> Option<i32> {
+    let of = |digits| i64::try_from(whole(digits)?).ok();
+    let n = text.strip_prefix('-').map_or_else(|| of(text), |digits| of(digits).map(|n| -n))?;
+    i32::try_from(n).ok()
+}
+
+/// The elements of a list by their bits, over what they held. Those of an i32 are widened with its sign.
 fn elements(list: &str, kind: &str, held: impl Fn(usize) -> u64) -> Option<Vec<u64>> {
     let mut all = Vec::new();
     for item in list.split(',').filter(|_| !list.is_empty()) {
@@ -148,6 +179,7 @@ fn elements(list: &str, kind: &str, held: impl Fn(usize) -> u64) -> Option<Vec<u
                 (_, "f64") => value.parse::<f64>().ok()?.to_bits(),
                 (_, "u8") => u64::from(u8::try_from(whole(&value)?).ok()?),
                 (_, "u32") => u64::from(u32::try_from(whole(&value)?).ok()?),
+                (_, "i32") => signed(&value)? as u64,
                 _ => whole(&value)? as u64,
             });
         }
