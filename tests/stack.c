@@ -251,6 +251,43 @@ static void measure_solve(void)
     measure("largest solve, refusal 26", solve, 26);
 }
 
+/* The longest lists. The order of a factor call begins with its head's. */
+static int32_t list[COLS];
+
+static struct misuktaan_outcome to_lapack(void)
+{
+    return misuktaan_to_lapack(COLS, order, COLS, blocks, COLS, list, COLS);
+}
+
+static struct misuktaan_outcome from_lapack(void)
+{
+    return misuktaan_from_lapack(COLS, list, COLS, order, COLS, blocks, COLS);
+}
+
+static void measure_lists(void)
+{
+    pairs();
+    (void)factor();
+    measure("longest list to LAPACK, blocks", to_lapack, 0);
+    check(list[0] == -2 && list[COLS - 1] == -COLS, "blocks", "listed");
+    measure("longest list from LAPACK, blocks", from_lapack, 0);
+    order[COLS - 2] = COLS - 1;
+    order[COLS - 1] = COLS - 2;
+    measure("longest list to LAPACK, refusal 28", to_lapack, 28);
+    order[COLS - 1] = order[0];
+    measure("longest list to LAPACK, refusal 26", to_lapack, 26);
+    memset(blocks, 0, sizeof blocks);
+    for (size_t i = 0; i < COLS; i++) {
+        order[i] = COLS - 1 - i;
+    }
+    measure("longest list to LAPACK, 1x1s", to_lapack, 0);
+    measure("longest list from LAPACK, 1x1s", from_lapack, 0);
+    list[COLS - 1] = 1;
+    measure("longest list from LAPACK, refusal 29", from_lapack, 29);
+    list[COLS - 1] = -COLS;
+    measure("longest list from LAPACK, refusal 30", from_lapack, 30);
+}
+
 static void measure_others(void)
 {
     pairs();
@@ -275,6 +312,7 @@ int main(void)
     setvbuf(stdout, NULL, _IOLBF, 0); /* each line is out before the next call is made */
     measure_factor();
     measure_solve();
+    measure_lists();
     measure_others();
     printf("%zu passed, %zu failed\n", passed, failed);
     return failed != 0;

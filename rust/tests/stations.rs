@@ -1,10 +1,11 @@
-//! The stations and the program's example of docs/SCOPE.md, not-a-numbers above the diagonal, and the bounds.
+//! The stations and the program's example of docs/SCOPE.md, not-a-numbers above the diagonal, LAPACK's lists of factored
+//! heads, and the bounds.
 
 mod common;
 
 use common::{bits, place, Call};
-use misuktaan::{assemble, inertia, leaves, solve, update, Descendant, Entries, Inertia, Refusal, Target};
-use misuktaan::{COLUMNS_MAX, LIMIT_MAX, ROWS_MAX, WIDTH_MAX};
+use misuktaan::{assemble, from_lapack, inertia, leaves, solve, to_lapack, update};
+use misuktaan::{Descendant, Entries, Inertia, Refusal, Target, COLUMNS_MAX, LIMIT_MAX, ROWS_MAX, WIDTH_MAX};
 
 fn counts(positive: usize, negative: usize, zero: usize) -> Inertia {
     Inertia { positive, negative, zero }
@@ -163,6 +164,71 @@ fn solves_that_are_refused() {
     let mut call = Call::new(2, 2, &[1.0, 2.0, 8.0]);
     call.run().unwrap();
     assert_eq!(with_order(&call, &[0, 0], &[5.0, 18.0]).map_err(place), Err((26, 1, 0)));
+}
+
+/// An order and block bytes to LAPACK. A refused call leaves the list as it was.
+fn listed(order: &[usize], blocks: &[u8]) -> Result<Vec<i32>, (usize, usize, usize)> {
+    let mut list = vec![i32::MIN; order.len()];
+    let answer = to_lapack(order.len(), order, blocks, &mut list);
+    assert!(answer.is_ok() || list.iter().all(|&p| p == i32::MIN));
+    answer.map(|()| list).map_err(place)
+}
+
+/// A list from LAPACK. A refused call leaves order and block bytes as they were.
+fn read(list: &[i32]) -> Result<(Vec<usize>, Vec<u8>), (usize, usize, usize)> {
+    let (mut order, mut blocks) = (vec![usize::MAX; list.len()], vec![0xA5; list.len()]);
+    let answer = from_lapack(list.len(), list, &mut order, &mut blocks);
+    assert!(answer.is_ok() || (order.iter().all(|&i| i == usize::MAX) && blocks.iter().all(|&b| b == 0xA5)));
+    answer.map(|()| (order, blocks)).map_err(place)
+}
+
+#[test]
+fn lists_of_lapack_and_back() {
+    let cases: [(&[usize], &[u8], &[i32]); 4] = [
+        (&[], &[], &[]),
+        (&[2, 0, 1], &[0, 0, 0], &[3, 3, 3]),
+        (&[2, 1, 0], &[0, 1, 0], &[3, -3, -3]),
+        (&[1, 0, 2], &[0, 1, 0], &[2, -3, -3]),
+    ];
+    for (order, blocks, list) in cases {
+        assert_eq!(listed(order, blocks), Ok(list.to_vec()));
+        assert_eq!(read(list), Ok((order.to_vec(), blocks.to_vec())));
+    }
+}
+
+#[test]
+fn lists_that_are_refused() {
+    assert_eq!(listed(&[1, 2, 0], &[1, 0, 0]), Err((28, 0, 0)));
+    assert_eq!(listed(&[1, 0, 0], &[0, 1, 1]), Err((26, 2, 0)));
+    assert_eq!(listed(&[1, 0, 2], &[1, 1, 0]), Err((16, 0, 0)));
+    assert_eq!(read(&[-2, -2, -3]), Err((30, 2, 0)));
+    assert_eq!(read(&[1, -1, -2]), Err((30, 1, 0)));
+    assert_eq!(read(&[3, 1, 3]), Err((29, 1, 0)));
+    assert_eq!(read(&[-1, -1]), Err((29, 0, 0)));
+    assert_eq!(read(&[i32::MIN, i32::MIN]), Err((29, 0, 0)));
+}
+
+/// Exchanges, and blocks among the 1x1s, in panels of every width: what the factor call leaves has a list, and the list
+/// leads back to it. The tail rows are no part of it.
+#[test]
+fn a_factored_head_has_a_list() {
+    let numbers = [0.0, 3.0, -1.0, 7.0, 2.0, -5.0, 0.5, 4.0, -6.0];
+    let (ncol, nrow) = (7, 9);
+    let (mut with_blocks, mut exchanged) = (0, 0);
+    for (nb, first) in (1..=ncol).flat_map(|nb| (0..numbers.len()).map(move |first| (nb, first))) {
+        let count = ncol * nrow - ncol * (ncol - 1) / 2;
+        let lower: Vec<f64> = (0..count).map(|i| numbers[(first + i * i + i / 3) % numbers.len()]).collect();
+        let mut call = Call::wide(ncol, nrow, nb, &lower);
+        if call.run().is_err() {
+            continue;
+        }
+        let (order, blocks) = (&call.factors.order[..ncol], &call.factors.blocks[..]);
+        let list = listed(order, blocks).expect("a list");
+        assert_eq!(read(&list), Ok((order.to_vec(), blocks.to_vec())));
+        with_blocks += usize::from(blocks.contains(&1));
+        exchanged += usize::from(order.iter().enumerate().any(|(k, &row)| row != k));
+    }
+    assert!(with_blocks > 9 && exchanged > 9, "with blocks {with_blocks}, exchanged {exchanged}");
 }
 
 #[test]
