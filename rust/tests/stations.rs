@@ -167,19 +167,19 @@ fn solves_that_are_refused() {
 }
 
 /// An order and block bytes to LAPACK. A refused call leaves the list as it was.
-fn listed(order: &[usize], blocks: &[u8]) -> Result<Vec<i32>, (usize, usize, usize)> {
+fn listed(order: &[usize], blocks: &[u8]) -> Result<Vec<i32>, Refusal> {
     let mut list = vec![i32::MIN; order.len()];
     let answer = to_lapack(order.len(), order, blocks, &mut list);
     assert!(answer.is_ok() || list.iter().all(|&p| p == i32::MIN));
-    answer.map(|()| list).map_err(place)
+    answer.map(|()| list)
 }
 
 /// A list from LAPACK. A refused call leaves order and block bytes as they were.
-fn read(list: &[i32]) -> Result<(Vec<usize>, Vec<u8>), (usize, usize, usize)> {
+fn read(list: &[i32]) -> Result<(Vec<usize>, Vec<u8>), Refusal> {
     let (mut order, mut blocks) = (vec![usize::MAX; list.len()], vec![0xA5; list.len()]);
     let answer = from_lapack(list.len(), list, &mut order, &mut blocks);
     assert!(answer.is_ok() || (order.iter().all(|&i| i == usize::MAX) && blocks.iter().all(|&b| b == 0xA5)));
-    answer.map(|()| (order, blocks)).map_err(place)
+    answer.map(|()| (order, blocks))
 }
 
 #[test]
@@ -198,14 +198,14 @@ fn lists_of_lapack_and_back() {
 
 #[test]
 fn lists_that_are_refused() {
-    assert_eq!(listed(&[1, 2, 0], &[1, 0, 0]), Err((28, 0, 0)));
-    assert_eq!(listed(&[1, 0, 0], &[0, 1, 1]), Err((26, 2, 0)));
-    assert_eq!(listed(&[1, 0, 2], &[1, 1, 0]), Err((16, 0, 0)));
-    assert_eq!(read(&[-2, -2, -3]), Err((30, 2, 0)));
-    assert_eq!(read(&[1, -1, -2]), Err((30, 1, 0)));
-    assert_eq!(read(&[3, 1, 3]), Err((29, 1, 0)));
-    assert_eq!(read(&[-1, -1]), Err((29, 0, 0)));
-    assert_eq!(read(&[i32::MIN, i32::MIN]), Err((29, 0, 0)));
+    assert_eq!(listed(&[1, 2, 0], &[1, 0, 0]).map_err(place), Err((28, 0, 0)));
+    assert_eq!(listed(&[1, 0, 0], &[0, 1, 1]).map_err(place), Err((26, 2, 0)));
+    assert_eq!(listed(&[1, 0, 2], &[1, 1, 0]).map_err(place), Err((16, 0, 0)));
+    assert_eq!(read(&[-2, -2, -3]).map_err(place), Err((30, 2, 0)));
+    assert_eq!(read(&[1, -1, -2]).map_err(place), Err((30, 1, 0)));
+    assert_eq!(read(&[3, 1, 3]).map_err(place), Err((29, 1, 0)));
+    assert_eq!(read(&[-1, -1]).map_err(place), Err((29, 0, 0)));
+    assert_eq!(read(&[i32::MIN, i32::MIN]).map_err(place), Err((29, 0, 0)));
 }
 
 /// Exchanges, and blocks among the 1x1s, in panels of every width: what the factor call leaves has a list, and the list
