@@ -108,6 +108,24 @@ pub struct Solve {
     pub vector: Vec<f64>,
 }
 
+/// An order and block bytes to make LAPACK's list of, and what the list holds before.
+#[derive(Clone, Debug)]
+pub struct ToLapack {
+    pub ncol: usize,
+    pub order: Vec<usize>,
+    pub blocks: Vec<u8>,
+    pub list: Vec<i32>,
+}
+
+/// LAPACK's list to make an order and block bytes of, and what these hold before.
+#[derive(Clone, Debug)]
+pub struct FromLapack {
+    pub ncol: usize,
+    pub list: Vec<i32>,
+    pub order: Vec<usize>,
+    pub blocks: Vec<u8>,
+}
+
 /// A leaf of a name on one or two numbers.
 #[derive(Clone, Debug)]
 pub struct Leaf {
@@ -124,6 +142,8 @@ pub enum Case {
     Whole(Whole),
     Inertia(Inertia),
     Solve(Solve),
+    ToLapack(ToLapack),
+    FromLapack(FromLapack),
     Leaf(Leaf),
     /// The magnitude of any bits.
     Magnitude(u64),
@@ -151,6 +171,8 @@ pub enum Answer {
     Accepted { rounds: usize, factored: Factored, marks: Vec<bool> },
     Panel(Vec<f64>),
     Vector(Vec<f64>),
+    List(Vec<i32>),
+    Pivots { order: Vec<usize>, blocks: Vec<u8> },
     Counts([usize; 3]),
     Number(f64),
     Bits(u64),

@@ -4,6 +4,9 @@
 pub mod case;
 pub mod lines;
 pub mod magnitude;
+pub mod pivot_cases;
+pub mod pivot_readings;
+pub mod pivots;
 pub mod random;
 pub mod readings;
 pub mod rules;

@@ -1,7 +1,8 @@
 //! Cases and answers as text, one to a line: a word, then `name=value` fields.
 //! Numbers are 16 hexadecimal digits of their bits, every not-a-number
-//! 7FF8000000000000; bits are those digits as they are. Lists are joined by commas,
-//! a descendant's parts by slashes. README.md has the fields of each word.
+//! 7FF8000000000000; bits are those digits as they are. Counts are decimal, and so
+//! are the numbers of a pivot list, which may have a sign. Lists are joined by
+//! commas, a descendant's parts by slashes. README.md has the fields of each word.
 
 use crate::case::*;
 use std::collections::HashMap;
@@ -177,6 +178,18 @@ pub fn case(line: &str) -> Result<Case, String> {
             order: f.counts("order")?,
             vector: f.numbers("vector")?,
         }),
+        "to_lapack" => Case::ToLapack(ToLapack {
+            ncol: f.get("ncol", count)?,
+            order: f.counts("order")?,
+            blocks: f.counts("blocks")?,
+            list: f.counts("list")?,
+        }),
+        "from_lapack" => Case::FromLapack(FromLapack {
+            ncol: f.get("ncol", count)?,
+            list: f.counts("list")?,
+            order: f.counts("order")?,
+            blocks: f.counts("blocks")?,
+        }),
         "leaf" => Case::Leaf(Leaf {
             name: f.get("name", |t| Ok(t.to_string()))?,
             a: f.get("a", number)?,
@@ -233,6 +246,14 @@ pub fn case_text(case: &Case) -> String {
             let sizes = format!("ncol={} nrow={}", s.ncol, s.nrow);
             format!("solve {sizes} panel={panel} d={d} sub={sub} blocks={blocks} order={order} vector={vector}")
         }
+        Case::ToLapack(c) => {
+            let (order, blocks, list) = (counts(&c.order), counts(&c.blocks), counts(&c.list));
+            format!("to_lapack ncol={} order={order} blocks={blocks} list={list}", c.ncol)
+        }
+        Case::FromLapack(c) => {
+            let (list, order, blocks) = (counts(&c.list), counts(&c.order), counts(&c.blocks));
+            format!("from_lapack ncol={} list={list} order={order} blocks={blocks}", c.ncol)
+        }
         Case::Leaf(l) => format!("leaf name={} a={} b={}", l.name, hex(l.a), hex(l.b)),
         Case::Magnitude(bits) => format!("magnitude bits={bits:016X}"),
     }
@@ -259,6 +280,8 @@ pub fn answer_text(answer: &Answer) -> String {
         ),
         Answer::Panel(panel) => format!("panel={}", numbers(panel)),
         Answer::Vector(vector) => format!("vector={}", numbers(vector)),
+        Answer::List(list) => format!("list={}", counts(list)),
+        Answer::Pivots { order, blocks } => format!("order={} blocks={}", counts(order), counts(blocks)),
         Answer::Counts(c) => format!("inertia={}", counts(c)),
         Answer::Number(x) => format!("number={}", hex(*x)),
         Answer::Bits(bits) => format!("bits={bits:016X}"),

@@ -1,12 +1,12 @@
 //! What docs/SCOPE.md adds to the reference, restated apart from the port: the
-//! refusals that the Rust does not know, the rounds, the marks; solve is in a file
-//! of its own. `answer` asks the Rust for everything else.
+//! refusals that the Rust does not know, the rounds, the marks; solve and the pivot
+//! lists are in files of their own. `answer` asks the Rust for everything else.
 
 use crate::case::*;
-use crate::{magnitude, solve};
+use crate::{magnitude, pivots, solve};
 use rslab::reach::{self, Factored, Ran, Stop};
 
-const MAX_COL: usize = 128;
+pub const MAX_COL: usize = 128;
 const MAX_ROW: usize = 1024;
 const MAX_NB: usize = 64;
 const MAX_LIMIT: usize = 64;
@@ -33,6 +33,8 @@ pub fn answer(case: &Case) -> Answer {
         Case::Whole(w) => whole(w),
         Case::Inertia(i) => inertia(i).map(Answer::Counts),
         Case::Solve(s) => solve::AS_WRITTEN.answer(s).map(Answer::Vector),
+        Case::ToLapack(c) => pivots::TO.answer(c).map(Answer::List),
+        Case::FromLapack(c) => pivots::FROM.answer(c).map(|(order, blocks)| Answer::Pivots { order, blocks }),
         Case::Leaf(l) => Ok(Answer::Number(reach::leaf(&l.name, l.a, l.b).expect("no such leaf"))),
         Case::Magnitude(bits) => Ok(Answer::Bits(magnitude::magnitude(*bits))),
     };

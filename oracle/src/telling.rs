@@ -1,9 +1,10 @@
 //! Hand-made cases: the stations and corner cases of docs/SCOPE.md, "Stations",
 //! and cases that tell the reference from a wrong port of it. Those of solve are in
-//! `systems.rs`, those of the magnitude in `magnitude.rs`.
+//! `systems.rs`, those of the pivot lists in `pivot_cases.rs`, those of the
+//! magnitude in `magnitude.rs`.
 
 use crate::case::*;
-use crate::{magnitude, systems};
+use crate::{magnitude, pivot_cases, systems};
 
 type Named = (String, Case);
 
@@ -58,7 +59,13 @@ fn counted(name: &str, d: &[f64], blocks: &[u8]) -> Named {
 /// docs/SCOPE.md, "Stations", with its corner cases, but for those among [`STOPS`].
 pub fn stations() -> Vec<Named> {
     let solves = systems::stations().into_iter().map(|of| (format!("solve: {}", of.name), Case::Solve(of.case)));
-    other_stations().into_iter().chain(solves).collect()
+    let lists = pivot_cases::stations().into_iter().map(|of| (of_list(of.name, &of.case), of.case));
+    other_stations().into_iter().chain(solves).chain(lists).collect()
+}
+
+/// The name of a case of a pivot list, with its call.
+fn of_list(name: &str, case: &Case) -> String {
+    format!("{} LAPACK: {name}", if matches!(case, Case::ToLapack(_)) { "to" } else { "from" })
 }
 
 /// Those of the other calls.
@@ -173,7 +180,8 @@ impl Stop {
 pub fn telling() -> Vec<Named> {
     let solves = systems::telling().into_iter().map(|(name, s)| (format!("solve: {name}"), Case::Solve(s)));
     let magnitudes = magnitude::TELLING.map(|(name, bits)| (format!("magnitude: {name}"), Case::Magnitude(bits)));
-    STOPS.iter().flat_map(Stop::named).chain(wrong_ports()).chain(magnitudes).chain(solves).collect()
+    let lists = pivot_cases::telling().into_iter().map(|(name, case)| (of_list(name, &case), case));
+    STOPS.iter().flat_map(Stop::named).chain(wrong_ports()).chain(magnitudes).chain(solves).chain(lists).collect()
 }
 
 fn wrong_ports() -> Vec<Named> {
