@@ -3,7 +3,7 @@
 //! underflow all happen often.
 
 use crate::case::*;
-use crate::rules;
+use crate::{pivot_cases, pivots, rules};
 
 /// splitmix64.
 pub struct Rng(u64);
@@ -398,6 +398,91 @@ fn solve(rng: &mut Rng, bounds: Bounds) -> Solve {
     s
 }
 
+// ---- pivot lists
+
+/// A list for these block bytes: every other exchange is one with a later row.
+fn exchanges(rng: &mut Rng, blocks: &[u8]) -> Vec<i32> {
+    let mut list = vec![0; blocks.len()];
+    for pivot in (pivots::TO.pivots)(blocks) {
+        let e = pivot.moved;
+        let p = pivots::from_one(if rng.once_in(2) { rng.within(e, blocks.len() - 1) } else { e });
+        list[pivot.first..=e].fill(if pivot.is_block() { -p } else { p });
+    }
+    list
+}
+
+/// An order and block bytes, with the first rows of the blocks in their places or anywhere.
+pub fn to_list(rng: &mut Rng, ncol: usize) -> ToLapack {
+    let blocks = blocks(rng, ncol);
+    let order = match rng.within(0, 3) {
+        0 => permutation(rng, ncol),
+        _ => pivots::FROM.answer(&pivot_cases::from(&exchanges(rng, &blocks))).expect("a list").0,
+    };
+    pivot_cases::to(&order, &blocks)
+}
+
+/// One thing of a call to LAPACK made wrong: refusals 1, 25, 26, 16 and 28; now and then it stays as it was.
+pub fn spoil_to_list(rng: &mut Rng, c: &mut ToLapack) {
+    let n = c.ncol;
+    match rng.within(0, 9) {
+        0 => c.ncol = rng.one_of(&[n + 1, 129, 1024]),
+        1 => c.order.push(n),
+        2 => _ = c.list.pop(),
+        3 => c.blocks.push(0),
+        4 | 5 if n > 0 => c.order[rng.within(0, n - 1)] = rng.within(0, n),
+        6 | 7 if n > 0 => c.blocks[rng.within(0, n - 1)] = rng.one_of(&[0, 1, 1, 2]),
+        _ if n > 0 => c.order.swap(rng.within(0, n - 1), n - 1),
+        _ => {}
+    }
+}
+
+fn to_lapack(rng: &mut Rng, bounds: Bounds) -> ToLapack {
+    let n = rng.within(0, bounds.max_col);
+    let mut c = to_list(rng, n);
+    if rng.once_in(5) {
+        spoil_to_list(rng, &mut c);
+    }
+    c
+}
+
+/// A list that is accepted.
+pub fn from_list(rng: &mut Rng, ncol: usize) -> FromLapack {
+    let blocks = blocks(rng, ncol);
+    pivot_cases::from(&exchanges(rng, &blocks))
+}
+
+/// One thing of a call from LAPACK made wrong, as a rule a number: refusals 1, 25, 29 and 30.
+pub fn spoil_from_list(rng: &mut Rng, c: &mut FromLapack) {
+    let n = c.ncol;
+    match rng.within(0, 15) {
+        0 => c.ncol = rng.one_of(&[n + 1, 129, 1024]),
+        1 => _ = c.list.pop(),
+        2 => c.order.push(0),
+        3 => c.blocks.push(0),
+        kind if n > 0 => {
+            let (k, most) = (rng.within(0, n - 1), n as i32 + 1);
+            let number = match kind {
+                4 => rng.one_of(&[i32::MIN, i32::MAX, -i32::MAX, 0]),
+                5 => -c.list[k],
+                6..=9 => c.list[k] + rng.one_of(&[-1, 1]),
+                _ => rng.within(0, 2 * most as usize) as i32 - most,
+            };
+            let columns = if number < 0 && rng.once_in(2) { 2 } else { 1 };
+            c.list[k..n.min(k + columns)].fill(number);
+        }
+        _ => {}
+    }
+}
+
+fn from_lapack(rng: &mut Rng, bounds: Bounds) -> FromLapack {
+    let n = rng.within(0, bounds.max_col);
+    let mut c = from_list(rng, n);
+    if rng.once_in(3) {
+        spoil_from_list(rng, &mut c);
+    }
+    c
+}
+
 // ---- leaves
 
 fn leaf(rng: &mut Rng) -> Leaf {
@@ -431,6 +516,8 @@ pub fn case(rng: &mut Rng, kind: &str, bounds: Bounds) -> Option<Case> {
         "whole" => Case::Whole(whole(rng, bounds)),
         "inertia" => Case::Inertia(inertia(rng, bounds)),
         "solve" => Case::Solve(solve(rng, bounds)),
+        "to_lapack" => Case::ToLapack(to_lapack(rng, bounds)),
+        "from_lapack" => Case::FromLapack(from_lapack(rng, bounds)),
         "leaf" => Case::Leaf(leaf(rng)),
         "magnitude" => Case::Magnitude(any_bits(rng)),
         _ => return None,
