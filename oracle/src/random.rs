@@ -99,6 +99,12 @@ pub fn upper_payloads(rng: &mut Rng, nrow: usize, panel: &mut [f64]) {
     }
 }
 
+/// So many numbers in turn, signalling not-a-numbers and infinities among them.
+pub fn held(n: usize) -> Vec<f64> {
+    let of = [1.0, payload(2), -0.0, 1e308, 5e-324, f64::NEG_INFINITY, -2.5];
+    of.into_iter().cycle().take(n).collect()
+}
+
 /// Numbers of one kind, or of two mixed, or a kind with zeros in between.
 pub fn numbers(rng: &mut Rng, n: usize) -> Vec<f64> {
     let main = rng.one_of(&[Kind::Small, Kind::Small, Kind::Quarters, Kind::Rough, Kind::Wide, Kind::Tiny, Kind::Huge]);

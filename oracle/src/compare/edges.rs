@@ -2,9 +2,9 @@
 //! too short, every way in which a few rows can land, every small list of places, rows and block bytes, every two
 //! faults together.
 
-use crate::lists::{held, lists, stretch, MAX, WRAPS};
+use crate::lists::{lists, stretch, MAX, WRAPS};
 use oracle::case::*;
-use oracle::random;
+use oracle::random::{self, held};
 
 const SHAPES: [(usize, usize); 17] = [
     (0, 0),

@@ -1,17 +1,9 @@
-//! Lists for calls at the edges: every one over a few values, one too long or too short, any numbers.
-
-use oracle::random;
+//! Lists for calls at the edges: every one over a few values, one too long or too short.
 
 pub const MAX: usize = usize::MAX;
 
 /// Its square wraps to zero.
 pub const WRAPS: usize = 1 << 32;
-
-/// Any numbers, signalling not-a-numbers and infinities among them.
-pub fn held(n: usize) -> Vec<f64> {
-    let of = [1.0, random::payload(2), -0.0, 1e308, 5e-324, f64::NEG_INFINITY, -2.5];
-    of.into_iter().cycle().take(n).collect()
-}
 
 /// The lists of a length over some values, each once.
 pub fn lists<T: Copy>(of: &[T], n: usize) -> Vec<Vec<T>> {

@@ -3,9 +3,9 @@
 //! small systems and large ones, with the factor of a node that the library has factored or with any numbers.
 
 use crate::call;
-use crate::lists::{held, lists, stretch, MAX, WRAPS};
+use crate::lists::{lists, stretch, MAX, WRAPS};
 use oracle::case::*;
-use oracle::random::{self, Bounds, Rng};
+use oracle::random::{self, held, Bounds, Rng};
 use oracle::systems;
 
 type Each<'a> = &'a mut dyn FnMut(Solve);
