@@ -1,11 +1,11 @@
-//! Records answers of the reference, and of solve as it is restated, for the program crates/replay, which replays them
-//! on the port: the stations, the telling cases, cases at the bounds, small random cases of the five calls and of the
-//! magnitude, and some larger ones. The legend that it writes has the file's format. Asked for a case by its call and
-//! number, it prints that case as a line instead.
+//! Records answers of the reference, and of solve and the pivot lists as they are restated, for the program
+//! crates/replay, which replays them on the port: the stations, the telling cases, cases at the bounds, small random
+//! cases of the seven calls and of the magnitude, and some larger ones. The legend that it writes has the file's format.
+//! Asked for a case by its call and number, it prints that case as a line instead.
 
 use oracle::case::*;
 use oracle::random::{self, Bounds, Rng};
-use oracle::{lines, rules, telling};
+use oracle::{lines, pivot_cases, rules, telling};
 use std::collections::BTreeMap;
 use std::path::Path;
 
@@ -13,6 +13,7 @@ const SMALL: Bounds = Bounds { max_col: 6, max_row: 10 };
 const NEIGHBOURS: Bounds = Bounds { max_col: 4, max_row: 8 };
 const MIDDLE: Bounds = Bounds { max_col: 16, max_row: 40 };
 const LARGE: Bounds = Bounds { max_col: 64, max_row: 96 };
+const WIDE: Bounds = Bounds { max_col: 128, max_row: 128 };
 
 /// What the program has room for: the numbers of a panel or a working buffer; pivots or entries; rows; global rows.
 const ROOM: usize = 30_000;
@@ -20,10 +21,11 @@ const ROOM_COLUMNS: usize = 130;
 const ROOM_ROWS: usize = 1_026;
 const ROOM_GLOBAL_ROWS: usize = 1_024;
 
-const KINDS: usize = 6;
+const KINDS: usize = 8;
 
-/// The five calls, and the leaf that is recorded too.
-const CALLS: [&str; KINDS] = ["factor", "inertia", "assembly", "update", "solve", "magnitude"];
+/// The calls, and the leaf that is recorded too; each new one comes last.
+const CALLS: [&str; KINDS] =
+    ["factor", "inertia", "assembly", "update", "solve", "magnitude", "to_lapack", "from_lapack"];
 
 /// What is counted of each. Each has to be met.
 const OUTCOMES: [&str; KINDS] = [
@@ -35,20 +37,27 @@ const OUTCOMES: [&str; KINDS] = [
     "done/done, no landing/refused 13/refused 14/refused 15/refused 16/refused 17/refused 18",
     "solved/with blocks/in another order/not finite in the end/refused 1/refused 16/refused 25/refused 26/refused 27",
     "with a sign/of a zero/of another number/of an infinity/of a quiet not-a-number/of a signalling not-a-number",
+    "listed/with blocks/with an exchange/with an exchange at a block/with a first row from elsewhere/refused 1/\
+     refused 16/refused 25/refused 26/refused 28",
+    "read/with blocks/with an exchange/with an exchange at a block/refused 1/refused 25/refused 29/refused 30/\
+     refused with the least i32",
 ];
 
-const TITLE: &str = "Answers of the reference, and of solve as oracle/src/solve.rs restates it, recorded by";
+const TITLE: &str =
+    "Answers of the reference, and of solve and the pivot lists as oracle/src/solve.rs and pivots.rs restate them,
+recorded by";
 
 const LEGEND: &str = "\
-Of each call the stations, the telling cases of oracle/src/telling.rs and systems.rs and cases at the bounds come first,
-of the magnitude the bits of magnitude.rs beside them; then random ones, the larger last. `oracle/record SEED COUNT CALL
-NUMBER` prints one case, counted from 0, as a line of the oracle's with its answer.
+Of each call the stations, the telling cases of oracle/src/telling.rs, systems.rs and pivot_cases.rs and cases at the
+bounds come first, of the magnitude the bits of magnitude.rs beside them; then random ones, the larger last.
+`oracle/record SEED COUNT CALL NUMBER` prints one case, counted from 0, as a line of the oracle's with its answer.
 
 Little-endian. A count is a u16, a number the u64 of its bits (every not-a-number 7FF8000000000000), bits a u64 as they
-are, a global row a u32, any other row or column a count, a byte a byte; a list stands without its length.
+are, a global row a u32, any other row or column a count, a number of LAPACK's list an i32, a byte a byte; a list stands
+without its length.
 
 file      'replay 1'; the Adler-32 of what follows, a u32; the counts of cases of factor, inertia, assembly, update,
-          solve and magnitude; the cases in that order
+          solve, magnitude, to_lapack and from_lapack; the cases in that order
 answer    counts: the refusal's number (0: none), its place A, B, rounds, positive, negative, zero
 factor    answer; counts ncol nrow nb limit; count 1 for Lift, 0 for Fail; the floor, a number; the lengths of input,
           panel, d, subdiagonal, block bytes, lift bytes, amounts, order, marks, working buffer; the input. If it is
@@ -62,6 +71,11 @@ update    answer; counts ncol nrow nk mk; the target's first row; the lengths of
 solve     answer; counts ncol nrow; the lengths of panel, d, subdiagonal, block bytes, order, vector; the six lists; the
           vector as it is left
 magnitude bits; those of the magnitude. No answer before them: the leaf refuses nothing
+to_lapack answer; count ncol; the lengths of order, block bytes, list; the first two. If it is accepted: the list; else
+          it is left as it was
+from_lapack
+          answer; count ncol; the lengths of list, order, block bytes; the list. If it is accepted: order, block bytes;
+          else they are left as they were
 ";
 
 fn main() {
@@ -104,11 +118,11 @@ fn hand_made() -> Vec<Case> {
         _ => false,
     };
     let bounds = factor_bounds().chain(inertia_bounds()).chain(assembly_bounds()).chain(update_bounds());
-    named.filter(|case| !widest(case)).chain(bounds).chain(solve_bounds()).collect()
+    named.filter(|case| !widest(case)).chain(bounds).chain(solve_bounds()).chain(list_bounds()).collect()
 }
 
 /// So many small cases, six of ten of them factor calls; more of what is rare among them; some larger ones; a tenth as
-/// many systems, and as many bits.
+/// many systems, as many bits, and as many pivot lists to LAPACK and from it.
 fn random_cases(all: &mut Recorded, rng: &mut Rng, count: usize) {
     let few = [("inertia", SMALL), ("assembly", NEIGHBOURS), ("update", NEIGHBOURS), ("update", NEIGHBOURS)];
     for i in 0..count {
@@ -125,6 +139,11 @@ fn random_cases(all: &mut Recorded, rng: &mut Rng, count: usize) {
     all.add(&such("with several panels", || widest(rng)));
     solves(all, rng, count / 10);
     (0..count / 10).for_each(|_| all.add(&random_case(rng, "magnitude", SMALL)));
+    for kind in ["to_lapack", "from_lapack"] {
+        (0..count / 10).for_each(|_| all.add(&random_case(rng, kind, SMALL)));
+        (0..20).for_each(|_| all.add(&random_case(rng, kind, MIDDLE)));
+        (0..10).for_each(|_| all.add(&random_case(rng, kind, WIDE)));
+    }
 }
 
 /// So many small systems, and some larger ones.
@@ -333,6 +352,32 @@ fn solve_bounds() -> impl Iterator<Item = Case> {
     all.into_iter().map(Case::Solve)
 }
 
+/// As many columns as are accepted and more, with lists and without; each list one longer and one shorter; a row far out
+/// of range; the least and the greatest number.
+fn list_bounds() -> impl Iterator<Item = Case> {
+    let to = |n: usize| pivot_cases::to(&(0..n).rev().collect::<Vec<_>>(), &vec![0; n]);
+    let from = |n: usize| pivot_cases::from(&vec![n as i32; n]);
+    let sizes = [(1, 1), (127, 127), (128, 128), (129, 129), (129, 0), (1024, 0), (usize::from(u16::MAX), 2)];
+    let mut tos: Vec<ToLapack> = sizes.map(|(ncol, n)| ToLapack { ncol, ..to(n) }).to_vec();
+    let mut froms: Vec<FromLapack> = sizes.map(|(ncol, n)| FromLapack { ncol, ..from(n) }).to_vec();
+    for off in [-1, 1] {
+        let longer = |n: usize| n.saturating_add_signed(off);
+        for which in 0..3 {
+            let (mut c, mut d) = (to(2), from(2));
+            match which {
+                0 => (c.order.resize(longer(2), 2), d.list.resize(longer(2), 3)),
+                1 => (c.blocks.resize(longer(2), 0), d.order.resize(longer(2), 0)),
+                _ => (c.list.resize(longer(2), 0), d.blocks.resize(longer(2), 0)),
+            };
+            tos.push(c);
+            froms.push(d);
+        }
+    }
+    tos.push(ToLapack { order: vec![0, usize::from(u16::MAX)], ..to(2) });
+    froms.extend([[i32::MIN, 2], [2, i32::MIN], [2, i32::MAX], [-i32::MAX; 2]].map(|list| pivot_cases::from(&list)));
+    tos.into_iter().map(Case::ToLapack).chain(froms.into_iter().map(Case::FromLapack))
+}
+
 // ---- bytes
 
 #[derive(Default)]
@@ -345,6 +390,10 @@ impl Bytes {
 
     fn counts(&mut self, all: &[usize]) {
         self.0.extend(all.iter().flat_map(|&x| u16::try_from(x).expect("a count too large").to_le_bytes()));
+    }
+
+    fn i32s(&mut self, all: &[i32]) {
+        self.0.extend(all.iter().flat_map(|x| x.to_le_bytes()));
     }
 
     fn numbers(&mut self, all: &[f64]) {
@@ -468,6 +517,30 @@ fn solve(to: &mut Bytes, s: &Solve, of: &Answer) {
     to.numbers(left(&s.vector, of));
 }
 
+fn to_lapack(to: &mut Bytes, c: &ToLapack, of: &Answer) {
+    let lengths = [c.order.len(), c.blocks.len(), c.list.len()];
+    assert!(lengths.into_iter().all(|n| n <= ROOM_COLUMNS));
+    to.counts(&[c.ncol]);
+    to.counts(&lengths);
+    to.counts(&c.order);
+    to.bytes(&c.blocks);
+    if let Answer::List(list) = of {
+        to.i32s(list);
+    }
+}
+
+fn from_lapack(to: &mut Bytes, c: &FromLapack, of: &Answer) {
+    let lengths = [c.list.len(), c.order.len(), c.blocks.len()];
+    assert!(lengths.into_iter().all(|n| n <= ROOM_COLUMNS));
+    to.counts(&[c.ncol]);
+    to.counts(&lengths);
+    to.i32s(&c.list);
+    if let Answer::Pivots { order, blocks } = of {
+        to.counts(order);
+        to.bytes(blocks);
+    }
+}
+
 /// A call's answer, what it was given, and what it left.
 fn call_of(to: &mut Bytes, case: &Case, of: &Answer) {
     answer(to, of);
@@ -477,6 +550,8 @@ fn call_of(to: &mut Bytes, case: &Case, of: &Answer) {
         Case::Assembly(a) => assembly(to, a, of),
         Case::Update(u) => update(to, u, of),
         Case::Solve(s) => solve(to, s, of),
+        Case::ToLapack(c) => to_lapack(to, c, of),
+        Case::FromLapack(c) => from_lapack(to, c, of),
         _ => unreachable!(),
     }
 }
@@ -503,6 +578,8 @@ impl Recorded<'_> {
             Case::Update(_) => 3,
             Case::Solve(_) => 4,
             Case::Magnitude(_) => 5,
+            Case::ToLapack(_) => 6,
+            Case::FromLapack(_) => 7,
             _ => unreachable!(),
         };
         if self.asked == Some((CALLS[call], self.cases[call])) {
@@ -549,7 +626,13 @@ impl Recorded<'_> {
 /// What a case is counted under: its outcome and, of an accepted factor call or solve, what it met.
 fn outcome(case: &Case, of: &Answer) -> Vec<String> {
     match (case, of) {
+        (Case::FromLapack(c), Answer::Refused(r)) => {
+            let least = c.list.contains(&i32::MIN);
+            [vec![format!("refused {}", r.number)], names(&[(least, "refused with the least i32")])].concat()
+        }
         (_, Answer::Refused(r)) => vec![format!("refused {}", r.number)],
+        (Case::ToLapack(c), Answer::List(list)) => listed("listed", list, &c.order, &c.blocks),
+        (Case::FromLapack(c), Answer::Pivots { order, blocks }) => listed("read", &c.list, order, blocks),
         (Case::Factor(f), Answer::Accepted { rounds, factored, marks }) => {
             let s = &f.settings;
             let met = [
@@ -579,6 +662,19 @@ fn outcome(case: &Case, of: &Answer) -> Vec<String> {
         (Case::Magnitude(bits), _) => bits_met(*bits),
         _ => vec!["done".to_string()],
     }
+}
+
+/// What a list, and the order and block bytes that it stands for, have.
+fn listed(done: &str, list: &[i32], order: &[usize], blocks: &[u8]) -> Vec<String> {
+    let block = |k: usize| blocks[k] == 1;
+    let columns = 0..order.len();
+    names(&[
+        (true, done),
+        (columns.clone().any(block), "with blocks"),
+        (!order.is_sorted(), "with an exchange"),
+        (columns.clone().any(|k| block(k) && list[k] != -(k as i32 + 2)), "with an exchange at a block"),
+        (done == "listed" && columns.clone().any(|k| block(k) && order[k] != k), "with a first row from elsewhere"),
+    ])
 }
 
 /// What a magnitude is of.
