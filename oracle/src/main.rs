@@ -88,8 +88,8 @@ fn named(all: Vec<(String, oracle::case::Case)>) -> Done {
     Ok(())
 }
 
-/// How many of the telling cases each wrong reading of solve, of the magnitude and of the pivot lists answers otherwise:
-/// not one is told by none.
+/// How many of the telling cases each wrong reading of solve, of the magnitude and of the pivot lists answers
+/// otherwise: not one is told by none.
 fn readings() -> Done {
     let systems: Vec<_> = systems::telling().into_iter().map(|(_, case)| case).collect();
     let lists: Vec<_> = pivot_cases::telling().into_iter().map(|(_, case)| case).collect();

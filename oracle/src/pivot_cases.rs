@@ -1,6 +1,6 @@
 //! Hand-made cases of the calls to LAPACK and from it: stations, each with its
 //! answer worked out by hand, and cases that tell the text from a wrong reading of
-//! it (`pivot_readings.rs`).
+//! it (`pivot_readings/`).
 
 use crate::case::*;
 

@@ -1,7 +1,7 @@
 //! The calls to LAPACK and from it, restated from docs/SCOPE.md, "LAPACK's pivot
 //! lists", apart from the port: rows trade places in a list of rows. Each step is a
 //! function of its own, and [`TO`] and [`FROM`] have them all, so that a wrong
-//! reading can say one of them otherwise (`pivot_readings.rs`).
+//! reading can say one of them otherwise (`pivot_readings/`).
 
 use crate::case::{FromLapack, Refusal, ToLapack};
 use crate::rules::{bad_block, refuse_at, refuse_if, Checked, MAX_COL};

@@ -1,7 +1,7 @@
 //! Records answers of the reference, and of solve and the pivot lists as they are restated, for the program
 //! crates/replay, which replays them on the port: the stations, the telling cases, cases at the bounds, small random
-//! cases of the seven calls and of the magnitude, and some larger ones. The legend that it writes has the file's format.
-//! Asked for a case by its call and number, it prints that case as a line instead.
+//! cases of the seven calls and of the magnitude, and some larger ones. The legend that it writes has the file's
+//! format. Asked for a case by its call and number, it prints that case as a line instead.
 
 use oracle::case::*;
 use oracle::random::{self, Bounds, Rng};
@@ -352,8 +352,8 @@ fn solve_bounds() -> impl Iterator<Item = Case> {
     all.into_iter().map(Case::Solve)
 }
 
-/// As many columns as are accepted and more, with lists and without; each list one longer and one shorter; a row far out
-/// of range; the least and the greatest number.
+/// As many columns as are accepted and more, with lists and without; each list one longer and one shorter; a row far
+/// out of range; the least and the greatest number.
 fn list_bounds() -> impl Iterator<Item = Case> {
     let to = |n: usize| pivot_cases::to(&(0..n).rev().collect::<Vec<_>>(), &vec![0; n]);
     let from = |n: usize| pivot_cases::from(&vec![n as i32; n]);

@@ -1,6 +1,6 @@
-//! A factor L·D·Lᵀ of a symmetric matrix in the library's layout, the library's own or LAPACK's, and the way between the
-//! two layouts. In the library's the rows of every column of L stand as the exchanges of all later pivots leave them.
-//! dsytf2 leaves them as they stood at the column's own step, and dsytrs makes the exchanges as it goes.
+//! A factor L·D·Lᵀ of a symmetric matrix in the library's layout, the library's own or LAPACK's, and the way between
+//! the two layouts. In the library's the rows of every column of L stand as the exchanges of all later pivots leave
+//! them. dsytf2 leaves them as they stood at the column's own step, and dsytrs makes the exchanges as it goes.
 
 use misuktaan::{Factors, Mode, Settings};
 

@@ -1,5 +1,5 @@
-//! The library's factor, solve and pivot lists beside LAPACK's dsytf2 and dsytrs, on symmetric indefinite systems that are
-//! well-conditioned. Residuals ‖Ax − b‖ are taken with twice the digits.
+//! The library's factor, solve and pivot lists beside LAPACK's dsytf2 and dsytrs, on symmetric indefinite systems that
+//! are well-conditioned. Residuals ‖Ax − b‖ are taken with twice the digits.
 //!
 //! What is printed is the library's residual as a multiple of LAPACK's own, or of eps·‖A‖·‖x‖ where that is more: a
 //! residual below it is luck, and can be 0.

@@ -1,10 +1,13 @@
 //! The library's pivot lists beside LAPACK's, on the systems of lapack.rs.
 //!
-//! - dsytf2's list is accepted, comes back unchanged, and gives an order and block bytes with which its L and D reproduce
-//!   the matrix, rows and columns in that order: what is left of it is held to PRODUCT·eps·n·‖|L|·|D|·|L|ᵀ‖. With them, and
-//!   with the rows of its L brought to their last places, the library solves the system.
-//! - The list of the library's factor, and its L and D in LAPACK's layout, solve the system by dsytrs.
-//! - With another list in its place, one exchange of which is another that is permitted, all of this fails.
+//! - dsytf2's list is accepted, comes back unchanged, and gives an order and block bytes with which its L and D
+//!   reproduce the matrix, rows and columns in that order: what is left of it, ‖P·A·Pᵀ − L·D·Lᵀ‖, is held to
+//!   PRODUCT·eps·n·‖|L|·|D|·|L|ᵀ‖. With them, and with the rows of its L brought to their last places, the library
+//!   solves the system.
+//! - The list of the library's factor leads back to its order and block bytes; with it, and with its L and D in
+//!   LAPACK's layout, dsytrs solves the system.
+//! - With another list, one exchange of which is another that is permitted, the matrix is not reproduced and the system
+//!   is not solved.
 
 use crate::factored::{exchanges, Factored};
 use crate::fortran;

@@ -1,5 +1,5 @@
-//! Norms, and what is left of an equation. All norms are greatest magnitudes, of a matrix the greatest sum of magnitudes
-//! in a row.
+//! Norms, and what is left of an equation. All norms are greatest magnitudes, of a matrix the greatest sum of
+//! magnitudes in a row.
 
 use crate::factored::Factored;
 

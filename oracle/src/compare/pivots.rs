@@ -1,6 +1,6 @@
 //! The library's calls to LAPACK and from it beside the text of docs/SCOPE.md, "LAPACK's pivot lists", which
-//! oracle/src/pivots.rs restates: the answer, its place and every cell of every buffer; and forth and back, and back and
-//! forth. The orders and block bytes are any, or those that the library's factor call leaves.
+//! oracle/src/pivots.rs restates: the answer, its place and every cell of every buffer; and forth and back, and back
+//! and forth. The orders and block bytes are any, or those that the library's factor call leaves.
 
 mod call;
 mod counts;
