@@ -266,7 +266,12 @@ pub extern "C" fn misuktaan_solve(
 // accepted list misuktaan_from_lapack makes order and bytes again.
 // in: ncol; order, the head's, and blocks, ncol each. out: list, ncol.
 #[unsafe(no_mangle)]
-pub extern "C" fn misuktaan_to_lapack(ncol: usize, order: &[usize], blocks: &[u8], list: &mut [i32]) -> Outcome
+pub extern "C" fn misuktaan_to_lapack(
+    ncol: usize,
+    order: &[usize],
+    blocks: &[u8],
+    list: &mut [i32],
+) -> Outcome
     ensures left { ◌≡◌ {A = ListLeft} (record { outcome = result; list = list.new })
         (list_left (to_lapack_of ncol order.now blocks.now list.old)) }
     ensures again { result.number ≡ 0 → GivesAgain ncol order.now blocks.now list.new }
@@ -278,7 +283,12 @@ pub extern "C" fn misuktaan_to_lapack(ncol: usize, order: &[usize], blocks: &[u8
 // written. Of those misuktaan_to_lapack makes an accepted list again.
 // in: ncol; list, ncol. out: order, blocks, ncol each.
 #[unsafe(no_mangle)]
-pub extern "C" fn misuktaan_from_lapack(ncol: usize, list: &[i32], order: &mut [usize], blocks: &mut [u8]) -> Outcome
+pub extern "C" fn misuktaan_from_lapack(
+    ncol: usize,
+    list: &[i32],
+    order: &mut [usize],
+    blocks: &mut [u8],
+) -> Outcome
     ensures left { ◌≡◌ {A = OrderLeft} (record { outcome = result; order = order.new; blocks = blocks.new })
         (order_left (from_lapack_of ncol list.now order.old blocks.old)) }
     ensures again { result.number ≡ 0 → GivesListAgain ncol list.now order.new blocks.new }

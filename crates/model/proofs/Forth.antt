@@ -206,7 +206,7 @@ module _ (n : ℕ) (order blocks : ℕ → ℕ) (w : Sound n order blocks) where
           let after : past_pivot (record { rows = rows; blocks = before }) k (g k) ≡ record { rows = swapped rows e p; blocks = step_bytes before k block }
           = pivot-is rows before k (g k) block p sign size in
           let goes : read_from n g (suc m) k (record { rows = rows; blocks = before })
-              ≡ read_from n g m (e + 1) (record { rows = swapped rows e p; blocks = step_bytes before k block })
+          ≡ read_from n g m (e + 1) (record { rows = swapped rows e p; blocks = step_bytes before k block })
           = read-past n g m k (record { rows = rows; blocks = before }) here faultless ∙ rw (sign, after) refl in
           let again = next (e + 1) (swapped rows e p) _ (step_bytes before k block) (standing-past e p rows found.0 found.1 found.2 standing) (omega arith)
           (omega (arith, last-from k block)) took.rest in

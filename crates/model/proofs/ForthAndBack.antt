@@ -159,8 +159,10 @@ forth-and-back ncol order blocks list e o b ol bl =
     (omega arith) (omega arith) t.walk (λ i l. get_d_tabulate ncol i t.made (pos 0) l) in
     rw t.left (from-leaves ncol (tabulate ncol t.made) o b again.made
     (sizes-pass ncol _ _ _ (record { few = s.few; first = length-tabulate_from 0 ncol t.made; second = ol; third = bl })) again.is
-    ∙ rw (← is-tabulate ncol again.made.rows 0 order s.first (λ i l. sym (again.rows i l)),
-    ← is-tabulate ncol again.made.blocks 0 blocks s.second (λ i l. sym (again.bytes i (omega arith) l))) refl)
+    ∙ rw (
+      ← is-tabulate ncol again.made.rows 0 order s.first (λ i l. sym (again.rows i l)),
+      ← is-tabulate ncol again.made.blocks 0 blocks s.second (λ i l. sym (again.bytes i (omega arith) l)),
+    ) refl)
 
 -- of whatever list a walk from LAPACK was, it is the list that is made again
 pub made-again : (n : ℕ) (g : ℕ → ℤ) (a : Arranged) (l : List ℤ) → n ≤ most_columns → length l ≡ n → arranged_of n g ≡ Ok a

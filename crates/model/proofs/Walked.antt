@@ -61,11 +61,12 @@ step-walked n k rows blocks block p h f g w = record { list = with_number w.list
         ∙ read-fuel n l (n - (k + 1)) (n - (e + 1)) (e + 1) _ (omega arith) (omega arith)
       where
         two : l k ≡ number_of block p → block ≡ true → (k + 1 < n) × (l (k + 1) ≡ l k)
-        two own y =
-            (omega (arith, last_block k block y),
-            same (k + 1) (omega (arith, last_block k block y))
-            ∙ with-number-in w.list k block (number_of block p) (k + 1) (omega arith) (omega (arith, last_block k block y))
-            ∙ sym own)
+        two own y = (
+          omega (arith, last_block k block y),
+          same (k + 1) (omega (arith, last_block k block y))
+              ∙ with-number-in w.list k block (number_of block p) (k + 1) (omega arith) (omega (arith, last_block k block y))
+              ∙ sym own,
+        )
 
 -- at the end it is the walk's own
 pub walked-made : (n : ℕ) (rows blocks : ℕ → ℕ) (w : Walked n n rows blocks) → arranged_of n w.list ≡ Ok (record { rows = rows; blocks = blocks })

@@ -1,25 +1,20 @@
 -- Laws of what is noted of a pivot. Assumes nothing.
-use Prim.Native.Nat.{ℕ, ◌+◌, ◌<◌, ◌≤◌}
-use mathlib.Core.Path.{◌≡◌, refl, sym, ◌∙◌, ap, fun_ext}
+use Prim.Native.Nat.{ℕ, ◌<◌, ◌≤◌}
+use mathlib.Core.Path.{◌≡◌, ◌∙◌, ap}
 use mathlib.Core.Bool.{Bool, true, false}
 use mathlib.Core.List.{List}
 use native.Mathlib.Omega.{arith}
 use Rattle.std.specs.Prelude.{Option, Some, None, is_some}
 use Rattle.std.specs.Int.{from_bool}
 use Rattle.std.specs.Option.{unwrap_or}
-use borrow.Author.Tests.{eqb-true, eqb-false}
-use lib.Dec.{eqb}
-use lib.ListN.{length, get_or, set, length-set}
-use lib.Seq.{get_or-set_same, get_or-set_other, set-get_or}
+use lib.ListN.{length, set, length-set}
 use lib.Ieee.{Float}
 use Rattle.model.specs.Scalar.{zero_f}
-use Rattle.model.specs.Matrix.{Row, vec, naturals, places, put, swapped}
+use Rattle.model.specs.Matrix.{Row, vec, put, swapped}
 use Rattle.model.specs.Step.{Pivots, is_block, first_number, last_number, under_number}
-use Rattle.model.specs.Head.{last_of, byte_of, lift_byte, lift_amount, noted}
+use Rattle.model.specs.Head.{byte_of, lift_byte, lift_amount, noted}
 use Rattle.model.specs.declared.Pivot.{Pivot}
 use Rattle.kernels.proofs.Laws.{vec-set}
-use Rattle.model.proofs.Stores.{naturals-set, both-naturals}
-use Rattle.model.proofs.Cases.{test}
 
 -- ---- stores
 
@@ -28,7 +23,6 @@ pub both-vec : (xs ys : List Float) (k e : ℕ) (x y x' y' : Float) → ys ≡ s
     → vec ys ≡ put (put (vec xs) e y') k x'
 both-vec xs ys k e x y x' y' h p q l m =
     ap vec h ∙ vec-set (set xs e y) k x (rw (length-set xs e y) (omega arith)) ∙ rw (vec-set xs e y m, p, q)
-
 
 -- two exchanges, one after the other
 pub swapped-twice : (f g h : ℕ → ℕ) (k p e kp : ℕ) → g ≡ swapped f k p → h ≡ swapped g e kp → h ≡ swapped (swapped f k p) e kp

@@ -1,7 +1,7 @@
 // A case of each call: its lists are read, it is called with outputs that hold a known byte, and its answer and what it
-// leaves are held to what is recorded, to zeros or to that byte. Last a case of the leaf magnitude: bits, and what they
-// must become. All that the file has of a case is read, whatever the port answers, so that the next case begins where
-// it should. The room of a list x is of_x, an array of the largest case's length, since there is no heap.
+// leaves are held to what is recorded, to zeros or to that byte. A case of the leaf magnitude is bits, and what they must
+// become. All that the file has of a case is read, whatever the port answers, so that the next case begins where it
+// should. The room of a list x is of_x, an array of the largest case's length, since there is no heap.
 ghost use Rattle.std.specs.Prelude.{◌≡◌, length};
 
 use crate::file;
@@ -327,4 +327,42 @@ pub(crate) fn magnitude_case(answers: &mut Answers) -> bool {
     let of_number = scalar::magnitude(little_endian::number_of(bits));
     let wanted = little_endian::number_of(recorded);
     (scalar::magnitude_bits(bits) == recorded) & (of_number.bits() == wanted.bits())
+}
+
+// ---- LAPACK's pivot lists
+
+pub(crate) fn to_lapack_case(answers: &mut Answers) -> bool {
+    let recorded = read_answer(answers);
+    let ncol = answers.count();
+    let length_order = answers.count();
+    let length_blocks = answers.count();
+    let length_list = answers.count();
+    let mut of_order = [0usize; COLUMNS];
+    let mut of_blocks = [0u8; COLUMNS];
+    let mut of_list = [i32::HELD; COLUMNS];
+    let order = file::list(answers, length_order, &mut of_order, Answers::count);
+    let blocks = file::list(answers, length_blocks, &mut of_blocks, Answers::byte);
+    let list = file::first_of(length_list, &mut of_list);
+    let answer = lapack::to_lapack(ncol, order, blocks, list);
+    let left = file::holds(answers, outputs_after(recorded.number), list);
+    (Outcome::from(answer) == recorded) & left
+}
+
+pub(crate) fn from_lapack_case(answers: &mut Answers) -> bool {
+    let recorded = read_answer(answers);
+    let ncol = answers.count();
+    let length_list = answers.count();
+    let length_order = answers.count();
+    let length_blocks = answers.count();
+    let mut of_list = [0i32; COLUMNS];
+    let mut of_order = [usize::HELD; COLUMNS];
+    let mut of_blocks = [u8::HELD; COLUMNS];
+    let list = file::list(answers, length_list, &mut of_list, Answers::pivot);
+    let order = file::first_of(length_order, &mut of_order);
+    let blocks = file::first_of(length_blocks, &mut of_blocks);
+    let answer = lapack::from_lapack(ncol, list, order, blocks);
+    let left = outputs_after(recorded.number);
+    let mut same = file::holds(answers, left, order);
+    same &= file::holds(answers, left, blocks);
+    (Outcome::from(answer) == recorded) & same
 }

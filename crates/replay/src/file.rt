@@ -84,6 +84,11 @@ impl Answers {
         u32::from_le_bytes(self.bytes())
     }
 
+    // A number of LAPACK's list of pivots.
+    pub(crate) fn pivot(&mut self) -> i32 {
+        i32::from_le_bytes(self.bytes())
+    }
+
     pub(crate) fn bits(&mut self) -> u64 {
         u64::from_le_bytes(self.bytes())
     }
@@ -160,6 +165,19 @@ impl Lent for usize {
 
     fn recorded(answers: &mut Answers) -> u64 {
         answers.count() as u64
+    }
+}
+
+// A number of LAPACK's list of pivots.
+impl Lent for i32 {
+    const HELD: i32 = 0x42424242;
+
+    fn bits(self) -> u64 {
+        u64::from(u32::from_le_bytes(self.to_le_bytes()))
+    }
+
+    fn recorded(answers: &mut Answers) -> u64 {
+        answers.pivot().bits()
     }
 }
 
