@@ -5,13 +5,14 @@ use Prim.Native.Nat.{ℕ, ◌<◌, ◌≤◌}
 use native.Mathlib.Omega.{arith}
 use borrow.Author.Tests.{ltb-true, ltb-false}
 use lib.Dec.{ltb}
-use lib.ListN.{length, get_or, replicate, length-replicate, get_or-replicate, get_or-eq_default}
+use lib.ListN.{length, get_or, replicate, get_or-eq_default}
 use lib.Ieee.{Float}
 use Rattle.model.specs.Matrix.{view, naturals, places, tabulate}
 use Rattle.model.specs.Step.{pivots_of}
 use Rattle.model.specs.Head.{State, blank}
 use Rattle.model.specs.Factor.{Buffers, lent_in, SameLent, start, zeros}
 use Rattle.model.specs.declared.LentBuffers.{LentBuffers}
+use Rattle.model.proofs.Stores.{naturals-zeros}
 use Rattle.model.proofs.Tabulated.{length-tabulate_from, get_d_tabulate, is-tabulate}
 use Rattle.model.proofs.Cases.{test}
 use Rattle.buffers.specs.Buffers.{in_order, begun_of}
@@ -25,13 +26,6 @@ order-end xs i n h l e = is-tabulate n (λ k. k) 0 xs l (λ k m. e k (omega arit
 -- ---- the buffers before the first panel
 
 -- such lists as the definitions see them: no block, no lift, every row in its place
-pub bytes-zeros : (n : ℕ) → naturals (replicate n 0) ≡ (λ i. 0)
-unfolding naturals
-bytes-zeros n =
-    fun_ext λ i. test (ltb i n)
-    (λ p. get_or-replicate n i 0 0 (ltb-true i n p))
-    (λ p. get_or-eq_default (replicate n 0) 0 (omega (arith, length-replicate {A = ℕ} n 0, ltb-false i n p)))
-
 pub places-in_order : (n : ℕ) → places (in_order n) ≡ (λ i. i)
 unfolding places in_order
 places-in_order n =
@@ -50,8 +44,8 @@ pub begun-start : (given : List Float) (b l : Buffers) (partners : List ℕ) (nr
     }) (start ncol (view nrow given))
 unfolding start
 begun-start given b l partners nrow ncol e d s a p =
-    let eb : naturals (replicate (length b.blocks) 0) ≡ (λ i. 0) = bytes-zeros (length b.blocks) in
-    let el : naturals (replicate (length b.lifts) 0) ≡ (λ i. 0) = bytes-zeros (length b.lifts) in
+    let eb : naturals (replicate (length b.blocks) 0) ≡ (λ i. 0) = naturals-zeros (length b.blocks) in
+    let el : naturals (replicate (length b.lifts) 0) ≡ (λ i. 0) = naturals-zeros (length b.lifts) in
     let eo : places (in_order (length b.order)) ≡ (λ i. i) = places-in_order (length b.order) in
     rw (e, d, s, a, eb, el, eo, p)
 

@@ -1,5 +1,5 @@
-// The factor call's buffers: as they begin before the first panel, and zeros after a run refusal. A reader may
-// rely on the contracts: equations with the definitions, of whole buffers.
+// The factor call's buffers: as they begin before the first panel, and zeros after a run refusal; and an order as it
+// begins. A reader may rely on the contracts: equations with the definitions, of whole buffers.
 #![tactic(auto)]
 
 ghost use Rattle.std.specs.Prelude.{◌≡◌, length};

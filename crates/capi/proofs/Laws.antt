@@ -10,8 +10,8 @@ use Rattle.model.specs.Factor as factor
 use Rattle.model.specs.Assembly.{Panelled}
 use Rattle.model.specs.Solve.{Solved}
 use Rattle.model.specs.Lapack.{Listed, Read}
-use Rattle.model.proofs.Numbered.{numbered-above}
 use Rattle.model.specs.declared.Report.{Report}
+use Rattle.model.proofs.Numbered.{numbered-above}
 use Rattle.outcome.specs.Numbers.{factor_numbers, panel_numbers}
 use Rattle.outcome.specs.declared.Outcome.{Outcome}
 use Rattle.capi.specs.Left.{FactorLeft, factor_left, PanelLeft, panel_left, VectorLeft, vector_left, ListLeft, list_left, OrderLeft, order_left}

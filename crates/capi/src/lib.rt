@@ -262,8 +262,8 @@ pub extern "C" fn misuktaan_solve(
     solve::solve(ncol, nrow, factor, vector).into()
 }
 
-// LAPACK's list of pivots for a head's order and block bytes, or refusal 1, 25, 26, 16 or 28 and nothing written. Of an
-// accepted list misuktaan_from_lapack makes order and bytes again.
+// LAPACK's list of pivots for a head's order and block bytes, or refusal 1, 25, 26, 16 or 28 and nothing written. Of the
+// list that it makes misuktaan_from_lapack makes order and bytes again.
 // in: ncol; order, the head's, and blocks, ncol each. out: list, ncol.
 #[unsafe(no_mangle)]
 pub extern "C" fn misuktaan_to_lapack(
@@ -280,7 +280,7 @@ pub extern "C" fn misuktaan_to_lapack(
 }
 
 // The order and the block bytes that LAPACK's list of pivots stands for, or refusal 1, 25, 30 or 29 and nothing
-// written. Of those misuktaan_to_lapack makes an accepted list again.
+// written. Of these misuktaan_to_lapack makes the list again.
 // in: ncol; list, ncol. out: order, blocks, ncol each.
 #[unsafe(no_mangle)]
 pub extern "C" fn misuktaan_from_lapack(

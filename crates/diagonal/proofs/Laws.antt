@@ -1,4 +1,5 @@
 -- Laws of the block bytes and of a pivot read off the lists, by the test that reads a byte. Assumes nothing.
+use Rattle.std.specs.Int.{from_bool}
 use mathlib.Core.Path.{◌≡◌, sym, ◌∙◌, ap}
 use mathlib.Core.Bool.{Bool, true, false}
 use mathlib.Core.List.{List}
@@ -10,7 +11,6 @@ use lib.ListN.{get_or}
 use lib.Ieee.{Float, nan}
 use Rattle.model.specs.Matrix.{vec, naturals}
 use Rattle.model.specs.Step.{begins, ends_block, past_of, block_at, diagonal_at}
-use Rattle.std.specs.Int.{from_bool}
 use Rattle.model.specs.Head.{last_of}
 use Rattle.model.specs.declared.Block.{Block}
 use Rattle.model.specs.declared.Diagonal.TheVariants.{One, Two}

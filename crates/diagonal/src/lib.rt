@@ -97,11 +97,11 @@ pub fn past(blocks: &[u8], k: Elim) -> usize
 }
 
 // The last column of a pivot at k.
-pub fn last_column(k: usize, block: bool) -> usize
-    requires { k < most_columns }
-    ensures { result ≡ last_of k block }
+pub fn last_column(k: Elim, block: bool) -> Elim
+    requires { k.0 < most_columns }
+    ensures { result.0 ≡ last_of k.0 block }
 {
-    k + usize::from(block)
+    Elim(k.0 + usize::from(block))
 }
 
 // Of n columns the first that is past the pivots of columns k to k + 3, whichever of them are blocks, or the end.

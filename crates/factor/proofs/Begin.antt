@@ -29,7 +29,8 @@ use Rattle.model.proofs.Entry.{second-sound, not-refused, passed}
 use Rattle.model.proofs.Recorded.{none-recorded}
 use Rattle.whole.specs.Whole.{WholeRun, whole_panels_of}
 use Rattle.buffers.specs.Buffers.{begun_of}
-use Rattle.buffers.proofs.Buffers.{bytes-zeros, begun-start}
+use Rattle.model.proofs.Stores.{naturals-zeros}
+use Rattle.buffers.proofs.Buffers.{begun-start}
 use Rattle.step.specs.Terms.{LimitPre}
 use Rattle.bunch_kaufman.specs.Terms.{NotedTo}
 use Rattle.panels.specs.Turn.{between}
@@ -104,9 +105,9 @@ pub noted-none : (n : ℕ) (d sub : List Float) (blocks partners lifts : List �
     → blocks ≡ replicate n 0 → partners ≡ replicate most_columns 0 → NotedTo 0 1 0 (pivots_of d sub blocks partners lifts amounts order)
 noted-none n d sub blocks partners lifts amounts order e f = record {
   few = omega arith;
-  pair = λ c h. absurd (omega (arith, ap (λ (g : ℕ → ℕ). g c) (ap naturals e ∙ bytes-zeros n)));
-  partner = λ c. omega (arith, ap (λ (g : ℕ → ℕ). g c) (ap naturals f ∙ bytes-zeros most_columns));
-  recorded = rw (e, f, bytes-zeros n, bytes-zeros most_columns) (none-recorded (λ i. 0) (λ i. 0));
+  pair = λ c h. absurd (omega (arith, ap (λ (g : ℕ → ℕ). g c) (ap naturals e ∙ naturals-zeros n)));
+  partner = λ c. omega (arith, ap (λ (g : ℕ → ℕ). g c) (ap naturals f ∙ naturals-zeros most_columns));
+  recorded = rw (e, f, naturals-zeros n, naturals-zeros most_columns) (none-recorded (λ i. 0) (λ i. 0));
 }
 
 -- the buffers show the start: x as they were lent, y as they begin
@@ -117,7 +118,7 @@ pub start_is : (c : Settings) (input : List Float) (x y : LentBuffers) (partners
 start_is c input x y partners e w p =
     let q = passed c input (lent_in x) e in
     begun-start input (lent_in x) (lent_in y) partners c.nrow c.ncol w q.lengths.d q.lengths.sub q.lengths.amounts
-    (ap naturals p ∙ bytes-zeros most_columns)
+    (ap naturals p ∙ naturals-zeros most_columns)
 
 -- ---- after the last panel
 

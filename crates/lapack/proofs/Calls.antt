@@ -11,14 +11,14 @@ use Rattle.model.specs.Matrix.{naturals, places, tabulate}
 use Rattle.model.specs.Answer.{Check, Applied}
 use Rattle.model.specs.Inertia.{check_bytes}
 use Rattle.model.specs.Solve.{check_order}
-use Rattle.model.specs.Lapack.{integers, sizes_check, to_check, list_of, Listed, to_lapack_of, from_check, Arranged, arranged_of, Read, from_lapack_of}
+use Rattle.model.specs.Lapack.{integers, sizes_check, to_check, Listing, list_of, Listed, to_lapack_of, from_check, Arranged, arranged_of, Read, from_lapack_of}
 use Rattle.model.specs.ForthAndBack.{GivesAgain, GivesListAgain}
 use Rattle.model.specs.declared.Refusal.{Refusal}
 use Rattle.model.proofs.Tabulated.{is-tabulate}
 use Rattle.model.proofs.Stores.{place_at}
 use Rattle.model.proofs.ForthAndBack.{Sizes, sizes, ToChecked, to-checked, to-leaves, from-leaves, forth-and-back, back-and-forth}
+use Rattle.lapack.specs.Walks.{walked, SoundPre, listing, to_leaves, arranged, ListsPre, from_leaves}
 use Rattle.checks.proofs.Answers.{first-refuses, second-decides}
-use Rattle.lapack.specs.Walks.{walked, SoundPre, to_leaves, arranged, ListsPre, from_leaves}
 
 -- ---- the checks to LAPACK in turn; k is what the sizes' check answers, j the order's, i the bytes'
 
@@ -76,24 +76,28 @@ module _ (ncol : ℕ) (order blocks : List ℕ) (list : List ℤ) (k : Check) (e
         order-small : length order ≤ most_columns
         order-small = omega (arith, checked.sizes.first, checked.sizes.few)
 
-    -- the list's room in the work
-    pub to-room : (xs : List ℤ) → length xs ≡ ncol → (length xs ≡ length order) × (length list ≡ length xs)
-    to-room xs l = (omega (arith, checked.sizes.first), omega (arith, checked.sizes.third))
+    -- room for the walk's lists
+    pub to-room : (rows : List ℕ) (xs : List ℤ) → length rows ≡ ncol → length xs ≡ ncol → (length rows ≡ length order) × (length xs ≡ length order)
+    to-room rows xs l m = (omega (arith, checked.sizes.first), omega (arith, checked.sizes.first))
 
-    pub to-late : (r : Refusal) (a : Applied) (f : ℕ → ℤ) → a ≡ Err r → walked a f ≡ list_of (length order) (naturals order) (naturals blocks)
+    pub to-copied : (xs : List ℤ) → length xs ≡ ncol → length list ≡ length xs
+    to-copied xs l = omega (arith, checked.sizes.third)
+
+    pub to-late : (r : Refusal) (a : Applied) (f : Listing) → a ≡ Err r → walked a f ≡ list_of (length order) (naturals order) (naturals blocks)
         → to_leaves (Err r) list ≡ to_lapack_of ncol order blocks list
     unfolding to_lapack_of
     to-late r a f o x =
         let made : list_of ncol (naturals order) (naturals blocks) ≡ Err r = rw (← checked.sizes.first, ← x, o) refl in
         rw (← e, h, made) refl
 
-    pub to-done : (a : Applied) (numbers new : List ℤ) → a ≡ Ok tt → walked a (integers numbers) ≡ list_of (length order) (naturals order) (naturals blocks)
-        → new ≡ numbers → length numbers ≡ ncol → to_leaves (Ok tt) new ≡ to_lapack_of ncol order blocks list
+    pub to-done : (a : Applied) (rows : List ℕ) (numbers new : List ℤ) → a ≡ Ok tt
+        → walked a (listing rows numbers) ≡ list_of (length order) (naturals order) (naturals blocks) → new ≡ numbers → length numbers ≡ ncol
+        → to_leaves (Ok tt) new ≡ to_lapack_of ncol order blocks list
     unfolding integers
-    to-done a numbers new o x q l =
-        let made : list_of ncol (naturals order) (naturals blocks) ≡ Ok (integers numbers) = rw (← checked.sizes.first, ← x, o) refl in
+    to-done a rows numbers new o x q l =
+        let made : list_of ncol (naturals order) (naturals blocks) ≡ Ok (listing rows numbers) = rw (← checked.sizes.first, ← x, o) refl in
         let is : new ≡ tabulate ncol (integers numbers) = q ∙ is-tabulate ncol (integers numbers) (pos 0) numbers l (λ i m. refl) in
-        sym (to-leaves ncol order blocks list (integers numbers) (sym e ∙ h) made ∙ rw (← is) refl)
+        sym (to-leaves ncol order blocks list (listing rows numbers) (sym e ∙ h) made ∙ rw (← is) refl)
 
 -- what was accepted comes back
 pub to-gives : (ncol : ℕ) (order blocks : List ℕ) (list new : List ℤ)

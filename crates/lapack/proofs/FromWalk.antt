@@ -4,7 +4,7 @@ use Rattle.std.specs.Int.{from_bool}
 use mathlib.Core.Path.{◌≡◌, refl, sym, ◌∙◌, ap}
 use mathlib.Core.Bool.{Bool, true, false, not, ◌&&◌}
 use mathlib.Core.List.{List}
-use Prim.Native.Nat.{ℕ, suc, ◌+◌, ◌-◌, ◌<◌, ◌≤◌}
+use Prim.Native.Nat.{ℕ, ◌+◌, ◌-◌, ◌<◌, ◌≤◌}
 use native.Mathlib.Omega.{arith}
 use borrow.Author.Tests.{lt-ltb, le-ltb, ltb-true, leb-true}
 use lib.Dec.{ltb, leb}
@@ -14,20 +14,17 @@ use mir.Val.{of_z, to_z, SFits}
 use Rattle.std.proofs.lemmas.Int.{to_z-of_z}
 use Rattle.model.specs.Matrix.{naturals, places, put, swapped}
 use Rattle.model.specs.Head.{last_of, byte_of}
-use Rattle.model.specs.Lapack.{integers, is_negative, same_number, pair_sound, row_sound, fault_at, Arranged, past_pivot, read_from, arranged_of}
+use Rattle.model.specs.Lapack.{integers, is_negative, same_number, walk, pair_sound, row_sound, fault_at, Arranged, past_pivot, pivot_read, arranged_of}
 use Rattle.model.specs.declared.Refusal.{Refusal}
 use Rattle.model.specs.declared.Refusal.TheVariants.{ListNumber, ListPair}
 use Rattle.model.proofs.Cases.{and_left, and_right}
-use Rattle.model.proofs.Stores.{swap-places, both-naturals}
+use Rattle.model.proofs.Stores.{naturals-zeros, swap-places, both-naturals}
 use Rattle.model.proofs.Recorded.{last-from}
-use Rattle.model.proofs.Walked.{read-fuel}
-use Rattle.model.specs.Answer.{Check}
 use Rattle.model.proofs.Tabulated.{length-tabulate_from}
-use Rattle.model.proofs.Lapack.{passes-faultless}
+use Rattle.model.proofs.Lapack.{read-on}
 use Rattle.buffers.specs.Buffers.{in_order}
-use Rattle.buffers.proofs.Buffers.{bytes-zeros, places-in_order}
-use Rattle.lapack.specs.Walks.{stepped, arranged, pivot_read, ReadPre}
-use Rattle.lapack.proofs.ToWalk.{goes, same-ok}
+use Rattle.lapack.specs.Walks.{stepped, arranged, ReadPre}
+use Rattle.buffers.proofs.Buffers.{places-in_order}
 
 -- ---- a pair; the code holds a number by its bits
 
@@ -105,59 +102,26 @@ read-done n list k rows blocks new bytes t block e row byte w p h b l r f x y z 
 
 -- ---- the pivots from LAPACK in turn
 
-module _ (n : ℕ) (list : ℕ → ℤ) where
-  read-goes : (m k : ℕ) (a : Arranged) → k < n → read_from n list (suc m) k a ≡ goes (pivot_read n list k a) (read_from n list m)
-  unfolding read_from pivot_read goes
-  read-goes m k a h = by-fault (fault_at n list k) refl
-    where
-      by-fault : (c : Check) → fault_at n list k ≡ c → read_from n list (suc m) k a ≡ goes (pivot_read n list k a) (read_from n list m)
-      by-fault (Ok u) e = rw (lt-ltb k n h, e) refl
-      by-fault (Err r) e = rw (lt-ltb k n h, e) refl
+-- a step that was taken, as the definition has it
+pub from-taken : (n k l : ℕ) (list : ℕ → ℤ) (a b : Arranged) (r : Result ℕ Refusal) → stepped r b ≡ pivot_read n list k a → r ≡ Ok l
+    → pivot_read n list k a ≡ Ok (l, b)
+from-taken n k l list a b r e o = rw o at (sym e)
 
-  module _ (k : ℕ) (a new : Arranged) (r : Result ℕ Refusal) (h : k < n) (e : stepped r new ≡ pivot_read n list k a) where
-    -- a step that was taken
-    pub read-taken : (l : ℕ) → r ≡ Ok l → (fault_at n list k ≡ Ok tt) × (l ≡ last_of k (is_negative (list k)) + 1)
-    unfolding pivot_read
-    read-taken l o = by-fault (fault_at n list k) refl
-      where
-        by-fault : (c : Check) → fault_at n list k ≡ c → (fault_at n list k ≡ Ok tt) × (l ≡ last_of k (is_negative (list k)) + 1)
-        by-fault (Ok u) f =
-            let y = same-ok (l, new) (last_of k (is_negative (list k)) + 1, past_pivot a k (list k)) (rw (o, f) at e) in
-            (f, ap (λ (x : ℕ × Arranged). x.0) y)
-        by-fault (Err why) f = absurd (let z : Ok (l, new) ≡ Err why = rw (o, f) at e in let v : ◌≡◌ {A = ℕ} 0 1 = cc in omega arith)
+pub from-stopped : (n k : ℕ) (why : Refusal) (list : ℕ → ℤ) (a b : Arranged) (r : Result ℕ Refusal) → stepped r b ≡ pivot_read n list k a → r ≡ Err why
+    → pivot_read n list k a ≡ Err why
+from-stopped n k why list a b r e o = rw o at (sym e)
 
-    pub read-on : (l : ℕ) (w : Result Arranged Refusal) → r ≡ Ok l → read_from n list (n - k) k a ≡ w → read_from n list (n - l) l new ≡ w
-    unfolding goes
-    read-on l w o x =
-        let m : n - k ≡ suc (n - (k + 1)) = omega arith in
-        let late : k ≤ last_of k (is_negative (list k)) = last-from k (is_negative (list k)) in
-        let at : l ≡ last_of k (is_negative (list k)) + 1 = (read-taken l o).1 in
-        let turn = read-goes (n - (k + 1)) k a h in
-        read-fuel n list (n - l) (n - (k + 1)) l new (omega arith) (omega arith) ∙ sym (turn ∙ rw (← e, o) refl) ∙ rw (← m) x
-
-    pub read-stop : (why : Refusal) (w : Result Arranged Refusal) → r ≡ Err why → read_from n list (n - k) k a ≡ w → Err why ≡ w
-    unfolding goes
-    read-stop why w o x =
-        let m : n - k ≡ suc (n - (k + 1)) = omega arith in
-        let turn = read-goes (n - (k + 1)) k a h in
-        sym (turn ∙ rw (← e, o) refl) ∙ rw (← m) x
-
-    pub read_next : (l : ℕ) → r ≡ Ok l → (l ≤ n) × (k < l)
-    read_next l o =
-        let t = read-taken l o in
-        let f = passes-faultless n list k t.0 in
-        (omega (arith, t.1, f.low, f.high), omega (arith, t.1, last-from k (is_negative (list k))))
-
-  pub read-end : (k : ℕ) (a : Arranged) (w : Result Arranged Refusal) → n ≤ k → read_from n list (n - k) k a ≡ w → Ok a ≡ w
-  unfolding read_from
-  read-end k a w h x = let m : n - k ≡ 0 = omega arith in rw m at x
+pub from-goes : (n k l : ℕ) (list : ℕ → ℤ) (a b : Arranged) (r : Result ℕ Refusal) → k < n → stepped r b ≡ pivot_read n list k a → r ≡ Ok l → (l ≤ n) × (k < l)
+from-goes n k l list a b r h e o =
+    let on = read-on n list k l a b (from-taken n k l list a b r e o) in
+    (omega (arith, on.next, on.column.low, on.column.high), omega (arith, on.next, last-from k (is_negative (list k))))
 
 -- as the walk begins
 pub from-begins : (n m : ℕ) (list : ℕ → ℤ) (rows blocks : List ℕ) → rows ≡ in_order m → m ≡ n → blocks ≡ replicate n 0
-    → (length rows ≡ n) × (read_from n list (n - 0) 0 (arranged rows blocks) ≡ arranged_of n list)
+    → (length rows ≡ n) × (walk n (pivot_read n list) (n - 0) 0 (arranged rows blocks) ≡ arranged_of n list)
 unfolding in_order
 from-begins n m list rows blocks e l z =
     let own : places rows ≡ (λ i. i) = ap places e ∙ places-in_order m in
     let count : n - 0 ≡ n = omega arith in
-    let zeros : naturals blocks ≡ (λ i. 0) = ap naturals z ∙ bytes-zeros n in
+    let zeros : naturals blocks ≡ (λ i. 0) = ap naturals z ∙ naturals-zeros n in
     (ap length e ∙ length-tabulate_from 0 m (λ k. k) ∙ l, rw (count, own, zeros) refl)

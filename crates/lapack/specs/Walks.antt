@@ -1,16 +1,13 @@
--- The walks of LAPACK's lists as the code takes them: one pivot, and what a walk has left in its lists. Definitions only. Assumes nothing.
-use Rattle.std.specs.Prelude.{◌≡◌, cond, List, ℕ, ◌+◌, ◌-◌, ◌≤◌, ◌<◌, length, ℤ, Result, Ok, Err}
+-- What the walks of LAPACK's lists leave in the code's lists, and what they ask. Definitions only. Assumes nothing.
+use Rattle.std.specs.Prelude.{◌≡◌, List, ℕ, ◌≤◌, ◌<◌, length, ℤ, Result, Ok, Err}
 use Rattle.model.specs.Sizes.{most_columns}
-use Rattle.model.specs.Matrix.{naturals, places, swapped}
-use Rattle.model.specs.Step.{begins}
-use Rattle.model.specs.Head.{last_of}
+use Rattle.model.specs.Matrix.{naturals, places}
 use Rattle.model.specs.Kept.{Standing}
-use Rattle.model.specs.Answer.{Applied, Check, applied_says}
+use Rattle.model.specs.Answer.{Applied, applied_says}
 use Rattle.model.specs.Inertia.{check_bytes}
 use Rattle.model.specs.Solve.{check_order}
-use Rattle.model.specs.Lapack.{number_of, is_negative, place_from, stands_first, with_number, Listed, fault_at, Arranged, past_pivot, Read}
+use Rattle.model.specs.Lapack.{integers, Listing, Listed, Arranged, Read}
 use Rattle.model.specs.declared.Refusal.{Refusal}
-use Rattle.model.specs.declared.Refusal.TheVariants.{BlockRow}
 
 -- a step's answer, the next column or a refusal, with what it left
 abbrev pub stepped : {S : Type 0} → Result ℕ Refusal → S → Result (ℕ × S) Refusal
@@ -24,14 +21,9 @@ walked (Err r) s = Err r
 
 -- ---- to LAPACK
 
--- one pivot: the rows and the list after it
-unfoldable pub pivot_listed : (n : ℕ) (order blocks : ℕ → ℕ) (k : ℕ) (rows : ℕ → ℕ) (list : ℕ → ℤ) → Result (ℕ × ((ℕ → ℕ) × (ℕ → ℤ))) Refusal
-pivot_listed n order blocks k rows list =
-    let block = begins blocks k in
-    let e = last_of k block in
-    let p = place_from rows (order e) (n - e) e in
-    let next : Result (ℕ × ((ℕ → ℕ) × (ℕ → ℤ))) Refusal = Ok (e + 1, (swapped rows e p, with_number list k e (number_of block p))) in
-    cond (stands_first block rows order k) next (Err (BlockRow (record { 0 = k })))
+-- what the walk to LAPACK goes on with, as its two lists hold it
+abbrev pub listing : List ℕ → List ℤ → Listing
+listing rows list = record { rows = places rows; list = integers list }
 
 -- an order and block bytes of n columns that refusals 26 and 16 do not meet
 pub record SoundPre (n : ℕ) (order blocks : List ℕ) : Type 0 where
@@ -59,16 +51,9 @@ to_leaves r list = record { answer = applied_says r; list = list }
 
 -- ---- from LAPACK
 
+-- what the walk from LAPACK goes on with, as its two lists hold it
 abbrev pub arranged : List ℕ → List ℕ → Arranged
 arranged rows blocks = record { rows = places rows; blocks = naturals blocks }
-
-abbrev pub read_past : Check → ℕ → Arranged → Result (ℕ × Arranged) Refusal
-read_past (Ok u) k a = Ok (k, a)
-read_past (Err r) k a = Err r
-
--- one pivot: what the walk has arranged after it
-unfoldable pub pivot_read : (n : ℕ) (list : ℕ → ℤ) (k : ℕ) → Arranged → Result (ℕ × Arranged) Refusal
-pivot_read n list k a = read_past (fault_at n list k) (last_of k (is_negative (list k)) + 1) (past_pivot a k (list k))
 
 -- the two lists have as many places as there are columns
 pub record ListsPre (n len len_bytes : ℕ) : Type 0 where
@@ -83,5 +68,6 @@ pub record ReadPre (n k len len_bytes : ℕ) : Type 0 where
   pub rows : len ≡ n
   pub bytes : len_bytes ≡ n
 
+-- what the call leaves
 abbrev pub from_leaves : Applied → List ℕ → List ℕ → Read
 from_leaves r order blocks = record { answer = applied_says r; order = order; blocks = blocks }

@@ -1,5 +1,5 @@
--- What an accepted call may be relied on for: its order is a permutation that leaves the tail in place, and its block bytes are well formed, so that
--- inertia and update never answer 16 to them. Assumes nothing.
+-- What an accepted call may be relied on for: its order is a permutation that leaves the tail in place; its block bytes are well formed, so that inertia and
+-- update never answer 16 to them; and both are what a walk from LAPACK makes. Assumes nothing.
 use mathlib.Core.Path.{◌≡◌, refl, sym, ◌∙◌, ap, subst}
 use mathlib.Core.List.{List}
 use Prim.Native.Nat.{ℕ, zero, suc, ◌+◌, ◌-◌, ◌≤◌, ◌<◌, min, max}
@@ -17,18 +17,18 @@ use Rattle.model.specs.Head.{State, last_of, noted, Progress, stopped, going, pa
 use Rattle.model.specs.Inertia.{check_bytes}
 use Rattle.model.specs.Factor.{pivoting_of, Outcome, start, head_run_of, HeadAnswer, fails, stands, judged, judged_run, head_answer_of, entry_check, result_check}
 use Rattle.model.specs.Factor.{after_head, after_check, factor_of}
-use Rattle.model.specs.Answer.{Said, accepted, turned_away, Check}
+use Rattle.model.specs.Answer.{Said, accepted, Check}
 use Rattle.model.specs.Independence.{Call, PastEntry, outcome_of}
 use Rattle.model.specs.declared.Pivoting.{Pivoting}
 use Rattle.model.specs.declared.Pivot.{Pivot}
 use Rattle.model.specs.declared.Report.{Report}
-use Rattle.model.specs.declared.Refusal.{Refusal}
 use Rattle.model.proofs.Tabulated.{length-tabulate_from, get_d_tabulate}
 use Rattle.model.proofs.Cases.{test}
 use Rattle.model.proofs.Bytes.{tabulated-bytes}
 use Rattle.model.proofs.Exchanged.{swapped_same}
 use Rattle.model.proofs.Walked.{Walked, none-walked, step-walked}
 use Rattle.model.proofs.Order.{swapped-permutes, permutes-apart, permutes_inside, own-places}
+use Rattle.model.proofs.Numbered.{refused-not}
 use Rattle.model.proofs.Entry.{Passed, passed as entry-passed, past-entry}
 use Rattle.model.proofs.Bounds.{GoodPivot}
 use Rattle.model.proofs.Recorded.{last-from, step_bytes, Reached, panel-reached, noted-recorded, none-recorded}
@@ -124,10 +124,6 @@ pub record Accepted (x : Call) : Type 0 where
   pub panels : List Panel
   pub entry : PastEntry x
   pub head : head_answer_of (pivoting_of x.settings) x.settings.ncol x.settings.nb (view x.settings.nrow x.input) ≡ stands state panels
-
--- no answer is a refusal and an acceptance
-pub refused-not : (why : Refusal) (r : Report) (a : Said Report) → a ≡ turned_away why → a ≡ accepted r → ⊥
-refused-not why r a e f = let w : ◌≡◌ {A = ℕ} 0 1 = cc in omega arith
 
 -- a call that answers acceptance is one
 pub accepted-is : (x : Call) (r : Report) → (outcome_of x).answer ≡ accepted r → Accepted x

@@ -4,18 +4,18 @@ use mathlib.Core.Path.{◌≡◌, refl, sym, ◌∙◌, ap, subst}
 use mathlib.Core.Bool.{Bool, true, false}
 use Prim.Native.Nat.{ℕ, zero, suc, ◌+◌, ◌-◌, ◌≤◌, ◌<◌}
 use native.Mathlib.Omega.{arith}
-use borrow.Author.Tests.{eq-eqb, lt-ltb, ltb-true, ltb-false}
+use borrow.Author.Tests.{eq-eqb, ltb-true, ltb-false}
 use lib.Dec.{ltb, eqb}
 use Rattle.model.specs.Matrix.{swapped}
 use Rattle.model.specs.Step.{begins}
 use Rattle.model.specs.Head.{last_of, byte_of}
 use Rattle.model.specs.Kept.{Paired, Permutes}
-use Rattle.model.specs.Lapack.{number_of, is_negative, place_from, stands_first, with_number, listed_from}
-use Rattle.model.specs.Lapack.{Arranged, past_pivot, read_from}
+use Rattle.model.specs.Lapack.{number_of, is_negative, goes, walk, place_from, stands_first, with_number, Listing, pivot_listed, Arranged, past_pivot, pivot_read}
 use Rattle.model.specs.declared.Refusal.{Refusal}
 use Rattle.model.proofs.Cases.{test, cmp}
 use Rattle.model.proofs.Order.{swapped-permutes, permutes-apart}
 use Rattle.model.proofs.Recorded.{last-from, last_block, last-single, step_bytes, bytes-before, bytes-at, step-paired}
+use Rattle.model.proofs.Walk.{walk-turn}
 use Rattle.model.proofs.Lapack.{number-again, place-found, Faultless, WentOn, went-on}
 use Rattle.model.proofs.Forth.{swapped_at, swapped-before, with-number-before, with-number-in, pivot-is}
 
@@ -45,8 +45,8 @@ module _ (n : ℕ) (list : ℕ → ℤ) where
     pub rows : (i : ℕ) → i < k → b.rows i ≡ a.rows i
     pub bytes : (i : ℕ) → i < k → b.blocks i ≡ a.blocks i
 
-  pub read-kept : (m k : ℕ) (a b : Arranged) → read_from n list m k a ≡ Ok b → KeptBefore k a b
-  unfolding read_from
+  pub read-kept : (m k : ℕ) (a b : Arranged) → walk n (pivot_read n list) m k a ≡ Ok b → KeptBefore k a b
+  unfolding walk
   read-kept zero k a b x = let z : b ≡ a = cc in rw z (record { rows = λ i l. refl; bytes = λ i l. refl })
   read-kept (suc m) k a b x =
       test (ltb k n)
@@ -62,8 +62,8 @@ module _ (n : ℕ) (list : ℕ → ℤ) where
       })
       (λ t. let y : Ok a ≡ Ok b = rw t at x in let z : b ≡ a = cc in rw z (record { rows = λ i l. refl; bytes = λ i l. refl }))
 
-  pub read-fine : (m k : ℕ) (a b : Arranged) → Fine k a → k ≤ n → n - k ≤ m → read_from n list m k a ≡ Ok b → Fine n b
-  unfolding read_from
+  pub read-fine : (m k : ℕ) (a b : Arranged) → Fine k a → k ≤ n → n - k ≤ m → walk n (pivot_read n list) m k a ≡ Ok b → Fine n b
+  unfolding walk
   read-fine zero k a b s h f x = let z : b ≡ a = cc in let e : k ≡ n = omega arith in rw z (subst (λ (j : ℕ). Fine j a) e s)
   read-fine (suc m) k a b s h f x =
       test (ltb k n)
@@ -74,11 +74,11 @@ module _ (n : ℕ) (list : ℕ → ℤ) where
       (λ t. let y : Ok a ≡ Ok b = rw t at x in let z : b ≡ a = cc in let e : k ≡ n = omega (arith, ltb-false k n t) in rw z (subst (λ (j : ℕ). Fine j a) e s))
 
   -- what the walk to LAPACK makes again: the list from column k on, before it the numbers that were noted
-  pub record ListAgain (k : ℕ) (noted : ℕ → ℤ) (r : Result (ℕ → ℤ) Refusal) : Type 0 where
-    pub made : ℕ → ℤ
+  pub record ListAgain (k : ℕ) (noted : ℕ → ℤ) (r : Result Listing Refusal) : Type 0 where
+    pub made : Listing
     pub is : r ≡ Ok made
-    pub kept : (i : ℕ) → i < k → made i ≡ noted i
-    pub numbers : (i : ℕ) → k ≤ i → i < n → made i ≡ list i
+    pub kept : (i : ℕ) → i < k → made.list i ≡ noted i
+    pub numbers : (i : ℕ) → k ≤ i → i < n → made.list i ≡ list i
 
   -- order and bytes are what the walk from LAPACK ended with, at the n places
   module _ (b : Arranged) (order bytes : ℕ → ℕ) (rows-are : (i : ℕ) → i < n → order i ≡ b.rows i) (bytes-are : (i : ℕ) → i < n → bytes i ≡ b.blocks i) where
@@ -134,13 +134,23 @@ module _ (n : ℕ) (list : ℕ → ℤ) where
             × (a.rows (place_from a.rows (order e) (n - e) e) ≡ order e)
         search_found = place-found a.rows (order e) (n - e) e p late (omega arith) (sym last)
 
-    pub back-forth : (m k : ℕ) (a : Arranged) (noted : ℕ → ℤ) → Fine k a → k ≤ n → n - k ≤ m → read_from n list m k a ≡ Ok b
-        → ListAgain k noted (listed_from n order bytes m k a.rows noted)
-    unfolding listed_from read_from
-    back-forth zero k a noted s h f x = record { made = noted; is = refl; kept = λ i l. refl; numbers = λ i l o. absurd (omega arith) }
+    pub back-forth : (m k : ℕ) (a : Arranged) (noted : ℕ → ℤ) → Fine k a → k ≤ n → n - k ≤ m → walk n (pivot_read n list) m k a ≡ Ok b
+        → ListAgain k noted (walk n (pivot_listed n order bytes) m k (record { rows = a.rows; list = noted }))
+    unfolding walk pivot_listed goes
+    back-forth zero k a noted s h f x = record {
+      made = record { rows = a.rows; list = noted };
+      is = refl;
+      kept = λ i l. refl;
+      numbers = λ i l o. absurd (omega arith);
+    }
     back-forth (suc m) k a noted s h f x =
         test (ltb k n) (more (λ l c u v y z q. back-forth m l c u v y z q))
-        (λ t. record { made = noted; is = rw t refl; kept = λ i l. refl; numbers = λ i l o. absurd (omega (arith, ltb-false k n t)) })
+        (λ t. record {
+          made = record { rows = a.rows; list = noted };
+          is = rw t refl;
+          kept = λ i l. refl;
+          numbers = λ i l o. absurd (omega (arith, ltb-false k n t));
+        })
       where
         block : Bool
         block = is_negative (list k)
@@ -151,9 +161,9 @@ module _ (n : ℕ) (list : ℕ → ℤ) where
         p : ℕ
         p = unsigned_abs (list k) - 1
 
-        more : ((l : ℕ) (c : Arranged) (u : ℕ → ℤ) → Fine l c → l ≤ n → n - l ≤ m → read_from n list m l c ≡ Ok b
-            → ListAgain l u (listed_from n order bytes m l c.rows u))
-            → ltb k n ≡ true → ListAgain k noted (listed_from n order bytes (suc m) k a.rows noted)
+        more : ((l : ℕ) (c : Arranged) (u : ℕ → ℤ) → Fine l c → l ≤ n → n - l ≤ m → walk n (pivot_read n list) m l c ≡ Ok b
+            → ListAgain l u (walk n (pivot_listed n order bytes) m l (record { rows = c.rows; list = u })))
+            → ltb k n ≡ true → ListAgain k noted (walk n (pivot_listed n order bytes) (suc m) k (record { rows = a.rows; list = noted }))
         more next t =
             let here : k < n = ltb-true k n t in
             let on = went-on n list m k a b here x in
@@ -165,16 +175,19 @@ module _ (n : ℕ) (list : ℕ → ℤ) where
             let rows : (past_pivot a k (list k)).rows ≡ swapped a.rows e p = ap (λ (c : Arranged). c.rows) (past-is k a on.column) in
             record {
               made = again.made;
-              is = goes found here number ∙ sym (rw rows refl) ∙ again.is;
+              is = on_listed found here number ∙ sym (rw rows refl) ∙ again.is;
               kept = λ i l. again.kept i (omega arith) ∙ with-number-before noted k block (list k) i l;
               numbers = λ i l o. cmp i (e + 1)
                   (λ c. again.kept i c ∙ with-number-in noted k block (list k) i l (omega arith) ∙ alike on.column i l (omega arith))
                   (λ c. again.numbers i (omega arith) o) (λ c. again.numbers i (omega arith) o);
             }
           where
-            goes : Found m k a → k < n → number_of block p ≡ list k
-                → listed_from n order bytes (suc m) k a.rows noted ≡ listed_from n order bytes m (e + 1) (swapped a.rows e p) (with_number noted k e (list k))
-            goes found here number = rw (lt-ltb k n here, found.kind, found.in_place, found.place, number) refl
+            on_listed : Found m k a → k < n → number_of block p ≡ list k
+                → walk n (pivot_listed n order bytes) (suc m) k (record { rows = a.rows; list = noted })
+                ≡ walk n (pivot_listed n order bytes) m (e + 1) (record { rows = swapped a.rows e p; list = with_number noted k e (list k) })
+            on_listed found here number =
+                walk-turn n (pivot_listed n order bytes) m k (record { rows = a.rows; list = noted }) here
+                ∙ rw (found.kind, found.in_place, found.place, number) refl
 
             alike : Faultless n list k → (i : ℕ) → k ≤ i → i ≤ e → list k ≡ list i
             alike w i l o =

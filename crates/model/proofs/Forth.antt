@@ -2,10 +2,10 @@
 use Rattle.std.specs.Prelude.{ℤ, unsigned_abs, Result, Ok, Err}
 use mathlib.Core.Path.{◌≡◌, refl, sym, ◌∙◌, ap}
 use mathlib.Core.Bool.{Bool, true, false}
+use mathlib.Core.List.{List}
 use Prim.Native.Nat.{ℕ, zero, suc, ◌+◌, ◌-◌, ◌≤◌, ◌<◌}
 use native.Mathlib.Omega.{arith}
-use borrow.Author.Tests.{eq-eqb, ne_eqb, lt-ltb, eqb-true, eqb-false, ltb-true, ltb-false}
-use mathlib.Core.List.{List}
+use borrow.Author.Tests.{eq-eqb, ne_eqb, eqb-true, eqb-false, ltb-true, ltb-false}
 use lib.Dec.{ltb, eqb}
 use lib.ListN.{length}
 use Rattle.model.specs.Inertia.{check_bytes}
@@ -14,13 +14,14 @@ use Rattle.model.specs.Matrix.{naturals, put, swapped}
 use Rattle.model.specs.Step.{begins}
 use Rattle.model.specs.Head.{last_of, byte_of}
 use Rattle.model.specs.Kept.{Paired, Standing}
-use Rattle.model.specs.Lapack.{number_of, is_negative, place_from, stands_first, with_number, listed_from, Arranged, past_pivot, read_from}
+use Rattle.model.specs.Lapack.{number_of, is_negative, goes, walk, place_from, stands_first, with_number, Listing, pivot_listed, Arranged, past_pivot, pivot_read}
 use Rattle.model.specs.declared.Refusal.{Refusal}
 use Rattle.model.specs.declared.Refusal.TheVariants.{BlockRow}
 use Rattle.model.proofs.Cases.{test, cmp}
 use Rattle.model.proofs.Bytes.{bytes-paired}
 use Rattle.model.proofs.Order.{order-inside, order-apart, swapped-permutes}
 use Rattle.model.proofs.Recorded.{last-from, last_block, last-single, step_bytes, bytes-before, bytes-at, bytes-second}
+use Rattle.model.proofs.Walk.{same-ok, walk-turn, walk-over}
 use Rattle.model.proofs.Lapack.{negative-number, size-number, place-found, Faultless, read-past}
 
 -- ---- an exchange of a column with a place from it on
@@ -114,32 +115,59 @@ module _ (n : ℕ) (order blocks : ℕ → ℕ) (w : Sound n order blocks) where
   unfolding last_of
   last-in k h = test (begins blocks k) (λ t. rw t (w.paired.room k h (eqb-true (blocks k) 1 t))) (λ t. rw t h)
 
-  -- a walk to LAPACK that ends well took a pivot at k, whose block's first row stood in its place, and went on
-  record Took (m k : ℕ) (rows : ℕ → ℕ) (list made : ℕ → ℤ) : Type 0 where
-    in_place : stands_first (begins blocks k) rows order k ≡ true
-    rest : let e = last_of k (begins blocks k) in
-        let p = place_from rows (order e) (n - e) e in
-        listed_from n order blocks m (e + 1) (swapped rows e p) (with_number list k e (number_of (begins blocks k) p)) ≡ Ok made
+  -- where the pivot at k ends, and the row, by its place, that is exchanged with its last column
+  abbrev pub last_column : ℕ → ℕ
+  last_column k = last_of k (begins blocks k)
 
-  took_on : (m k : ℕ) (rows : ℕ → ℕ) (list made : ℕ → ℤ) → k < n → listed_from n order blocks (suc m) k rows list ≡ Ok made → Took m k rows list made
-  unfolding listed_from
-  took_on m k rows list made h x =
-      test (stands_first (begins blocks k) rows order k)
-      (λ t. record { in_place = t; rest = sym (rw (lt-ltb k n h, t) refl) ∙ x })
-      (λ t. absurd (let z : Err (BlockRow (record { 0 = k })) ≡ Ok made = rw (lt-ltb k n h, t) at x in let v : ◌≡◌ {A = ℕ} 0 1 = cc in omega arith))
+  abbrev pub partner : ℕ → (ℕ → ℕ) → ℕ
+  partner k rows = place_from rows (order (last_column k)) (n - last_column k) (last_column k)
+
+  -- past the pivot at k
+  abbrev pub past_listed : ℕ → Listing → Listing
+  past_listed k s =
+      record { rows = swapped s.rows (last_column k) (partner k s.rows); list = with_number s.list k (last_column k) (number_of (begins blocks k) (partner k s.rows)) }
+
+  -- a step that was taken: the block's first row stood in its place
+  pub record ListedOn (k l : ℕ) (s t : Listing) : Type 0 where
+    pub in_place : stands_first (begins blocks k) s.rows order k ≡ true
+    pub next : l ≡ last_column k + 1
+    pub made : t ≡ past_listed k s
+
+  pub listed-on : (k l : ℕ) (s t : Listing) → pivot_listed n order blocks k s ≡ Ok (l, t) → ListedOn k l s t
+  unfolding pivot_listed
+  listed-on k l s t e =
+      test (stands_first (begins blocks k) s.rows order k)
+      (λ f. let y : (l, t) ≡ (last_column k + 1, past_listed k s) = same-ok (l, t) (last_column k + 1, past_listed k s) (sym e ∙ rw f refl) in
+      record { in_place = f; next = ap (λ (x : ℕ × Listing). x.0) y; made = ap (λ (x : ℕ × Listing). x.1) y })
+      (λ f. absurd (let z : Err (BlockRow (record { 0 = k })) ≡ Ok (l, t) = rw f at e in let v : ◌≡◌ {A = ℕ} 0 1 = cc in omega arith))
+
+  -- so a walk goes up
+  pub listed-up : (k l : ℕ) (s t : Listing) → pivot_listed n order blocks k s ≡ Ok (l, t) → k < l
+  listed-up k l s t e = let o = listed-on k l s t e in omega (arith, o.next, last-from k (begins blocks k))
+
+  -- a walk that ends well took a pivot at k and went on
+  record Took (m k : ℕ) (s made : Listing) : Type 0 where
+    in_place : stands_first (begins blocks k) s.rows order k ≡ true
+    rest : walk n (pivot_listed n order blocks) m (last_column k + 1) (past_listed k s) ≡ Ok made
+
+  took_on : (m k : ℕ) (s made : Listing) → k < n → walk n (pivot_listed n order blocks) (suc m) k s ≡ Ok made → Took m k s made
+  unfolding pivot_listed goes
+  took_on m k s made h x =
+      let turn = walk-turn n (pivot_listed n order blocks) m k s h in
+      test (stands_first (begins blocks k) s.rows order k)
+      (λ t. record { in_place = t; rest = sym (turn ∙ rw t refl) ∙ x })
+      (λ t. absurd (let z : Err (BlockRow (record { 0 = k })) ≡ Ok made = sym (turn ∙ rw t refl) ∙ x in let v : ◌≡◌ {A = ℕ} 0 1 = cc in omega arith))
 
   -- the numbers before k are as they were
-  listed-kept : (m k : ℕ) (rows : ℕ → ℕ) (list made : ℕ → ℤ) → listed_from n order blocks m k rows list ≡ Ok made → (i : ℕ) → i < k → made i ≡ list i
-  unfolding listed_from
-  listed-kept zero k rows list made x i l = ap (λ (f : ℕ → ℤ). f i) (let z : made ≡ list = cc in z)
-  listed-kept (suc m) k rows list made x i l =
+  listed-kept : (m k : ℕ) (s made : Listing) → walk n (pivot_listed n order blocks) m k s ≡ Ok made → (i : ℕ) → i < k → made.list i ≡ s.list i
+  unfolding walk
+  listed-kept zero k s made x i l = ap (λ (y : Listing). y.list i) (same-ok made s (sym x))
+  listed-kept (suc m) k s made x i l =
       test (ltb k n)
-      (λ t. let s = took_on m k rows list made (ltb-true k n t) x in
-      let e = last_of k (begins blocks k) in
-      let p = place_from rows (order e) (n - e) e in
-      listed-kept m (e + 1) (swapped rows e p) _ made s.rest i (omega (arith, last-from k (begins blocks k)))
-      ∙ with-number-before list k (begins blocks k) (number_of (begins blocks k) p) i l)
-      (λ t. let z : Ok list ≡ Ok made = rw t at x in ap (λ (f : ℕ → ℤ). f i) (let y : made ≡ list = cc in y))
+      (λ t. let o = took_on m k s made (ltb-true k n t) x in
+      listed-kept m (last_column k + 1) (past_listed k s) made o.rest i (omega (arith, last-from k (begins blocks k)))
+      ∙ with-number-before s.list k (begins blocks k) (number_of (begins blocks k) (partner k s.rows)) i l)
+      (λ t. ap (λ (y : Listing). y.list i) (same-ok made s (sym x ∙ walk-over n (pivot_listed n order blocks) (suc m) k s (ltb-false k n t))))
 
   -- what the walk back makes of the list: the order, and the block bytes from k on, those before it as they were
   pub record Again (k : ℕ) (before : ℕ → ℕ) (r : Result Arranged Refusal) : Type 0 where
@@ -149,51 +177,53 @@ module _ (n : ℕ) (order blocks : ℕ → ℕ) (w : Sound n order blocks) where
     pub kept : (i : ℕ) → i < k → made.blocks i ≡ before i
     pub bytes : (i : ℕ) → k ≤ i → i < n → made.blocks i ≡ blocks i
 
-  -- g is the list, by what it holds at its n columns
-  pub forth-back : (m k : ℕ) (rows : ℕ → ℕ) (list made g : ℕ → ℤ) (before : ℕ → ℕ) → Standing n order k rows → k ≤ n → n - k ≤ m
-      → listed_from n order blocks m k rows list ≡ Ok made → ((i : ℕ) → i < n → g i ≡ made i)
-      → Again k before (read_from n g m k (record { rows = rows; blocks = before }))
-  unfolding read_from
-  forth-back zero k rows list made g before s h f x same = record {
-    made = record { rows = rows; blocks = before };
+  -- g is the list, by what it holds at its n columns; v is what the walk to LAPACK goes on with at k
+  pub forth-back : (m k : ℕ) (v made : Listing) (g : ℕ → ℤ) (before : ℕ → ℕ) → Standing n order k v.rows → k ≤ n → n - k ≤ m
+      → walk n (pivot_listed n order blocks) m k v ≡ Ok made → ((i : ℕ) → i < n → g i ≡ made.list i)
+      → Again k before (walk n (pivot_read n g) m k (record { rows = v.rows; blocks = before }))
+  unfolding walk
+  forth-back zero k v made g before s h f x same = record {
+    made = record { rows = v.rows; blocks = before };
     is = refl;
     rows = λ i l. s.placed i (omega arith);
     kept = λ i l. refl;
     bytes = λ i l o. absurd (omega arith);
   }
-  forth-back (suc m) k rows list made g before s h f x same =
-      test (ltb k n) (more (λ l u v b y a z c. forth-back m l u v made g b y a z c same)) ended
+  forth-back (suc m) k v made g before s h f x same = test (ltb k n) (more (λ l u b y a z c. forth-back m l u made g b y a z c same)) ended
     where
       block : Bool
       block = begins blocks k
 
       e : ℕ
-      e = last_of k block
+      e = last_column k
 
       p : ℕ
-      p = place_from rows (order e) (n - e) e
+      p = partner k v.rows
 
-      ended : ltb k n ≡ false → Again k before (read_from n g (suc m) k (record { rows = rows; blocks = before }))
+      now : Arranged
+      now = record { rows = v.rows; blocks = before }
+
+      ended : ltb k n ≡ false → Again k before (walk n (pivot_read n g) (suc m) k now)
       ended t = record {
-        made = record { rows = rows; blocks = before };
-        is = rw t refl;
+        made = now;
+        is = walk-over n (pivot_read n g) (suc m) k now (ltb-false k n t);
         rows = λ i l. s.placed i (omega (arith, ltb-false k n t));
         kept = λ i l. refl;
         bytes = λ i l o. absurd (omega (arith, ltb-false k n t));
       }
 
-      more : ((l : ℕ) (u : ℕ → ℕ) (v : ℕ → ℤ) (b : ℕ → ℕ) → Standing n order l u → l ≤ n → n - l ≤ m → listed_from n order blocks m l u v ≡ Ok made
-          → Again l b (read_from n g m l (record { rows = u; blocks = b })))
-          → ltb k n ≡ true → Again k before (read_from n g (suc m) k (record { rows = rows; blocks = before }))
+      more : ((l : ℕ) (u : Listing) (b : ℕ → ℕ) → Standing n order l u.rows → l ≤ n → n - l ≤ m → walk n (pivot_listed n order blocks) m l u ≡ Ok made
+          → Again l b (walk n (pivot_read n g) m l (record { rows = u.rows; blocks = b })))
+          → ltb k n ≡ true → Again k before (walk n (pivot_read n g) (suc m) k now)
       more next t =
           let here : k < n = ltb-true k n t in
           let inn : e < n = last-in k here in
-          let took = took_on m k rows list made here x in
-          let standing = standing-last k block rows took.in_place s in
-          let found = place-in e rows inn standing in
+          let took = took_on m k v made here x in
+          let standing = standing-last k block v.rows took.in_place s in
+          let found = place-in e v.rows inn standing in
           let noted : (i : ℕ) → k ≤ i → i ≤ e → g i ≡ number_of block p
-          = λ i l o. same i (omega arith) ∙ listed-kept m (e + 1) (swapped rows e p) _ made took.rest i (omega arith)
-          ∙ with-number-in list k block (number_of block p) i l o in
+          = λ i l o. same i (omega arith) ∙ listed-kept m (e + 1) (past_listed k v) made took.rest i (omega arith)
+          ∙ with-number-in v.list k block (number_of block p) i l o in
           let own : g k ≡ number_of block p = noted k (omega arith) (last-from k block) in
           let sign : is_negative (g k) ≡ block = ap is_negative own ∙ negative-number block p in
           let size : unsigned_abs (g k) ≡ p + 1 = ap unsigned_abs own ∙ size-number block p in
@@ -203,12 +233,12 @@ module _ (n : ℕ) (order blocks : ℕ → ℕ) (w : Sound n order blocks) where
             low = rw sign (omega (arith, found.0));
             high = omega (arith, found.1);
           } in
-          let after : past_pivot (record { rows = rows; blocks = before }) k (g k) ≡ record { rows = swapped rows e p; blocks = step_bytes before k block }
-          = pivot-is rows before k (g k) block p sign size in
-          let goes : read_from n g (suc m) k (record { rows = rows; blocks = before })
-          ≡ read_from n g m (e + 1) (record { rows = swapped rows e p; blocks = step_bytes before k block })
-          = read-past n g m k (record { rows = rows; blocks = before }) here faultless ∙ rw (sign, after) refl in
-          let again = next (e + 1) (swapped rows e p) _ (step_bytes before k block) (standing-past e p rows found.0 found.1 found.2 standing) (omega arith)
+          let after : past_pivot now k (g k) ≡ record { rows = swapped v.rows e p; blocks = step_bytes before k block }
+          = pivot-is v.rows before k (g k) block p sign size in
+          let goes : walk n (pivot_read n g) (suc m) k now
+          ≡ walk n (pivot_read n g) m (e + 1) (record { rows = swapped v.rows e p; blocks = step_bytes before k block })
+          = read-past n g m k now here faultless ∙ rw (sign, after) refl in
+          let again = next (e + 1) (past_listed k v) (step_bytes before k block) (standing-past e p v.rows found.0 found.1 found.2 standing) (omega arith)
           (omega (arith, last-from k block)) took.rest in
           record {
             made = again.made;
@@ -228,7 +258,8 @@ module _ (n : ℕ) (order blocks : ℕ → ℕ) (w : Sound n order blocks) where
               cmp i k (λ y. absurd (omega arith)) (λ y. ap (step_bytes before k block) y ∙ bytes-at before k block ∙ first ∙ ap blocks (sym y)) second
             where
               first : byte_of block ≡ blocks k
-              first = test block (λ y. rw y (sym (eqb-true (blocks k) 1 y))) (λ y. rw y (omega (arith, w.paired.byte k (ltb-true k n t), eqb-false (blocks k) 1 y)))
+              first = test block (λ y. rw y (sym (eqb-true (blocks k) 1 y)))
+                  (λ y. rw y (omega (arith, w.paired.byte k (ltb-true k n t), eqb-false (blocks k) 1 y)))
 
               second : k < i → step_bytes before k block i ≡ blocks i
               second y = test block

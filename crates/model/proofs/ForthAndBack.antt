@@ -10,16 +10,17 @@ use lib.Dec.{leb, eqb}
 use lib.ListN.{length}
 use Rattle.model.specs.Sizes.{most_columns}
 use Rattle.model.specs.Matrix.{naturals, tabulate}
-use Rattle.model.specs.Answer.{Said, accepted, refuse_if, or_else, turned_away, Check}
+use Rattle.model.specs.Answer.{past_check, accepted, refuse_if, or_else, turned_away, Check}
 use Rattle.model.specs.Inertia.{check_bytes}
 use Rattle.model.specs.Solve.{check_order, order_sound}
-use Rattle.model.specs.Lapack.{integers, three_lengths, sizes_check, to_check, list_of, list_past, listed_after, Listed, to_lapack_of}
-use Rattle.model.specs.Lapack.{from_check, Arranged, arranged_of, arranged_past, read_after, Read, from_lapack_of}
+use Rattle.model.specs.Lapack.{integers, three_lengths, sizes_check, to_check, Listing, list_of, listed_after, Listed, to_lapack_of}
+use Rattle.model.specs.Lapack.{from_check, Arranged, arranged_of, read_after, Read, from_lapack_of}
 use Rattle.model.specs.ForthAndBack.{ForthAndBack, BackAndForth}
 use Rattle.model.specs.declared.Refusal.{Refusal}
 use Rattle.model.specs.declared.Refusal.TheVariants.{Shape, BufferLength}
 use Rattle.model.proofs.Cases.{no, and_left, and_right}
 use Rattle.model.proofs.Tabulated.{length-tabulate_from, get_d_tabulate, is-tabulate}
+use Rattle.model.proofs.Numbered.{refused-not}
 use Rattle.model.proofs.Entry.{first-sound, second-sound, not-refused}
 use Rattle.model.proofs.Order.{tabulated-order, own-places}
 use Rattle.model.proofs.Bytes.{tabulated-bytes}
@@ -51,37 +52,33 @@ sizes-pass ncol a b c w = rw (le-leb ncol most_columns w.few, eq-eqb a ncol w.fi
 
 -- ---- to LAPACK
 
--- what is refused is not accepted
-not-both : {P : Type 0} (r : Refusal) (u : Said (Unit {0})) → u ≡ turned_away r → u ≡ accepted tt → P
-not-both r u e f = absurd (let w : ◌≡◌ {A = ℕ} 0 1 = cc in omega arith)
-
 -- a call that is accepted passed its check, and its walk ended well
 record ToAccepted (ncol : ℕ) (order blocks : List ℕ) (list : List ℤ) : Type 0 where
-  made : ℕ → ℤ
+  made : Listing
   check : to_check ncol order blocks list ≡ Ok tt
   walk : list_of ncol (naturals order) (naturals blocks) ≡ Ok made
-  left : (to_lapack_of ncol order blocks list).list ≡ tabulate ncol made
+  left : (to_lapack_of ncol order blocks list).list ≡ tabulate ncol made.list
 
 to-accepted : (ncol : ℕ) (order blocks : List ℕ) (list : List ℤ)
     → (to_lapack_of ncol order blocks list).answer ≡ accepted tt → ToAccepted ncol order blocks list
 unfolding to_lapack_of
 to-accepted ncol order blocks list e = by-both (to_check ncol order blocks list) refl (list_of ncol (naturals order) (naturals blocks)) refl
   where
-    left_by : Check → Result (ℕ → ℤ) Refusal → Listed
-    left_by c r = listed_after ncol (list_past c r) list
+    left_by : Check → Result Listing Refusal → Listed
+    left_by c r = listed_after ncol (past_check c r) list
 
-    walked : Result (ℕ → ℤ) Refusal
+    walked : Result Listing Refusal
     walked = list_of ncol (naturals order) (naturals blocks)
 
-    by-both : (c : Check) → to_check ncol order blocks list ≡ c → (r : Result (ℕ → ℤ) Refusal) → walked ≡ r → ToAccepted ncol order blocks list
-    by-both (Err why) h r k = not-both why _ (ap (λ (c : Check). (left_by c walked).answer) h) e
+    by-both : (c : Check) → to_check ncol order blocks list ≡ c → (r : Result Listing Refusal) → walked ≡ r → ToAccepted ncol order blocks list
+    by-both (Err why) h r k = absurd (refused-not why tt _ (ap (λ (c : Check). (left_by c walked).answer) h) e)
     by-both (Ok u) h (Err why) k =
-        not-both why _ (ap (λ (c : Check). (left_by c walked).answer) h ∙ ap (λ (x : Result (ℕ → ℤ) Refusal). (left_by (Ok u) x).answer) k) e
+        absurd (refused-not why tt _ (ap (λ (c : Check). (left_by c walked).answer) h ∙ ap (λ (x : Result Listing Refusal). (left_by (Ok u) x).answer) k) e)
     by-both (Ok u) h (Ok f) k = record {
       made = f;
       check = h;
       walk = k;
-      left = ap (λ (c : Check). (left_by c walked).list) h ∙ ap (λ (x : Result (ℕ → ℤ) Refusal). (left_by (Ok u) x).list) k;
+      left = ap (λ (c : Check). (left_by c walked).list) h ∙ ap (λ (x : Result Listing Refusal). (left_by (Ok u) x).list) k;
     }
 
 -- its check in parts
@@ -102,9 +99,9 @@ to-checked ncol order blocks list h =
     }
 
 -- and it leaves what it made
-pub to-leaves : (ncol : ℕ) (order blocks : List ℕ) (list : List ℤ) (made : ℕ → ℤ) → to_check ncol order blocks list ≡ Ok tt
+pub to-leaves : (ncol : ℕ) (order blocks : List ℕ) (list : List ℤ) (made : Listing) → to_check ncol order blocks list ≡ Ok tt
     → list_of ncol (naturals order) (naturals blocks) ≡ Ok made
-    → to_lapack_of ncol order blocks list ≡ record { answer = accepted tt; list = tabulate ncol made }
+    → to_lapack_of ncol order blocks list ≡ record { answer = accepted tt; list = tabulate ncol made.list }
 unfolding to_lapack_of
 to-leaves ncol order blocks list made h k = rw (h, k) refl
 
@@ -123,15 +120,15 @@ unfolding from_lapack_of
 from-accepted ncol list order blocks e = by-both (from_check ncol list order blocks) refl (arranged_of ncol (integers list)) refl
   where
     left_by : Check → Result Arranged Refusal → Read
-    left_by c r = read_after ncol (arranged_past c r) order blocks
+    left_by c r = read_after ncol (past_check c r) order blocks
 
     walked : Result Arranged Refusal
     walked = arranged_of ncol (integers list)
 
     by-both : (c : Check) → from_check ncol list order blocks ≡ c → (r : Result Arranged Refusal) → walked ≡ r → FromAccepted ncol list order blocks
-    by-both (Err why) h r k = not-both why _ (ap (λ (c : Check). (left_by c walked).answer) h) e
+    by-both (Err why) h r k = absurd (refused-not why tt _ (ap (λ (c : Check). (left_by c walked).answer) h) e)
     by-both (Ok u) h (Err why) k =
-        not-both why _ (ap (λ (c : Check). (left_by c walked).answer) h ∙ ap (λ (x : Result Arranged Refusal). (left_by (Ok u) x).answer) k) e
+        absurd (refused-not why tt _ (ap (λ (c : Check). (left_by c walked).answer) h ∙ ap (λ (x : Result Arranged Refusal). (left_by (Ok u) x).answer) k) e)
     by-both (Ok u) h (Ok a) k = record {
       made = a;
       check = h;
@@ -154,11 +151,11 @@ forth-and-back ncol order blocks list e o b ol bl =
     let t = to-accepted ncol order blocks list e in
     let c = to-checked ncol order blocks list t.check in
     let s = c.sizes in
-    let again = forth-back ncol (naturals order) (naturals blocks) (sound-lists ncol order blocks c.rows c.bytes s.second) ncol 0 (λ i. i) (λ i. pos 0) t.made (integers (tabulate ncol t.made)) (λ i. 0)
-    (record { permutes = own-places ncol; placed = λ i l. absurd (omega arith) })
-    (omega arith) (omega arith) t.walk (λ i l. get_d_tabulate ncol i t.made (pos 0) l) in
-    rw t.left (from-leaves ncol (tabulate ncol t.made) o b again.made
-    (sizes-pass ncol _ _ _ (record { few = s.few; first = length-tabulate_from 0 ncol t.made; second = ol; third = bl })) again.is
+    let again = forth-back ncol (naturals order) (naturals blocks) (sound-lists ncol order blocks c.rows c.bytes s.second) ncol 0 _ t.made
+    (integers (tabulate ncol t.made.list)) (λ i. 0) (record { permutes = own-places ncol; placed = λ i l. absurd (omega arith) })
+    (omega arith) (omega arith) t.walk (λ i l. get_d_tabulate ncol i t.made.list (pos 0) l) in
+    rw t.left (from-leaves ncol (tabulate ncol t.made.list) o b again.made
+    (sizes-pass ncol _ _ _ (record { few = s.few; first = length-tabulate_from 0 ncol t.made.list; second = ol; third = bl })) again.is
     ∙ rw (
       ← is-tabulate ncol again.made.rows 0 order s.first (λ i l. sym (again.rows i l)),
       ← is-tabulate ncol again.made.blocks 0 blocks s.second (λ i l. sym (again.bytes i (omega arith) l)),
@@ -180,8 +177,8 @@ made-again n g a l few ll e =
     let again = back-forth n g a (naturals rows) (naturals bytes)
     (λ i h. get_d_tabulate n i a.rows 0 h) (λ i h. get_d_tabulate n i a.blocks 0 h) n 0 _ (λ i. pos 0) fine (omega arith) (omega arith) e in
     to-leaves n rows bytes l again.made (check ended) again.is
-    ∙ rw (is-tabulate n g (pos 0) (tabulate n again.made) (length-tabulate_from 0 n again.made)
-    (λ i h. get_d_tabulate n i again.made (pos 0) h ∙ again.numbers i (omega arith) h)) refl
+    ∙ rw (is-tabulate n g (pos 0) (tabulate n again.made.list) (length-tabulate_from 0 n again.made.list)
+    (λ i h. get_d_tabulate n i again.made.list (pos 0) h ∙ again.numbers i (omega arith) h)) refl
   where
     check : Fine n g n a → to_check n (tabulate n a.rows) (tabulate n a.blocks) l ≡ Ok tt
     check f =

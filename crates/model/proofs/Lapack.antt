@@ -1,5 +1,5 @@
 -- Laws of LAPACK's lists: of a number, of a search for a row, of one pivot on the way from LAPACK, and of what the walks keep. Assumes nothing.
-use Rattle.std.specs.Prelude.{ℤ, pos, negsuc, unsigned_abs, Result, Ok, Err}
+use Rattle.std.specs.Prelude.{ℤ, pos, negsuc, unsigned_abs, Ok, Err}
 use mathlib.Core.Path.{◌≡◌, refl, sym, ◌∙◌, ap}
 use mathlib.Core.Bool.{Bool, true, false, not, ◌&&◌}
 use Prim.Native.Nat.{ℕ, zero, suc, ◌+◌, ◌-◌, ◌≤◌, ◌<◌}
@@ -7,11 +7,12 @@ use native.Mathlib.Omega.{arith}
 use borrow.Author.Tests.{eq-eqb, lt-ltb, le-leb, eqb-true, eqb-false, ltb-true, leb-true}
 use lib.Dec.{ltb, eqb}
 use Rattle.model.specs.Head.{last_of}
-use Rattle.model.specs.Answer.{or_else, refuse_if}
-use Rattle.model.specs.Lapack.{number_of, is_negative, same_number, place_from, pair_sound, row_sound, fault_at, Arranged, past_pivot, read_from}
-use Rattle.model.specs.declared.Refusal.{Refusal}
+use Rattle.model.specs.Answer.{Check, or_else, refuse_if}
+use Rattle.model.specs.Lapack.{number_of, is_negative, same_number, goes, walk, place_from, pair_sound, row_sound, fault_at, Arranged, past_pivot, pivot_read}
 use Rattle.model.specs.declared.Refusal.TheVariants.{ListNumber, ListPair}
 use Rattle.model.proofs.Cases.{test, and_left, and_right}
+use Rattle.model.proofs.Recorded.{last-from}
+use Rattle.model.proofs.Walk.{same-ok, walk-turn}
 
 -- ---- numbers
 
@@ -104,22 +105,46 @@ passes-faultless n list k h =
 
 -- the walk goes on past a column without a fault
 pub read-past : (n : ℕ) (list : ℕ → ℤ) (m k : ℕ) (a : Arranged) → k < n → Faultless n list k
-    → read_from n list (suc m) k a ≡ read_from n list m (last_of k (is_negative (list k)) + 1) (past_pivot a k (list k))
-unfolding read_from
-read-past n list m k a h w = rw (lt-ltb k n h, faultless-passes n list k w) refl
+    → walk n (pivot_read n list) (suc m) k a ≡ walk n (pivot_read n list) m (last_of k (is_negative (list k)) + 1) (past_pivot a k (list k))
+unfolding pivot_read goes
+read-past n list m k a h w = walk-turn n (pivot_read n list) m k a h ∙ rw (faultless-passes n list k w) refl
+
+-- a step that was taken had no fault at k
+pub record ReadOn (n : ℕ) (list : ℕ → ℤ) (k l : ℕ) (a b : Arranged) : Type 0 where
+  pub column : Faultless n list k
+  pub next : l ≡ last_of k (is_negative (list k)) + 1
+  pub made : b ≡ past_pivot a k (list k)
+
+pub read-on : (n : ℕ) (list : ℕ → ℤ) (k l : ℕ) (a b : Arranged) → pivot_read n list k a ≡ Ok (l, b) → ReadOn n list k l a b
+unfolding pivot_read
+read-on n list k l a b e = by-fault (fault_at n list k) refl
+  where
+    taken : ℕ × Arranged
+    taken = (last_of k (is_negative (list k)) + 1, past_pivot a k (list k))
+
+    by-fault : (c : Check) → fault_at n list k ≡ c → ReadOn n list k l a b
+    by-fault (Ok u) f =
+        let y : (l, b) ≡ taken = same-ok (l, b) taken (sym e ∙ rw f refl) in
+        record { column = passes-faultless n list k f; next = ap (λ (x : ℕ × Arranged). x.0) y; made = ap (λ (x : ℕ × Arranged). x.1) y }
+    by-fault (Err r) f = absurd (let z : Err r ≡ Ok (l, b) = rw f at e in let w : ◌≡◌ {A = ℕ} 0 1 = cc in omega arith)
+
+-- so a walk goes up
+pub read-up : (n : ℕ) (list : ℕ → ℤ) (k l : ℕ) (a b : Arranged) → pivot_read n list k a ≡ Ok (l, b) → k < l
+read-up n list k l a b e = let o = read-on n list k l a b e in omega (arith, o.next, last-from k (is_negative (list k)))
 
 -- a walk that ends well had no fault at k, and went on
 pub record WentOn (n : ℕ) (list : ℕ → ℤ) (m k : ℕ) (a b : Arranged) : Type 0 where
   pub column : Faultless n list k
-  pub rest : read_from n list m (last_of k (is_negative (list k)) + 1) (past_pivot a k (list k)) ≡ Ok b
+  pub rest : walk n (pivot_read n list) m (last_of k (is_negative (list k)) + 1) (past_pivot a k (list k)) ≡ Ok b
 
-pub went-on : (n : ℕ) (list : ℕ → ℤ) (m k : ℕ) (a b : Arranged) → k < n → read_from n list (suc m) k a ≡ Ok b → WentOn n list m k a b
-unfolding read_from
+pub went-on : (n : ℕ) (list : ℕ → ℤ) (m k : ℕ) (a b : Arranged) → k < n → walk n (pivot_read n list) (suc m) k a ≡ Ok b → WentOn n list m k a b
+unfolding pivot_read goes
 went-on n list m k a b h e = by-fault (fault_at n list k) refl
   where
-    next : Result Arranged Refusal
-    next = read_from n list m (last_of k (is_negative (list k)) + 1) (past_pivot a k (list k))
-
-    by-fault : (c : Result (Unit {0}) Refusal) → fault_at n list k ≡ c → WentOn n list m k a b
-    by-fault (Ok u) f = record { column = passes-faultless n list k f; rest = sym (rw (lt-ltb k n h, f) refl) ∙ e }
-    by-fault (Err r) f = absurd (let z : Err r ≡ Ok b = rw (lt-ltb k n h, f) at e in let w : ◌≡◌ {A = ℕ} 0 1 = cc in omega arith)
+    by-fault : (c : Check) → fault_at n list k ≡ c → WentOn n list m k a b
+    by-fault (Ok u) f = record {
+      column = passes-faultless n list k f;
+      rest = sym (walk-turn n (pivot_read n list) m k a h ∙ rw f refl) ∙ e;
+    }
+    by-fault (Err r) f =
+        absurd (let z : Err r ≡ Ok b = sym (walk-turn n (pivot_read n list) m k a h ∙ rw f refl) ∙ e in let w : ◌≡◌ {A = ℕ} 0 1 = cc in omega arith)

@@ -16,6 +16,7 @@ pub mod Zeros
 pub mod Terms
 pub mod Order
 pub mod Bytes
+pub mod Walk
 pub mod Lapack
 pub mod Numbered
 pub mod Entry

@@ -1,12 +1,16 @@
--- No refusal has the number 0, which stands for acceptance. Assumes nothing.
+-- A refusal is no acceptance: not as what a call says, and not by its number, which is never 0. Assumes nothing.
+use mathlib.Core.Path.{◌≡◌}
 use Prim.Native.Nat.{ℕ, ◌<◌}
 use native.Mathlib.Omega.{arith}
-use Rattle.model.specs.Answer.{numbered}
+use Rattle.model.specs.Answer.{Said, accepted, turned_away, numbered}
 use Rattle.model.specs.declared.Refusal.{Refusal}
 use Rattle.model.specs.declared.Refusal.TheVariants.{Shape, Width, Length, Floor, Limit, Input, ZeroColumn, Rounds, NotFinite, AssemblyLength}
 use Rattle.model.specs.declared.Refusal.TheVariants.{AssemblyPlace, AssemblyNumber, UpdateLength, TargetRows, DescendantRows, BlockByte, AbsentRow}
 use Rattle.model.specs.declared.Refusal.TheVariants.{DescendantNumber, InertiaLength, ZeroPivot, LowBlock, BufferLength, OrderPlace}
 use Rattle.model.specs.declared.Refusal.TheVariants.{RightSide, BlockRow, ListNumber, ListPair}
+
+pub refused-not : {A : Type 0} (why : Refusal) (x : A) (a : Said A) → a ≡ turned_away why → a ≡ accepted x → ⊥
+refused-not why x a e f = let w : ◌≡◌ {A = ℕ} 0 1 = cc in omega arith
 
 pub numbered-above : (r : Refusal) → 0 < (numbered r).0
 numbered-above Shape = omega arith

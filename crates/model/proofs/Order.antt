@@ -6,13 +6,13 @@ use Prim.Native.Nat.{ℕ, zero, suc, ◌+◌, ◌≤◌, ◌<◌}
 use native.Mathlib.Omega.{arith}
 use borrow.Author.Tests.{not-true, eqb-true, eqb-false, eq-eqb, ne_eqb, lt-ltb, ltb-true, ltb-false}
 use lib.Dec.{ltb, eqb}
+use Rattle.std.proofs.Math.Bool.{or-true}
 use Rattle.model.specs.Matrix.{Row, put, exchanged_place, swapped, naturals, tabulate}
 use Rattle.model.specs.Assembly.{first_not}
 use Rattle.model.specs.Solve.{named, order_sound, order_at, returned_from}
-use Rattle.std.proofs.Math.Bool.{or-true}
+use Rattle.model.specs.Kept.{Permutes}
 use Rattle.model.proofs.Every.{first-all}
 use Rattle.model.proofs.Cases.{test, cmp, and_left, and_right}
-use Rattle.model.specs.Kept.{Permutes}
 use Rattle.model.proofs.Tabulated.{get_d_tabulate}
 use Rattle.model.proofs.Exchanged.{place_twice, place-past}
 

@@ -1,20 +1,30 @@
--- Laws of stores in lists that are seen as functions: one, two one after the other, and two that exchange what two places hold. Assumes nothing.
+-- Laws of lists that are seen as functions: one of zeros, and stores: one, two one after the other, and two that exchange what two places hold.
+-- Assumes nothing.
 use Rattle.std.specs.Prelude.{ℤ, pos}
 use mathlib.Core.Path.{◌≡◌, refl, sym, ◌∙◌, ap, fun_ext}
 use mathlib.Core.List.{List}
-use Prim.Native.Nat.{ℕ, ◌≤◌, ◌<◌}
+use Prim.Native.Nat.{ℕ, zero, suc, ◌≤◌, ◌<◌}
 use native.Mathlib.Omega.{arith}
 use borrow.Author.Tests.{eqb-true, eqb-false}
 use lib.Dec.{eqb}
-use lib.ListN.{length, get_or, set, length-set}
+use lib.ListN.{length, get_or, set, replicate, length-set}
 use lib.Seq.{get_or-set_same, get_or-set_other, set-get_or}
-use Rattle.model.specs.Matrix.{naturals, places, put, swapped}
+use lib.Ieee.{Float, nan}
+use Rattle.model.specs.Matrix.{vec, naturals, places, put, swapped}
 use Rattle.model.specs.Lapack.{integers}
 use Rattle.model.proofs.Cases.{test}
 
--- ---- one store, and two
+-- ---- zeros, one store, and two
 
 module _ {A : Type 0} (z : A) where
+  none_stored : (n : ℕ) → ◌≡◌ {A = ℕ → A} (λ i. get_or (replicate n z) i z) (λ i. z)
+  none_stored n = fun_ext (every n)
+    where
+      every : (m i : ℕ) → get_or (replicate m z) i z ≡ z
+      every zero i = refl
+      every (suc m) zero = refl
+      every (suc m) (suc i) = every m i
+
   stored : (xs : List A) (i : ℕ) (v : A) → i < length xs → ◌≡◌ {A = ℕ → A} (λ a. get_or (set xs i v) a z) (put (λ a. get_or xs a z) i v)
   unfolding put
   stored xs i v h =
@@ -29,6 +39,14 @@ module _ {A : Type 0} (z : A) where
       ap {B = ℕ → A} (λ (zs : List A). λ a. get_or zs a z) h ∙ stored (set xs e y) k x (rw (length-set xs e y) (omega arith))
       ∙ ap {B = ℕ → A} (λ (f : ℕ → A). put f k x) (stored xs e y m)
 
+pub naturals-zeros : (n : ℕ) → naturals (replicate n 0) ≡ (λ i. 0)
+unfolding naturals
+naturals-zeros n = none_stored 0 n
+
+pub integers-zeros : (n : ℕ) → integers (replicate n (pos 0)) ≡ (λ i. pos 0)
+unfolding integers
+integers-zeros n = none_stored (pos 0) n
+
 pub naturals-set : (xs : List ℕ) (i v : ℕ) → i < length xs → naturals (set xs i v) ≡ put (naturals xs) i v
 unfolding naturals
 naturals-set xs i v h = stored 0 xs i v h
@@ -37,6 +55,11 @@ pub both-naturals : (xs ys : List ℕ) (k e x y x' y' : ℕ) → ys ≡ set (set
     → naturals ys ≡ put (put (naturals xs) e y') k x'
 unfolding naturals
 both-naturals xs ys k e x y x' y' h p q l m = both-stored 0 xs ys k e x y h l m ∙ rw (p, q) refl
+
+pub both-vec : (xs ys : List Float) (k e : ℕ) (x y x' y' : Float) → ys ≡ set (set xs e y) k x → x ≡ x' → y ≡ y' → k ≤ e → e < length xs
+    → vec ys ≡ put (put (vec xs) e y') k x'
+unfolding vec
+both-vec xs ys k e x y x' y' h p q l m = both-stored nan xs ys k e x y h l m ∙ rw (p, q) refl
 
 pub both-integers : (xs ys : List ℤ) (k e : ℕ) (x y : ℤ) → ys ≡ set (set xs e y) k x → k ≤ e → e < length xs
     → integers ys ≡ put (put (integers xs) e y) k x

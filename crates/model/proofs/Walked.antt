@@ -2,39 +2,23 @@
 use Rattle.std.specs.Prelude.{ℤ, pos, unsigned_abs, Ok}
 use mathlib.Core.Path.{◌≡◌, refl, sym, ◌∙◌, ap}
 use mathlib.Core.Bool.{Bool, true}
-use Prim.Native.Nat.{ℕ, zero, suc, ◌+◌, ◌-◌, ◌≤◌, ◌<◌}
+use Prim.Native.Nat.{ℕ, suc, ◌+◌, ◌-◌, ◌≤◌, ◌<◌}
 use native.Mathlib.Omega.{arith}
-use borrow.Author.Tests.{le-ltb, ltb-true}
-use lib.Dec.{ltb}
 use Rattle.model.specs.Matrix.{swapped}
 use Rattle.model.specs.Head.{last_of}
-use Rattle.model.specs.Lapack.{number_of, is_negative, with_number, Arranged, past_pivot, read_from, arranged_of}
-use Rattle.model.proofs.Cases.{test}
+use Rattle.model.specs.Lapack.{number_of, is_negative, walk, with_number, pivot_read, arranged_of}
 use Rattle.model.proofs.Recorded.{last-from, last_block, step_bytes}
-use Rattle.model.proofs.Lapack.{negative-number, size-number, Faultless, read-past}
+use Rattle.model.proofs.Walk.{walk-fuel}
+use Rattle.model.proofs.Lapack.{negative-number, size-number, Faultless, read-past, read-up}
 use Rattle.model.proofs.Forth.{with-number-before, with-number-in, pivot-is}
-
--- a pair takes one turn for two columns, so what is left of the turns does not matter
-pub read-fuel : (n : ℕ) (list : ℕ → ℤ) (m o k : ℕ) (a : Arranged) → n - k ≤ m → n - k ≤ o → read_from n list m k a ≡ read_from n list o k a
-unfolding read_from
-read-fuel n list zero zero k a h g = refl
-read-fuel n list zero (suc o) k a h g = rw (le-ltb k n (omega arith)) refl
-read-fuel n list (suc m) zero k a h g = rw (le-ltb k n (omega arith)) refl
-read-fuel n list (suc m) (suc o) k a h g =
-    test (ltb k n)
-    (λ t. let b : k < n = ltb-true k n t in
-    let l : k ≤ last_of k (is_negative (list k)) = last-from k (is_negative (list k)) in
-    let e = last_of k (is_negative (list k)) + 1 in
-    rw (t, read-fuel n list m o e (past_pivot a k (list k)) (omega arith) (omega arith)) refl)
-    (λ t. rw t refl)
 
 -- up to column k of n the rows and the block bytes are what a walk makes, of any list that agrees with this one on the columns before k
 pub record Walked (n k : ℕ) (rows blocks : ℕ → ℕ) : Type 0 where
   pub list : ℕ → ℤ
-  pub reads : (l : ℕ → ℤ) → ((i : ℕ) → i < k → l i ≡ list i) → arranged_of n l ≡ read_from n l (n - k) k (record { rows = rows; blocks = blocks })
+  pub reads : (l : ℕ → ℤ) → ((i : ℕ) → i < k → l i ≡ list i) → arranged_of n l ≡ walk n (pivot_read n l) (n - k) k (record { rows = rows; blocks = blocks })
 
 pub none-walked : (n : ℕ) → Walked n 0 (λ i. i) (λ i. 0)
-none-walked n = record { list = λ i. pos 0; reads = λ l h. ap (λ (m : ℕ). read_from n l m 0 (record { rows = λ i. i; blocks = λ i. 0 })) (omega arith) }
+none-walked n = record { list = λ i. pos 0; reads = λ l h. ap (λ (m : ℕ). walk n (pivot_read n l) m 0 (record { rows = λ i. i; blocks = λ i. 0 })) (omega arith) }
 
 -- a pivot more, whose last column is exchanged with p
 pub step-walked : (n k : ℕ) (rows blocks : ℕ → ℕ) (block : Bool) (p : ℕ) → last_of k block < n → last_of k block ≤ p → p < n → Walked n k rows blocks
@@ -45,7 +29,7 @@ step-walked n k rows blocks block p h f g w = record { list = with_number w.list
     e = last_of k block
 
     reads : (l : ℕ → ℤ) → ((i : ℕ) → i < e + 1 → l i ≡ with_number w.list k e (number_of block p) i)
-        → arranged_of n l ≡ read_from n l (n - (e + 1)) (e + 1) (record { rows = swapped rows e p; blocks = step_bytes blocks k block })
+        → arranged_of n l ≡ walk n (pivot_read n l) (n - (e + 1)) (e + 1) (record { rows = swapped rows e p; blocks = step_bytes blocks k block })
     reads l same =
         let far : k ≤ e = last-from k block in
         let own : l k ≡ number_of block p = same k (omega arith) ∙ with-number-in w.list k block (number_of block p) k (omega arith) far in
@@ -55,10 +39,10 @@ step-walked n k rows blocks block p h f g w = record { list = with_number w.list
         = record { pair = λ y. two own (sym sign ∙ y); low = rw sign (omega arith); high = omega arith } in
         let count : n - k ≡ suc (n - (k + 1)) = omega arith in
         w.reads l (λ i o. same i (omega arith) ∙ with-number-before w.list k block (number_of block p) i o)
-        ∙ ap (λ (m : ℕ). read_from n l m k (record { rows = rows; blocks = blocks })) count
+        ∙ ap (λ (m : ℕ). walk n (pivot_read n l) m k (record { rows = rows; blocks = blocks })) count
         ∙ read-past n l (n - (k + 1)) k (record { rows = rows; blocks = blocks }) (omega arith) faultless
         ∙ rw (sign, pivot-is rows blocks k (l k) block p sign size) refl
-        ∙ read-fuel n l (n - (k + 1)) (n - (e + 1)) (e + 1) _ (omega arith) (omega arith)
+        ∙ walk-fuel n (pivot_read n l) (read-up n l) (n - (k + 1)) (n - (e + 1)) (e + 1) _ (omega arith) (omega arith)
       where
         two : l k ≡ number_of block p → block ≡ true → (k + 1 < n) × (l (k + 1) ≡ l k)
         two own y = (
@@ -70,7 +54,7 @@ step-walked n k rows blocks block p h f g w = record { list = with_number w.list
 
 -- at the end it is the walk's own
 pub walked-made : (n : ℕ) (rows blocks : ℕ → ℕ) (w : Walked n n rows blocks) → arranged_of n w.list ≡ Ok (record { rows = rows; blocks = blocks })
-unfolding read_from
+unfolding walk
 walked-made n rows blocks w =
     let none : n - n ≡ 0 = omega arith in
-    w.reads w.list (λ i h. refl) ∙ ap (λ (m : ℕ). read_from n w.list m n (record { rows = rows; blocks = blocks })) none
+    w.reads w.list (λ i h. refl) ∙ ap (λ (m : ℕ). walk n (pivot_read n w.list) m n (record { rows = rows; blocks = blocks })) none

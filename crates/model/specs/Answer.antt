@@ -25,6 +25,11 @@ abbrev pub or_else : Check → Check → Check
 or_else (Ok u) c = c
 or_else (Err r) c = Err r
 
+-- a check's refusal, else what follows
+abbrev pub past_check : {A : Type 0} → Check → Result A Refusal → Result A Refusal
+past_check (Ok u) x = x
+past_check (Err r) x = Err r
+
 abbrev pub refuse_if : Bool → Refusal → Check
 refuse_if b r = cond b (Err r) (Ok tt)
 

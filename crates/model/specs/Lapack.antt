@@ -7,7 +7,7 @@ use Rattle.model.specs.Sizes.{most_columns}
 use Rattle.model.specs.Matrix.{naturals, put, swapped, tabulate}
 use Rattle.model.specs.Step.{begins}
 use Rattle.model.specs.Head.{last_of, byte_of}
-use Rattle.model.specs.Answer.{Said, accepted, or_else, refuse_if, turned_away, Check}
+use Rattle.model.specs.Answer.{Said, accepted, or_else, past_check, refuse_if, turned_away, Check}
 use Rattle.model.specs.Inertia.{check_bytes}
 use Rattle.model.specs.Solve.{check_order}
 use Rattle.model.specs.declared.Refusal.{Refusal}
@@ -19,21 +19,35 @@ use Rattle.model.specs.declared.Refusal.TheVariants.{Shape, BufferLength, BlockR
 unfoldable pub integers : List ℤ → ℕ → ℤ
 integers xs = λ k. get_or xs k (pos 0)
 
--- row p of LAPACK's count: p + 1 at a 1x1, and −(p + 1), which is negsuc p, at a block
+-- the number that names row p, which counts from 0: p + 1 at a 1x1, and −(p + 1), which is negsuc p, at a block
 abbrev pub number_of : Bool → ℕ → ℤ
 number_of block p = cond block (negsuc p) (pos (p + 1))
 
+-- below 0, as at a block; 0 is not
 abbrev pub is_negative : ℤ → Bool
 is_negative (pos n) = false
 is_negative (negsuc n) = true
 
+-- of one sign and one size
 abbrev pub same_number : ℤ → ℤ → Bool
 same_number (pos a) (pos b) = eqb a b
 same_number (pos a) (negsuc b) = false
 same_number (negsuc a) (pos b) = false
 same_number (negsuc a) (negsuc b) = eqb a b
 
--- ---- to LAPACK
+-- ---- a walk up the columns
+
+-- what a step of a walk answers, the next pivot's column and what it leaves, is gone on from; or its refusal stops the walk
+unfoldable pub goes : {S : Type 0} → Result (ℕ × S) Refusal → (ℕ → S → Result S Refusal) → Result S Refusal
+goes (Ok x) f = f x.0 x.1
+goes (Err r) f = Err r
+
+-- at most m pivots from column k of n on
+unfoldable pub walk : {S : Type 0} → (n : ℕ) (step : ℕ → S → Result (ℕ × S) Refusal) (m k : ℕ) → S → Result S Refusal
+walk n step zero k s = Ok s
+walk n step (suc m) k s = let next = goes (step k s) (walk n step m) in cond (ltb k n) next (Ok s)
+
+-- ---- sizes
 
 -- refusal 25 is not met: three buffers of ncol places
 abbrev pub three_lengths : (ncol a b c : ℕ) → Bool
@@ -43,6 +57,8 @@ three_lengths ncol a b c = eqb a ncol && (eqb b ncol && eqb c ncol)
 abbrev pub sizes_check : (ncol a b c : ℕ) → Check
 sizes_check ncol a b c =
     or_else (refuse_if (not (leb ncol most_columns)) Shape) (refuse_if (not (three_lengths ncol a b c)) BufferLength)
+
+-- ---- to LAPACK
 
 -- 1, 25, 26, 16
 unfoldable pub to_check : ℕ → List ℕ → List ℕ → List ℤ → Check
@@ -62,37 +78,38 @@ stands_first block rows order k = not block || eqb (rows k) (order k)
 abbrev pub with_number : (ℕ → ℤ) → ℕ → ℕ → ℤ → ℕ → ℤ
 with_number list k e z = put (put list e z) k z
 
--- at most m pivots from column k of n on: the exchange brings to a pivot's last column the row that the order has there
-unfoldable pub listed_from : (n : ℕ) (order blocks : ℕ → ℕ) (m k : ℕ) (rows : ℕ → ℕ) (list : ℕ → ℤ) → Result (ℕ → ℤ) Refusal
-listed_from n order blocks zero k rows list = Ok list
-listed_from n order blocks (suc m) k rows list =
+-- what the walk to LAPACK goes on with: the rows as they stand, and the numbers so far
+pub record Listing : Type 0 where
+  pub rows : ℕ → ℕ
+  pub list : ℕ → ℤ
+
+-- the pivot at k: the exchange brings to its last column the row that the order has there
+unfoldable pub pivot_listed : (n : ℕ) (order blocks : ℕ → ℕ) → ℕ → Listing → Result (ℕ × Listing) Refusal
+pivot_listed n order blocks k s =
     let block = begins blocks k in
     let e = last_of k block in
-    let p = place_from rows (order e) (n - e) e in
-    let next = listed_from n order blocks m (e + 1) (swapped rows e p) (with_number list k e (number_of block p)) in
-    let here = cond (stands_first block rows order k) next (Err (BlockRow (record { 0 = k }))) in
-    cond (ltb k n) here (Ok list)
+    let p = place_from s.rows (order e) (n - e) e in
+    past_check (refuse_if (not (stands_first block s.rows order k)) (BlockRow (record { 0 = k })))
+    (Ok (e + 1, record { rows = swapped s.rows e p; list = with_number s.list k e (number_of block p) }))
 
 -- each row begins at its own place, each number as 0
-abbrev pub list_of : ℕ → (order blocks : ℕ → ℕ) → Result (ℕ → ℤ) Refusal
-list_of n order blocks = listed_from n order blocks n 0 (λ i. i) (λ i. pos 0)
+abbrev pub list_of : ℕ → (order blocks : ℕ → ℕ) → Result Listing Refusal
+list_of n order blocks = walk n (pivot_listed n order blocks) n 0 (record { rows = λ i. i; list = λ i. pos 0 })
 
 -- what the call leaves: its answer and the list
 pub record Listed : Type 0 where
   pub answer : Said (Unit {0})
   pub list : List ℤ
 
-abbrev pub listed_after : ℕ → Result (ℕ → ℤ) Refusal → List ℤ → Listed
-listed_after ncol (Ok f) list = record { answer = accepted tt; list = tabulate ncol f }
+-- the walk's list once it has ended well; else the list as it was
+abbrev pub listed_after : ℕ → Result Listing Refusal → List ℤ → Listed
+listed_after ncol (Ok s) list = record { answer = accepted tt; list = tabulate ncol s.list }
 listed_after ncol (Err r) list = record { answer = turned_away r; list = list }
 
-abbrev pub list_past : Check → Result (ℕ → ℤ) Refusal → Result (ℕ → ℤ) Refusal
-list_past (Ok u) made = made
-list_past (Err r) made = Err r
-
+-- 1, 25, 26, 16, then 28 as the walk comes to it
 unfoldable pub to_lapack_of : ℕ → List ℕ → List ℕ → List ℤ → Listed
 to_lapack_of ncol order blocks list =
-    listed_after ncol (list_past (to_check ncol order blocks list) (list_of ncol (naturals order) (naturals blocks))) list
+    listed_after ncol (past_check (to_check ncol order blocks list) (list_of ncol (naturals order) (naturals blocks))) list
 
 -- ---- from LAPACK
 
@@ -114,14 +131,10 @@ fault_at n list k =
     or_else (refuse_if (not (pair_sound n list k)) (ListPair (record { 0 = k })))
     (refuse_if (not (row_sound n (last_of k (is_negative (list k))) (list k))) (ListNumber (record { 0 = k })))
 
--- the rows as they stand, and the block bytes
+-- what the walk from LAPACK goes on with: the rows as they stand, and the block bytes so far
 pub record Arranged : Type 0 where
   pub rows : ℕ → ℕ
   pub blocks : ℕ → ℕ
-
-abbrev pub arranged_past : Check → Result Arranged Refusal → Result Arranged Refusal
-arranged_past (Ok u) a = a
-arranged_past (Err r) a = Err r
 
 -- past the pivot in column k whose number is z: its exchange, and its block byte with a 0 after it
 unfoldable pub past_pivot : Arranged → ℕ → ℤ → Arranged
@@ -130,16 +143,13 @@ past_pivot a k z =
     let e = last_of k block in
     record { rows = swapped a.rows e (unsigned_abs z - 1); blocks = put (put a.blocks e 0) k (byte_of block) }
 
--- at most m pivots from column k of n on
-unfoldable pub read_from : (n : ℕ) (list : ℕ → ℤ) (m k : ℕ) → Arranged → Result Arranged Refusal
-read_from n list zero k a = Ok a
-read_from n list (suc m) k a =
-    let next = read_from n list m (last_of k (is_negative (list k)) + 1) (past_pivot a k (list k)) in
-    cond (ltb k n) (arranged_past (fault_at n list k) next) (Ok a)
+-- the pivot at k
+unfoldable pub pivot_read : (n : ℕ) (list : ℕ → ℤ) → ℕ → Arranged → Result (ℕ × Arranged) Refusal
+pivot_read n list k a = past_check (fault_at n list k) (Ok (last_of k (is_negative (list k)) + 1, past_pivot a k (list k)))
 
 -- each row begins at its own place, without a block
 abbrev pub arranged_of : ℕ → (ℕ → ℤ) → Result Arranged Refusal
-arranged_of n list = read_from n list n 0 (record { rows = λ i. i; blocks = λ i. 0 })
+arranged_of n list = walk n (pivot_read n list) n 0 (record { rows = λ i. i; blocks = λ i. 0 })
 
 -- what the call leaves: its answer, the order and the block bytes
 pub record Read : Type 0 where
@@ -147,10 +157,12 @@ pub record Read : Type 0 where
   pub order : List ℕ
   pub blocks : List ℕ
 
+-- what the walk has arranged once it has ended well; else the two lists as they were
 abbrev pub read_after : ℕ → Result Arranged Refusal → List ℕ → List ℕ → Read
 read_after ncol (Ok a) order blocks = record { answer = accepted tt; order = tabulate ncol a.rows; blocks = tabulate ncol a.blocks }
 read_after ncol (Err r) order blocks = record { answer = turned_away r; order = order; blocks = blocks }
 
+-- 1, 25, then 30 and 29 at each column as the walk comes to it
 unfoldable pub from_lapack_of : ℕ → List ℤ → List ℕ → List ℕ → Read
 from_lapack_of ncol list order blocks =
-    read_after ncol (arranged_past (from_check ncol list order blocks) (arranged_of ncol (integers list))) order blocks
+    read_after ncol (past_check (from_check ncol list order blocks) (arranged_of ncol (integers list))) order blocks

@@ -300,6 +300,8 @@ stations =
     (from_gives 3 (pos 1 ∷ negsuc 0 ∷ negsuc 1 ∷ []) ⇒ (30 ∷ 1 ∷ 0 ∷ []) ∷ []) ∷
     -- list 3 1 3: 29 at 1, before the column that it moves
     (from_gives 3 (pos 3 ∷ pos 1 ∷ pos 3 ∷ []) ⇒ (29 ∷ 1 ∷ 0 ∷ []) ∷ []) ∷
+    -- list 0: 29 at 0
+    (from_gives 1 (pos 0 ∷ []) ⇒ (29 ∷ 0 ∷ 0 ∷ []) ∷ []) ∷
     -- list −1 −1: 29 at 0, a block moves its second column
     (from_gives 2 (negsuc 0 ∷ negsuc 0 ∷ []) ⇒ (29 ∷ 0 ∷ 0 ∷ []) ∷ []) ∷
     -- list −2147483648 twice: 29 at 0

@@ -1,28 +1,18 @@
 -- Laws of what is noted of a pivot. Assumes nothing.
-use Prim.Native.Nat.{ℕ, ◌<◌, ◌≤◌}
+use Prim.Native.Nat.{ℕ}
 use mathlib.Core.Path.{◌≡◌, ◌∙◌, ap}
 use mathlib.Core.Bool.{Bool, true, false}
-use mathlib.Core.List.{List}
-use native.Mathlib.Omega.{arith}
 use Rattle.std.specs.Prelude.{Option, Some, None, is_some}
 use Rattle.std.specs.Int.{from_bool}
 use Rattle.std.specs.Option.{unwrap_or}
-use lib.ListN.{length, set, length-set}
 use lib.Ieee.{Float}
 use Rattle.model.specs.Scalar.{zero_f}
-use Rattle.model.specs.Matrix.{Row, vec, put, swapped}
+use Rattle.model.specs.Matrix.{Row, put, swapped}
 use Rattle.model.specs.Step.{Pivots, is_block, first_number, last_number, under_number}
 use Rattle.model.specs.Head.{byte_of, lift_byte, lift_amount, noted}
 use Rattle.model.specs.declared.Pivot.{Pivot}
-use Rattle.kernels.proofs.Laws.{vec-set}
 
 -- ---- stores
-
--- ys is xs with y at e, then x at k
-pub both-vec : (xs ys : List Float) (k e : ℕ) (x y x' y' : Float) → ys ≡ set (set xs e y) k x → x ≡ x' → y ≡ y' → k ≤ e → e < length xs
-    → vec ys ≡ put (put (vec xs) e y') k x'
-both-vec xs ys k e x y x' y' h p q l m =
-    ap vec h ∙ vec-set (set xs e y) k x (rw (length-set xs e y) (omega arith)) ∙ rw (vec-set xs e y m, p, q)
 
 -- two exchanges, one after the other
 pub swapped-twice : (f g h : ℕ → ℕ) (k p e kp : ℕ) → g ≡ swapped f k p → h ≡ swapped g e kp → h ≡ swapped (swapped f k p) e kp

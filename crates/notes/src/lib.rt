@@ -37,7 +37,7 @@ pub fn last_column(k: Elim, x: Diagonal) -> Elim
     requires { k.0 < most_columns }
     ensures { result.0 ≡ last_of k.0 (is_block x) }
 {
-    Elim(diagonal::last_column(k.0, diagonal::is_block(x)))
+    diagonal::last_column(k, diagonal::is_block(x))
 }
 
 // Notes the pivot v in columns k to e: in D, in the partners, in what the caller is told. Its exchanges are k with p,

@@ -1,5 +1,5 @@
 -- Laws of the rows that an order has named, of a vector taken in an order, and of one put back. Assumes nothing.
-use Prim.Native.Nat.{ℕ, zero, suc, ◌+◌, ◌-◌, ◌<◌, ◌≤◌}
+use Prim.Native.Nat.{ℕ, suc, ◌+◌, ◌-◌, ◌<◌, ◌≤◌}
 use mathlib.Core.Path.{◌≡◌, refl, sym, ◌∙◌, ap, fun_ext}
 use mathlib.Core.Bool.{Bool, true, false, cond, not, ◌&&◌, ◌||◌}
 use mathlib.Core.List.{List}
@@ -12,6 +12,7 @@ use lib.Seq.{get_or-set_same, get_or-set_other}
 use lib.Ieee.{Float, nan}
 use Rattle.model.specs.Matrix.{Row, vec, naturals, put, with_part}
 use Rattle.model.specs.Solve.{named, order_sound, ordered, returned_from}
+use Rattle.model.proofs.Stores.{naturals-zeros}
 use Rattle.model.proofs.Cases.{test, and_left}
 use Rattle.kernels.proofs.Laws.{vec-set}
 use Rattle.kernels.proofs.Rules.{store}
@@ -24,13 +25,8 @@ unfoldable pub seen_of : (ℕ → ℕ) → ℕ → ℕ → ℕ
 seen_of order k = λ r. cond (named order k r) 1 0
 
 pub seen_none : (order : ℕ → ℕ) (n : ℕ) → naturals (replicate n 0) ≡ seen_of order 0
-unfolding naturals seen_of named
-seen_none order n = fun_ext λ r. blank n r
-  where
-    blank : (n r : ℕ) → ◌≡◌ {A = ℕ} (get_or (replicate n 0) r 0) 0
-    blank zero r = refl
-    blank (suc n) zero = refl
-    blank (suc n) (suc r) = blank n r
+unfolding seen_of named
+seen_none order n = naturals-zeros n
 
 -- the row of position k is marked
 pub seen_step : (os xs : List ℕ) (k m : ℕ) → get_or os k 0 < m → length xs ≡ m → naturals xs ≡ seen_of (naturals os) k

@@ -155,7 +155,7 @@ pub fn below_step(part: &mut [f64], mult: &[f64], at: Part, first: Taken)
         (column_of (view at.nb mult.now) 1))) (view at.nrow part.old) }
 {
     let block = is_block(first.pivot);
-    let last = diagonal::last_column(0, block);
+    let last = diagonal::last_column(Elim(0), block).0;
     columns::exchange(part, at.nrow, last, first.row, 0, at.rows);
     sweep_first(part, mult, block, at, last + 1, at.columns, last, last);
     own_columns(part, at.nrow, at.rows, 0, first.pivot);

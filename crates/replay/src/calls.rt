@@ -1,7 +1,7 @@
 // A case of each call: its lists are read, it is called with outputs that hold a known byte, and its answer and what it
-// leaves are held to what is recorded, to zeros or to that byte. A case of the leaf magnitude is bits, and what they must
-// become. All that the file has of a case is read, whatever the port answers, so that the next case begins where it
-// should. The room of a list x is of_x, an array of the largest case's length, since there is no heap.
+// leaves are held to what is recorded, to zeros or to that byte. A case of the leaf magnitude is bits, and what they
+// must become. All that the file has of a case is read, whatever the port answers, so that the next case begins where
+// it should. The room of a list x is of_x, an array of the largest case's length, since there is no heap.
 ghost use Rattle.std.specs.Prelude.{◌≡◌, length};
 
 use crate::file;
@@ -357,7 +357,7 @@ pub(crate) fn from_lapack_case(answers: &mut Answers) -> bool {
     let mut of_list = [0i32; COLUMNS];
     let mut of_order = [usize::HELD; COLUMNS];
     let mut of_blocks = [u8::HELD; COLUMNS];
-    let list = file::list(answers, length_list, &mut of_list, Answers::pivot);
+    let list = file::list(answers, length_list, &mut of_list, Answers::list_number);
     let order = file::first_of(length_order, &mut of_order);
     let blocks = file::first_of(length_blocks, &mut of_blocks);
     let answer = lapack::from_lapack(ncol, list, order, blocks);

@@ -85,7 +85,7 @@ impl Answers {
     }
 
     // A number of LAPACK's list of pivots.
-    pub(crate) fn pivot(&mut self) -> i32 {
+    pub(crate) fn list_number(&mut self) -> i32 {
         i32::from_le_bytes(self.bytes())
     }
 
@@ -177,7 +177,7 @@ impl Lent for i32 {
     }
 
     fn recorded(answers: &mut Answers) -> u64 {
-        answers.pivot().bits()
+        answers.list_number().bits()
     }
 }
 

@@ -1,11 +1,12 @@
-// Replays recorded answers on the seven calls and the leaf magnitude, and prints how many differ: those of the Rust, and
-// for solve and LAPACK's pivot lists, which the Rust does not have, those of the oracle's restatements. A case differs
-// if the answer's number, place, rounds or counts do, or the bits of a buffer; one of the magnitude, if its bits do.
+// Replays recorded answers on the seven calls and the leaf magnitude, and prints how many differ: those of the Rust,
+// and for solve and LAPACK's pivot lists, which the Rust does not have, those of the oracle's restatements. A case
+// differs if the answer's number, place, rounds or counts do, or the bits of a buffer; one of the magnitude, if its bits
+// do.
 // data/answers has the cases; data/LEGEND says what made them, what they meet and how they are written.
 // Proved is that the program is safe and ends. What stands in a file no contract can say: the run is the test.
 // Nothing of it is public: what one module has of another is the crate's own, pub(crate).
-// file.rt reads lists and holds buffers to them, calls.rt has one function for each of the eight, sum.rt the checksum by
-// which a damaged or short file is noticed.
+// file.rt reads lists and holds buffers to them, calls.rt has one function for each of the eight, sum.rt the checksum
+// by which a damaged or short file is noticed.
 #![tactic(auto)]
 
 mod calls;

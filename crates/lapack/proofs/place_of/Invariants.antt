@@ -8,4 +8,4 @@ use Rattle.lapack.proofs.place_of.Given as goal
 
 abbrev pub invariant-loop-p : goal.invariant-loop-p
 invariant-loop-p l =
-    place_from (places l.rows) l.row (length l.rows - l.p) l.p ≡ place_from (places l.rows) l.row (length l.rows - l.e) l.e
+    place_from (places l.rows) l.row.0 (length l.rows - l.p) l.p ≡ place_from (places l.rows) l.row.0 (length l.rows - l.initial.p) l.initial.p

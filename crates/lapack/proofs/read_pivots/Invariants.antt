@@ -3,7 +3,7 @@
 use Prim.Native.Nat.{◌-◌, ◌≤◌}
 use mathlib.Core.Path.{◌≡◌}
 use lib.ListN.{length}
-use Rattle.model.specs.Lapack.{integers, read_from, arranged_of}
+use Rattle.model.specs.Lapack.{integers, walk, pivot_read, arranged_of}
 use Rattle.lapack.specs.Walks.{arranged}
 use Rattle.lapack.proofs.read_pivots.Given as goal
 
@@ -11,7 +11,7 @@ abbrev pub invariant-loop-k : goal.invariant-loop-k
 invariant-loop-k l =
     let n = length l.list in
     (l.k ≤ n) × (length l.rows ≡ n) × (length l.blocks ≡ n)
-    × (read_from n (integers l.list) (n - l.k) l.k (arranged l.rows l.blocks) ≡ arranged_of n (integers l.list))
+    × (walk n (pivot_read n (integers l.list)) (n - l.k) l.k (arranged l.rows l.blocks) ≡ arranged_of n (integers l.list))
 
 abbrev pub decreases-loop-k : goal.decreases-loop-k
 decreases-loop-k l = length l.list - l.k

@@ -1,8 +1,8 @@
 -- `notes::note` meets its contract: the seven buffers are the record `noted`. Assumes nothing.
 use mathlib.Core.Path.{refl}
 use Rattle.model.specs.Step.{recorded_in}
-use Rattle.model.proofs.Stores.{both-naturals}
-use Rattle.notes.proofs.Laws.{both-vec, swapped-twice, block-byte, lift-told, amount-told, noted-is}
+use Rattle.model.proofs.Stores.{both-vec, both-naturals}
+use Rattle.notes.proofs.Laws.{swapped-twice, block-byte, lift-told, amount-told, noted-is}
 use Rattle.notes.proofs.note.Goals as goal
 
 pub returns-clause-value : goal.returns-clause-value
