@@ -70,8 +70,9 @@
  *   27      solve              a number of the right side is not finite                       least such row, 0
  *   28      to_lapack          a block's first row is not in its place after the exchanges    first such block's
  *                              of the pivots before                                           position, 0
- *   29      from_lapack        a number is 0, beyond ncol, or before the column that it       least column with a
- *                              moves, which is k + 1 for a pair at k                          fault, 0
+ *   29      from_lapack        a number is 0, or names, counting from 1, a row beyond ncol    least column with a
+ *                              or before the column that it moves: its own, or the second     fault, 0
+ *                              of a pair
  *   30      from_lapack        a negative number stands last or differs from the one after    least column with a
  *                              it                                                             fault, 0
  *

@@ -97,7 +97,10 @@ impl Refusal {
             26 => "the order is no permutation: a row in it is >= ncol, or stands at an earlier position too",
             27 => "a number of the right side is not finite",
             28 => "a block's first row is not in its place after the exchanges of the pivots before",
-            29 => "a number is 0, beyond ncol, or before the column that it moves, which is k + 1 for a pair at k",
+            29 => {
+                "a number is 0, or names, counting from 1, a row beyond ncol or before the column that it moves: its \
+                 own, or the second of a pair"
+            }
             30 => "a negative number stands last or differs from the one after it",
             _ => "not a refusal",
         }
@@ -477,7 +480,7 @@ pub fn solve(
 /// to_lapack(2, &f.order[..2], &f.blocks, &mut list)?;
 /// assert_eq!((&f.order[..2], list), (&[1, 0][..], [2, 2]));
 ///
-/// // a block whose first row was moved there has no such list
+/// // a block that would have to exchange its first row too has no such list
 /// let refusal = to_lapack(2, &[1, 0], &[1, 0], &mut list).unwrap_err();
 /// assert_eq!((refusal.number, refusal.a, refusal.b), (28, 0, 0));
 /// assert_eq!(list, [2, 2]);

@@ -1,5 +1,5 @@
-//! The stations and the program's example of docs/SCOPE.md, not-a-numbers above the diagonal, LAPACK's lists of factored
-//! heads, and the bounds.
+//! The stations and the program's example of docs/SCOPE.md, not-a-numbers above the diagonal, LAPACK's lists of
+//! factored heads, and the bounds.
 
 mod common;
 
@@ -204,6 +204,7 @@ fn lists_that_are_refused() {
     assert_eq!(read(&[-2, -2, -3]).map_err(place), Err((30, 2, 0)));
     assert_eq!(read(&[1, -1, -2]).map_err(place), Err((30, 1, 0)));
     assert_eq!(read(&[3, 1, 3]).map_err(place), Err((29, 1, 0)));
+    assert_eq!(read(&[0]).map_err(place), Err((29, 0, 0)));
     assert_eq!(read(&[-1, -1]).map_err(place), Err((29, 0, 0)));
     assert_eq!(read(&[i32::MIN, i32::MIN]).map_err(place), Err((29, 0, 0)));
 }
