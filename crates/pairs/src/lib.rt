@@ -18,7 +18,7 @@ ghost use Rattle.pairs.specs.Pairs.{step_of, pair_of, row_after_both, own_by, Sw
 
 use diagonal::is_block;
 use grid::columns;
-use model::Diagonal;
+use model::{Diagonal, Elim};
 use scalar::reciprocal;
 use swept::{Pair, Part, multiplier_before, several_next};
 
