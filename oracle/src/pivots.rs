@@ -22,6 +22,19 @@ impl Pivot {
     pub fn is_block(self) -> bool {
         self.moved > self.first
     }
+
+    /// Its numbers in a list, from the place with which its moved column is exchanged.
+    pub fn numbers(self, p: usize) -> Vec<i32> {
+        match self.is_block() {
+            true => vec![-from_one(p); 2],
+            false => vec![from_one(p)],
+        }
+    }
+}
+
+/// A number of LAPACK's, which counts from 1.
+pub fn from_one(place: usize) -> i32 {
+    i32::try_from(place + 1).expect("a number of a list")
 }
 
 /// Each row at its own place.
@@ -37,7 +50,7 @@ pub struct To {
     /// 1, 25, 26, 16.
     pub checked: fn(&ToLapack) -> Checked,
     /// The pivots in the order in which they are gone through.
-    pub pivots: fn(&[u8]) -> Vec<Pivot>,
+    pub pivots: fn(&ToLapack) -> Vec<Pivot>,
     /// 28, by the rows as the pivots before have left them.
     pub in_place: fn(&ToLapack, Pivot, &[usize]) -> Checked,
     /// The column that is moved.
@@ -50,14 +63,22 @@ pub struct To {
 }
 
 /// The reading that is built.
-pub const TO: To = To { checked: to_checked, pivots, in_place, moved, partner, exchanged, numbers };
+pub const TO: To = To {
+    checked: to_checked,
+    pivots: |c| by_blocks(&c.blocks),
+    in_place,
+    moved: |pivot| pivot.moved,
+    partner,
+    exchanged,
+    numbers: |_, pivot, p| pivot.numbers(p),
+};
 
 impl To {
     /// The refusal, or the list as an accepted call leaves it.
     pub fn answer(&self, c: &ToLapack) -> Result<Vec<i32>, Refusal> {
         (self.checked)(c)?;
         let (mut rows, mut list) = (at_first(c.ncol), vec![0; c.ncol]);
-        for pivot in (self.pivots)(&c.blocks) {
+        for pivot in (self.pivots)(c) {
             (self.in_place)(c, pivot, &rows)?;
             let e = (self.moved)(pivot);
             let p = (self.partner)(c, e, &rows);
@@ -103,8 +124,8 @@ pub fn blocks(c: &ToLapack) -> Checked {
     refuse_at(bad_block(&c.blocks), 16)
 }
 
-/// By rising column.
-fn pivots(blocks: &[u8]) -> Vec<Pivot> {
+/// The pivots of block bytes, by rising column.
+pub fn by_blocks(blocks: &[u8]) -> Vec<Pivot> {
     let second = |k: usize| k > 0 && blocks[k - 1] == 1;
     (0..blocks.len()).filter(|&k| !second(k)).map(|k| Pivot::at(k, blocks[k] == 1)).collect()
 }
@@ -112,10 +133,6 @@ fn pivots(blocks: &[u8]) -> Vec<Pivot> {
 fn in_place(c: &ToLapack, pivot: Pivot, rows: &[usize]) -> Checked {
     let k = pivot.first;
     refuse_at((pivot.is_block() && rows[k] != c.order[k]).then_some(k), 28)
-}
-
-fn moved(pivot: Pivot) -> usize {
-    pivot.moved
 }
 
 fn partner(c: &ToLapack, e: usize, rows: &[usize]) -> usize {
@@ -129,18 +146,6 @@ pub fn place(rows: &[usize], row: usize) -> usize {
 
 fn exchanged(rows: &mut Vec<usize>, e: usize, p: usize) {
     rows.swap(e, p);
-}
-
-/// A number of LAPACK's, which counts from 1.
-pub fn from_one(place: usize) -> i32 {
-    i32::try_from(place + 1).expect("a number of a list")
-}
-
-fn numbers(_: &ToLapack, pivot: Pivot, p: usize) -> Vec<i32> {
-    match pivot.is_block() {
-        true => vec![-from_one(p); 2],
-        false => vec![from_one(p)],
-    }
 }
 
 // ---- from LAPACK

@@ -3,7 +3,8 @@
 //! underflow all happen often.
 
 use crate::case::*;
-use crate::{pivot_cases, pivots, rules};
+use crate::pivots::{self, Pivot};
+use crate::{pivot_cases, rules};
 
 /// splitmix64.
 pub struct Rng(u64);
@@ -407,14 +408,12 @@ fn solve(rng: &mut Rng, bounds: Bounds) -> Solve {
 // ---- pivot lists
 
 /// A list for these block bytes: every other exchange is one with a later row.
-fn exchanges(rng: &mut Rng, blocks: &[u8]) -> Vec<i32> {
-    let mut list = vec![0; blocks.len()];
-    for pivot in (pivots::TO.pivots)(blocks) {
+fn list_of(rng: &mut Rng, blocks: &[u8]) -> Vec<i32> {
+    let mut numbers = |pivot: Pivot| {
         let e = pivot.moved;
-        let p = pivots::from_one(if rng.once_in(2) { rng.within(e, blocks.len() - 1) } else { e });
-        list[pivot.first..=e].fill(if pivot.is_block() { -p } else { p });
-    }
-    list
+        pivot.numbers(if rng.once_in(2) { rng.within(e, blocks.len() - 1) } else { e })
+    };
+    pivots::by_blocks(blocks).into_iter().flat_map(&mut numbers).collect()
 }
 
 /// An order and block bytes, with the first rows of the blocks in their places or anywhere.
@@ -422,7 +421,7 @@ pub fn to_list(rng: &mut Rng, ncol: usize) -> ToLapack {
     let blocks = blocks(rng, ncol);
     let order = match rng.within(0, 3) {
         0 => permutation(rng, ncol),
-        _ => pivots::FROM.answer(&pivot_cases::from(&exchanges(rng, &blocks))).expect("a list").0,
+        _ => pivots::FROM.answer(&pivot_cases::from(&list_of(rng, &blocks))).expect("a list").0,
     };
     pivot_cases::to(&order, &blocks)
 }
@@ -454,7 +453,7 @@ fn to_lapack(rng: &mut Rng, bounds: Bounds) -> ToLapack {
 /// A list that is accepted.
 pub fn from_list(rng: &mut Rng, ncol: usize) -> FromLapack {
     let blocks = blocks(rng, ncol);
-    pivot_cases::from(&exchanges(rng, &blocks))
+    pivot_cases::from(&list_of(rng, &blocks))
 }
 
 /// One thing of a call from LAPACK made wrong, as a rule a number: refusals 1, 25, 29 and 30.

@@ -79,12 +79,8 @@ fn permutations(n: usize) -> Vec<Vec<usize>> {
 /// The lists that this block pattern can have.
 fn lists_of(blocks: &[u8]) -> Vec<Vec<i32>> {
     let n = blocks.len();
-    let with = |list: &Vec<i32>, pivot: Pivot, p: usize| {
-        let number = pivots::from_one(p);
-        let numbers = if pivot.is_block() { vec![-number; 2] } else { vec![number] };
-        [&list[..], &numbers].concat()
-    };
-    (pivots::TO.pivots)(blocks).into_iter().fold(vec![Vec::new()], |all, pivot| {
+    let with = |list: &Vec<i32>, pivot: Pivot, p: usize| [&list[..], &pivot.numbers(p)].concat();
+    pivots::by_blocks(blocks).into_iter().fold(vec![Vec::new()], |all, pivot| {
         all.iter().flat_map(|list| (pivot.moved..n).map(move |p| with(list, pivot, p))).collect()
     })
 }

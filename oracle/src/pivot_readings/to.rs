@@ -147,7 +147,7 @@ fn partners() -> Vec<Named> {
         ),
         ("the places before any exchange", To { partner: |c, e, _| c.order[e], ..TO }),
         ("a block moves its first column", To { moved: |pivot| pivot.first, ..TO }),
-        ("the pivots by falling column", To { pivots: |blocks| (TO.pivots)(blocks).into_iter().rev().collect(), ..TO }),
+        ("the pivots by falling column", To { pivots: |c| (TO.pivots)(c).into_iter().rev().collect(), ..TO }),
         (
             "the rows between move on by one",
             To {
