@@ -3,6 +3,9 @@
 //! them. dsytf2 leaves them as they stood at the column's own step, and dsytrs makes the exchanges as it goes.
 
 use misuktaan::{Factors, Mode, Settings};
+use oracle::pivot_cases;
+use oracle::pivots::{Exchange, FROM};
+use std::fmt::Debug;
 
 pub struct Factored {
     pub n: usize,
@@ -13,68 +16,68 @@ pub struct Factored {
     pub order: Vec<usize>,
 }
 
-/// Each exchange of a list, from 0: the pivot's first column, and the two rows.
-pub fn exchanges(list: &[i32]) -> Vec<[usize; 3]> {
-    let (mut all, mut k) = (Vec::new(), 0);
-    while k < list.len() {
-        let moved = k + usize::from(list[k] < 0);
-        all.push([k, moved, list[k].unsigned_abs() as usize - 1]);
-        k = moved + 1;
-    }
-    all
+/// What a call leaves that must accept, or that it was refused.
+fn accepted<T>(call: &str, left: Result<T, impl Debug>) -> Result<T, String> {
+    left.map_err(|refusal| format!("{call}: {refusal:?}"))
+}
+
+/// The exchanges of a list, by rising column.
+pub fn exchanges(list: &[i32]) -> Result<Vec<Exchange>, String> {
+    accepted("the list", (FROM.walked)(&pivot_cases::from(list)))
 }
 
 /// Two rows trade places in the columns before a pivot.
-fn before(n: usize, panel: &mut [f64], [k, e, p]: [usize; 3]) {
-    (0..k).for_each(|j| panel.swap(e + j * n, p + j * n));
+fn before(n: usize, panel: &mut [f64], (pivot, p): Exchange) {
+    (0..pivot.first).for_each(|j| panel.swap(pivot.moved + j * n, p + j * n));
 }
 
 impl Factored {
     /// The library's factor of a matrix, without lifts.
-    pub fn of(n: usize, nb: usize, a: &[f64]) -> Factored {
-        let mut f = Factors::zeros(n, n, nb);
-        misuktaan::factor(&Settings { ncol: n, nrow: n, nb, mode: Mode::Fail, limit: 1 }, a, f.lend())
-            .expect("factored");
+    pub fn of(n: usize, nb: usize, a: &[f64]) -> Result<Factored, String> {
+        let (settings, mut f) =
+            (Settings { ncol: n, nrow: n, nb, mode: Mode::Fail, limit: 1 }, Factors::zeros(n, n, nb));
+        accepted("factor", misuktaan::factor(&settings, a, f.lend()))?;
         let Factors { panel, d, sub, blocks, order, .. } = f;
-        Factored { n, panel, d, sub, blocks, order }
+        Ok(Factored { n, panel, d, sub, blocks, order })
     }
 
     /// What dsytf2 left, with its list or another one.
-    pub fn from_lapack(n: usize, left: &[f64], list: &[i32]) -> Factored {
+    pub fn from_lapack(n: usize, left: &[f64], list: &[i32]) -> Result<Factored, String> {
         let (mut order, mut blocks, mut panel) = (vec![0; n], vec![0; n], left.to_vec());
-        misuktaan::from_lapack(n, list, &mut order, &mut blocks).expect("a list of LAPACK's");
-        exchanges(list).into_iter().for_each(|one| before(n, &mut panel, one));
+        accepted("from LAPACK", misuktaan::from_lapack(n, list, &mut order, &mut blocks))?;
+        exchanges(list)?.into_iter().for_each(|one| before(n, &mut panel, one));
         let d = (0..n).map(|k| panel[k + k * n]).collect();
         let sub = (0..n).map(|k| if blocks[k] == 1 { panel[k + 1 + k * n] } else { 0.0 }).collect();
-        Factored { n, panel, d, sub, blocks, order }
+        Ok(Factored { n, panel, d, sub, blocks, order })
     }
 
     /// Its list.
-    pub fn list(&self) -> Vec<i32> {
+    pub fn list(&self) -> Result<Vec<i32>, String> {
         let mut list = vec![0; self.n];
-        misuktaan::to_lapack(self.n, &self.order, &self.blocks, &mut list).expect("an order that has a list");
-        list
+        accepted("to LAPACK", misuktaan::to_lapack(self.n, &self.order, &self.blocks, &mut list))?;
+        Ok(list)
     }
 
     /// What dsytf2 would have left with this list: in each column the exchanges of later pivots are undone, the last
     /// first; D stands on and below the diagonal.
-    pub fn for_lapack(&self, list: &[i32]) -> Vec<f64> {
+    pub fn for_lapack(&self, list: &[i32]) -> Result<Vec<f64>, String> {
         let (n, mut panel) = (self.n, self.panel.clone());
-        exchanges(list).into_iter().rev().for_each(|one| before(n, &mut panel, one));
+        exchanges(list)?.into_iter().rev().for_each(|one| before(n, &mut panel, one));
         for k in 0..n {
             panel[k + k * n] = self.d[k];
             if self.blocks[k] == 1 {
                 panel[k + 1 + k * n] = self.sub[k];
             }
         }
-        panel
+        Ok(panel)
     }
 
     /// The library's solution of a system.
-    pub fn solved(&self, b: &[f64]) -> Vec<f64> {
+    pub fn solved(&self, b: &[f64]) -> Result<Vec<f64>, String> {
         let (n, mut x) = (self.n, b.to_vec());
-        misuktaan::solve(n, n, &self.panel, &self.d, &self.sub, &self.blocks, &self.order, &mut x).expect("solved");
-        x
+        let answer = misuktaan::solve(n, n, &self.panel, &self.d, &self.sub, &self.blocks, &self.order, &mut x);
+        accepted("solve", answer)?;
+        Ok(x)
     }
 
     /// The entry of L at row i, column j, where i is not before j.

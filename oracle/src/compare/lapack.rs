@@ -47,16 +47,17 @@ pub struct System {
 }
 
 impl System {
-    /// The next of a kind, with so many columns.
-    fn next(rng: &mut Rng, kind: &Kind, n: usize) -> System {
+    /// The next of a kind, with so many columns, or why the library refuses to factor it.
+    fn next(rng: &mut Rng, kind: &Kind, n: usize) -> Result<System, String> {
         let (narrow, wide) = (kind.widths)(n);
         let nb = rng.within(narrow, wide);
         let (a, b) = ((kind.matrix)(rng, n, nb), matrices::random_numbers(rng, n));
         let (mut theirs, mut list, mut x) = (a.clone(), vec![0; n], b.clone());
         fortran::dsytf2(n, &mut theirs, &mut list);
         fortran::dsytrs(n, &theirs, &list, &mut x);
-        let (name, ours) = (format!("{}, {n} columns, panel width {nb}", kind.name), Factored::of(n, nb, &a));
-        System { name, n, a, b, searched: kind.searched, ours, theirs, list, x }
+        let name = format!("{}, {n} columns, panel width {nb}", kind.name);
+        let ours = Factored::of(n, nb, &a).map_err(|refusal| format!("{name}: {refusal}"))?;
+        Ok(System { name, n, a, b, searched: kind.searched, ours, theirs, list, x })
     }
 
     /// The residual of a solution as a multiple of LAPACK's.
@@ -110,17 +111,25 @@ struct Run {
 }
 
 impl Run {
+    /// One system, the i-th of its class, or a refusal of a call that must accept.
+    fn one(&mut self, system: &System, i: usize) -> Result<Seen, String> {
+        let named = |refusal: String| format!("{}: {refusal}", system.name);
+        let seen = system.seen(&system.ours.solved(&system.b).map_err(named)?);
+        let held = seen.held(system);
+        self.counts.add(held <= LIMIT, || format!("{}: {held:.2}", system.name));
+        self.lists.compared(&mut self.counts, system, i).map_err(named)?;
+        Ok(seen)
+    }
+
     /// So many systems of a kind and a class of sizes; one in eight has the most columns of the class.
     fn class(&mut self, rng: &mut Rng, kind: &Kind, (least, most): (usize, usize), count: usize) -> Seen {
         let mut seen = Seen::default();
         for i in 0..count {
             let n = if i % 8 == 0 { most } else { rng.within(least, most) };
-            let system = System::next(rng, kind, n);
-            let one = system.seen(&system.ours.solved(&system.b));
-            let held = one.held(&system);
-            self.counts.add(held <= LIMIT, || format!("{}: {held:.2}", system.name));
-            self.lists.compared(&mut self.counts, &system, i);
-            seen = seen.or(one);
+            match System::next(rng, kind, n).and_then(|system| self.one(&system, i)) {
+                Ok(one) => seen = seen.or(one),
+                Err(refusal) => self.counts.add(false, || refusal),
+            }
         }
         let Seen { multiple, over_growth } = seen;
         println!("{}, {least} to {most} columns: {multiple:.2}, over growth {over_growth:.2}", kind.name);
@@ -142,6 +151,7 @@ fn main() {
     }
     let (multiple, over_growth) = (searched.multiple, others.over_growth);
     println!("greatest where a panel's search is as good: {multiple:.2}; elsewhere, over growth: {over_growth:.2}");
-    run.lists.print();
+    Lists::guides_head(&mut run.counts);
+    run.lists.end();
     run.counts.end("compared", "differ or are beyond their bound")
 }
