@@ -15,49 +15,22 @@ use oracle::{lines, pivot_cases, pivot_readings, rules};
 use pivot_calls::{difference, left, must, Left};
 use std::collections::BTreeMap;
 
-/// What the compared calls met, so that a reader sees what a run has tried.
-#[derive(Default)]
-struct Met {
-    /// By the answer's number, of the calls to LAPACK and of those from it.
-    answers: [BTreeMap<usize, u64>; 2],
-    /// Of the accepted: with blocks, with an exchange.
-    blocks: u64,
-    exchanged: u64,
-    /// Of the calls to LAPACK with blocks those in which a block's first row began elsewhere.
-    elsewhere: u64,
-    /// Factor calls, the accepted ones, those of them with blocks and in several panels.
-    nodes: u64,
-    factored: u64,
-    with_blocks: u64,
-    panels: u64,
-}
+/// What the compared calls of a part of the run met, by call, so that a reader sees what it has tried.
+type Met = BTreeMap<(&'static str, String), u64>;
 
-impl Met {
-    fn note(&mut self, case: &Case, must: &Left) {
-        let to = matches!(case, Case::ToLapack(_));
-        *self.answers[usize::from(!to)].entry(call::number(&must.outcome)).or_default() += 1;
-        if must.outcome.is_ok() {
-            let first_elsewhere = |k: usize| must.blocks[k] == 1 && must.order[k] != k;
-            self.blocks += u64::from(must.blocks.contains(&1));
-            self.exchanged += u64::from(!must.order.is_sorted());
-            self.elsewhere += u64::from(to && (0..must.blocks.len()).any(first_elsewhere));
-        }
-    }
+/// What a part must meet, whatever the seed, so that it tries what it says.
+type Wanted = &'static [(&'static str, &'static str)];
 
-    fn print(&self) {
-        let Met { answers, blocks, exchanged, elsewhere, nodes, factored, with_blocks, panels } = self;
-        for (name, answers) in ["to", "from"].into_iter().zip(answers) {
-            let answered: Vec<String> = answers.iter().map(|(number, n)| format!("{number}: {n}")).collect();
-            let calls: u64 = answers.values().sum();
-            println!("{calls} calls {name} LAPACK; accepted (0) and refused, by number: {}", answered.join(", "));
-        }
-        println!("with blocks {blocks}, with an exchange {exchanged}, a block's first row from elsewhere {elsewhere}");
-        println!("{nodes} factor calls, {factored} accepted: with blocks {with_blocks}, with several panels {panels}");
-    }
-}
-
-/// The refusals of the two calls. A run meets each of them, whatever its seed.
-const REFUSALS: [&[usize]; 2] = [&[1, 25, 26, 16, 28], &[1, 25, 30, 29]];
+const LISTS: Wanted = &[
+    ("to LAPACK", "accepted/with blocks/with an exchange/with a block's first row from elsewhere"),
+    ("to LAPACK", "refused 1/refused 25/refused 26/refused 16/refused 28"),
+    ("from LAPACK", "accepted/with blocks/with an exchange/with a block's first row from elsewhere"),
+    ("from LAPACK", "refused 1/refused 25/refused 30/refused 29"),
+];
+const NODES: Wanted = &[
+    ("factor", "accepted/with several panels/with Lift/with tail rows/refused"),
+    ("to LAPACK", "accepted/with blocks/with an exchange/with a block's first row from elsewhere"),
+];
 
 /// The bounds of the small nodes.
 const BOUNDS: Bounds = Bounds { max_col: 12, max_row: 16 };
@@ -74,11 +47,46 @@ impl Run {
         let (got, must) = (left(case), must(case));
         let differs = difference(&got, &must);
         self.counts.add(differs.is_none(), || format!("{}\n    {}", lines::case_text(case), differs.clone().unwrap()));
-        self.met.note(case, &must);
+        self.note(case, &must);
         if got.outcome.is_ok() {
             self.back(case, &got);
         }
         call::number(&got.outcome)
+    }
+
+    fn met(&mut self, call: &'static str, what: &[(bool, &str)]) {
+        for (_, what) in what.iter().filter(|what| what.0) {
+            *self.met.entry((call, what.to_string())).or_default() += 1;
+        }
+    }
+
+    fn note(&mut self, case: &Case, must: &Left) {
+        let call = if matches!(case, Case::ToLapack(_)) { "to LAPACK" } else { "from LAPACK" };
+        match must.outcome {
+            Err(refusal) => self.met(call, &[(true, &format!("refused {}", refusal.number))]),
+            Ok(()) => {
+                let Left { order, blocks, .. } = must;
+                let elsewhere = (0..blocks.len()).any(|k| blocks[k] == 1 && order[k] != k);
+                let met = [
+                    (true, "accepted"),
+                    (blocks.contains(&1), "with blocks"),
+                    (!order.is_sorted(), "with an exchange"),
+                    (elsewhere, "with a block's first row from elsewhere"),
+                ];
+                self.met(call, &met);
+            }
+        }
+    }
+
+    /// The end of a part of so many calls: prints what it met, and all that it must meet is there.
+    fn part(&mut self, name: &str, calls: usize, wanted: Wanted) {
+        let met = std::mem::take(&mut self.met);
+        println!("{name}:");
+        met.iter().for_each(|((call, what), n)| println!("{n:9} {call}: {what}"));
+        for (call, all) in wanted.iter().filter(|_| calls > 0) {
+            let unmet: Vec<_> = all.split('/').filter(|what| !met.contains_key(&(*call, what.to_string()))).collect();
+            assert!(unmet.is_empty(), "{name}, {call}: none is {unmet:?}");
+        }
     }
 
     /// The other call on what an accepted one left: it accepts, and leaves what the first was given.
@@ -99,14 +107,19 @@ impl Run {
         let differs = call::difference(f, &got, &call::must(f));
         let line = || format!("{}\n    {}", lines::case_text(&Case::Factor(f.clone())), differs.clone().unwrap());
         self.counts.add(differs.is_none(), line);
-        self.met.nodes += 1;
-        if got.outcome.is_ok() {
+        let accepted = got.outcome.is_ok();
+        let met = [
+            (!accepted, "refused"),
+            (accepted, "accepted"),
+            (accepted && s.nb < s.ncol, "with several panels"),
+            (accepted && s.mode.floor().is_some(), "with Lift"),
+            (accepted && s.nrow > s.ncol, "with tail rows"),
+        ];
+        self.met("factor", &met);
+        if accepted {
             let case = Case::ToLapack(pivot_cases::to(&got.buffers.order[..s.ncol], &got.buffers.blocks));
             let number = self.one(&case);
             self.counts.add(number == 0, || format!("{}\n    {number}", lines::case_text(&case)));
-            self.met.factored += 1;
-            self.met.with_blocks += u64::from(got.buffers.blocks.contains(&1));
-            self.met.panels += u64::from(s.nb < s.ncol);
         }
     }
 }
@@ -143,13 +156,12 @@ fn main() {
     readings_told();
     let (mut run, mut rng) = (Run::default(), Rng::new(seed));
     pivot_edges::each_once(&mut |case| _ = run.one(&case));
-    seeded(&mut run, &mut rng, words.count(1, 500_000));
-    nodes(&mut run, &mut rng, words.count(2, 200_000), words.count(3, 100));
-    run.met.print();
-    for (numbers, met) in REFUSALS.iter().zip(&run.met.answers) {
-        let unmet: Vec<_> = numbers.iter().filter(|number| !met.contains_key(number)).collect();
-        assert!(unmet.is_empty(), "no call met {unmet:?}");
-    }
+    run.part("each once", 1, LISTS);
+    let (calls, small, large) = (words.count(1, 500_000), words.count(2, 200_000), words.count(3, 100));
+    seeded(&mut run, &mut rng, calls);
+    run.part("seeded", calls, LISTS);
+    nodes(&mut run, &mut rng, small, large);
+    run.part("factored", small + large, NODES);
     run.counts.end("compared", "differ")
 }
 
