@@ -127,6 +127,8 @@ fn to_checks() -> Vec<(&'static str, ToLapack)> {
         ("1 before 25", ToLapack { ncol: 129, ..two() }),
         ("25 for an order of more rows", ToLapack { order: vec![0, 1, 2], ..two() }),
         ("25 for a longer list", ToLapack { list: vec![HELD_NUMBER; 3], ..two() }),
+        ("25 for block bytes of more columns", ToLapack { blocks: vec![0; 3], ..two() }),
+        ("25 for block bytes without the last", ToLapack { blocks: vec![0], ..two() }),
         ("26 before 16", to(&[0, 0], &[2, 0])),
         ("16 before 28", to(&[1, 0, 2], &[1, 0, 1])),
         ("26: repeated, then out of range", to(&[1, 1, 3], &[0; 3])),
@@ -161,6 +163,8 @@ fn from_checks() -> Vec<(&'static str, FromLapack)> {
         ("1 before 25", FromLapack { ncol: 129, ..two() }),
         ("25 for a longer list", FromLapack { list: vec![1, 2, 3], ..two() }),
         ("25 for an order of more rows", FromLapack { order: vec![HELD_PLACE; 3], ..two() }),
+        ("25 for block bytes of more columns", FromLapack { blocks: vec![HELD_BYTE; 3], ..two() }),
+        ("25 for block bytes without the last", FromLapack { blocks: vec![HELD_BYTE], ..two() }),
     ]
 }
 

@@ -38,6 +38,15 @@ fn checks() -> Vec<Named> {
             let order = c.order[..c.order.len().min(c.ncol)].to_vec();
             (FROM.checked)(&FromLapack { order, ..c.clone() })
         }),
+        checked("longer block bytes taken", |c| {
+            let blocks = c.blocks[..c.blocks.len().min(c.ncol)].to_vec();
+            (FROM.checked)(&FromLapack { blocks, ..c.clone() })
+        }),
+        checked("block bytes taken without the last", |c| {
+            let missing = (c.blocks.len() + 1 == c.ncol).then_some(0);
+            let blocks = c.blocks.iter().copied().chain(missing).collect();
+            (FROM.checked)(&FromLapack { blocks, ..c.clone() })
+        }),
     ]
 }
 

@@ -8,7 +8,7 @@ type Named = (&'static str, To);
 
 /// Every wrong reading of the call to LAPACK.
 pub fn wrong() -> Vec<Named> {
-    [checks(), places(), first_rows(), partners(), numbers()].concat()
+    [checks(), other_bytes(), places(), first_rows(), partners(), numbers()].concat()
 }
 
 fn checked(name: &'static str, checked: fn(&ToLapack) -> Checked) -> Named {
@@ -65,6 +65,30 @@ fn checks() -> Vec<Named> {
             then_by(c, [order, first_rows_by])?;
             blocks(c)
         }),
+    ]
+}
+
+fn bytes_cut(c: &ToLapack) -> ToLapack {
+    ToLapack { blocks: c.blocks[..c.blocks.len().min(c.ncol)].to_vec(), ..c.clone() }
+}
+
+/// The last byte, which is 0 wherever it is accepted, may be missing.
+fn bytes_filled(c: &ToLapack) -> ToLapack {
+    let missing = (c.blocks.len() + 1 == c.ncol).then_some(0);
+    ToLapack { blocks: c.blocks.iter().copied().chain(missing).collect(), ..c.clone() }
+}
+
+/// Block bytes of another length.
+fn other_bytes() -> Vec<Named> {
+    vec![
+        (
+            "longer block bytes taken",
+            To { checked: |c| (TO.checked)(&bytes_cut(c)), pivots: |c| (TO.pivots)(&bytes_cut(c)), ..TO },
+        ),
+        (
+            "block bytes taken without the last",
+            To { checked: |c| (TO.checked)(&bytes_filled(c)), pivots: |c| (TO.pivots)(&bytes_filled(c)), ..TO },
+        ),
     ]
 }
 
@@ -161,14 +185,18 @@ fn partners() -> Vec<Named> {
     ]
 }
 
+/// An order's rows as a pivot's numbers.
+fn as_numbers(order: &[usize], pivot: Pivot) -> Vec<i32> {
+    let sign = if pivot.is_block() { -1 } else { 1 };
+    order[pivot.first..=pivot.moved].iter().map(|&row| sign * from_one(row)).collect()
+}
+
 /// What the list has of it.
 fn numbers() -> Vec<Named> {
     let numbers = |name, numbers| (name, To { numbers, ..TO });
     vec![
-        numbers("the order as the list", |c, pivot, _| {
-            let sign = if pivot.is_block() { -1 } else { 1 };
-            (pivot.first..=pivot.moved).map(|k| sign * from_one(c.order[k])).collect()
-        }),
+        numbers("the order as the list", |c, pivot, _| as_numbers(&c.order, pivot)),
+        numbers("the inverse order as the list", |c, pivot, _| as_numbers(&turned(c).order, pivot)),
         numbers("numbers from 0", |c, pivot, p| {
             (TO.numbers)(c, pivot, p).into_iter().map(|number| number - number.signum()).collect()
         }),
