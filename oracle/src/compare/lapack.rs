@@ -152,6 +152,6 @@ fn main() {
     let (multiple, over_growth) = (searched.multiple, others.over_growth);
     println!("greatest where a panel's search is as good: {multiple:.2}; elsewhere, over growth: {over_growth:.2}");
     Lists::guides_head(&mut run.counts);
-    run.lists.end();
+    run.lists.print(&mut run.counts);
     run.counts.end("compared", "differ or are beyond their bound")
 }

@@ -129,8 +129,8 @@ impl Lists {
         counts.add(is == Ok(true), || format!("the guide's head is not dsytf2's: {is:?}"));
     }
 
-    /// Prints what was met. All of it was met, or the run has tried too little.
-    pub fn end(&self) {
+    /// Prints what was met; what was not, and must be, counts as a difference.
+    pub fn print(&self, counts: &mut Counts) {
         let Lists { systems, blocks, exchanged, product, from, to, others, wrong, .. } = self;
         println!("{systems} lists of dsytf2's: with blocks {}, with an exchange {}", blocks[0], exchanged[0]);
         println!("left of the matrix at most {product:.3}; the library's solution by these at most {from:.2}");
@@ -141,6 +141,10 @@ impl Lists {
         let (product, multiple) = (least(self.least_product), least(self.least_multiple));
         println!("{} wrong lists for dsytf2's, {} for the library's", wrong[0], wrong[1]);
         println!("left of the matrix by these at least {product}; a solution at least {multiple}");
-        assert!([blocks, exchanged, wrong].iter().all(|met| !met.contains(&0)), "a count is 0 that must not be");
+        for (met, what) in [(blocks, "with blocks"), (exchanged, "with an exchange"), (wrong, "wrong")] {
+            if met.contains(&0) {
+                counts.add(false, || format!("of dsytf2's lists or of the library's none is {what}"));
+            }
+        }
     }
 }
