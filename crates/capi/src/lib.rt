@@ -262,8 +262,8 @@ pub extern "C" fn misuktaan_solve(
     solve::solve(ncol, nrow, factor, vector).into()
 }
 
-// LAPACK's list of pivots for a head's order and block bytes, or refusal 1, 25, 26, 16 or 28 and nothing written. Of the
-// list that it makes misuktaan_from_lapack makes order and bytes again.
+// LAPACK's list of pivots for a head's order and block bytes, or refusal 1, 25, 26, 16 or 28 and nothing written. Of
+// the list that it makes misuktaan_from_lapack makes order and bytes again.
 // in: ncol; order, the head's, and blocks, ncol each. out: list, ncol.
 #[unsafe(no_mangle)]
 pub extern "C" fn misuktaan_to_lapack(

@@ -66,14 +66,14 @@ module _ (n : ℕ) (list : ℕ → ℤ) (k : ℕ) (a : Arranged) (t : Bool) (p :
         let no : row_sound n (last_of k (is_negative (list k))) (list k) ≡ false = rw (← b, ← l, ← r) f in
         rw (← p, h, no) refl
 
-    pub number-taken : ltb e row && leb row n ≡ true → Ok (last_of k (is_negative (list k)) + 1, past_pivot a k (list k)) ≡ pivot_read n list k a
+    number-taken : ltb e row && leb row n ≡ true → Ok (last_of k (is_negative (list k)) + 1, past_pivot a k (list k)) ≡ pivot_read n list k a
     unfolding pivot_read fault_at
     number-taken f =
         let yes : row_sound n (last_of k (is_negative (list k))) (list k) ≡ true = rw (← b, ← l, ← r) f in
         rw (← p, h, yes) refl
 
 -- the pivot's last column and the row that its number names are among the places
-pub read-in : (n k e row : ℕ) (block : Bool) → e ≡ last_of k block → ltb e row && leb row n ≡ true → (k ≤ e) × (e < row) × (row ≤ n)
+read-in : (n k e row : ℕ) (block : Bool) → e ≡ last_of k block → ltb e row && leb row n ≡ true → (k ≤ e) × (e < row) × (row ≤ n)
 read-in n k e row block l f =
     (rw l (last-from k block), ltb-true e row (and_left (ltb e row) (leb row n) f), leb-true row n (and_right (ltb e row) (leb row n) f))
 

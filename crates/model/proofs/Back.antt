@@ -10,7 +10,8 @@ use Rattle.model.specs.Matrix.{swapped}
 use Rattle.model.specs.Step.{begins}
 use Rattle.model.specs.Head.{last_of, byte_of}
 use Rattle.model.specs.Kept.{Paired, Permutes}
-use Rattle.model.specs.Lapack.{number_of, is_negative, goes, walk, place_from, stands_first, with_number, Listing, pivot_listed, Arranged, past_pivot, pivot_read}
+use Rattle.model.specs.Lapack.{number_of, is_negative, goes, walk, place_from, stands_first, with_number, Listing, pivot_listed, Arranged, past_pivot}
+use Rattle.model.specs.Lapack.{pivot_read}
 use Rattle.model.specs.declared.Refusal.{Refusal}
 use Rattle.model.proofs.Cases.{test, cmp}
 use Rattle.model.proofs.Order.{swapped-permutes, permutes-apart}
@@ -27,12 +28,12 @@ module _ (n : ℕ) (list : ℕ → ℤ) where
     pub permutes : Permutes n a.rows
     pub paired : Paired k a.blocks
 
-  pub past-is : (k : ℕ) (a : Arranged) → Faultless n list k
+  past-is : (k : ℕ) (a : Arranged) → Faultless n list k
       → past_pivot a k (list k)
       ≡ record { rows = swapped a.rows (last_of k (is_negative (list k))) (unsigned_abs (list k) - 1); blocks = step_bytes a.blocks k (is_negative (list k)) }
   past-is k a w = pivot-is a.rows a.blocks k (list k) (is_negative (list k)) (unsigned_abs (list k) - 1) refl (omega (arith, w.low))
 
-  pub past-fine : (k : ℕ) (a : Arranged) → k < n → Faultless n list k → Fine k a → Fine (last_of k (is_negative (list k)) + 1) (past_pivot a k (list k))
+  past-fine : (k : ℕ) (a : Arranged) → k < n → Faultless n list k → Fine k a → Fine (last_of k (is_negative (list k)) + 1) (past_pivot a k (list k))
   past-fine k a h w s =
       rw (past-is k a w) (record {
         permutes = swapped-permutes n a.rows (last_of k (is_negative (list k))) (unsigned_abs (list k) - 1) (omega (arith, w.low, w.high))
@@ -45,7 +46,7 @@ module _ (n : ℕ) (list : ℕ → ℤ) where
     pub rows : (i : ℕ) → i < k → b.rows i ≡ a.rows i
     pub bytes : (i : ℕ) → i < k → b.blocks i ≡ a.blocks i
 
-  pub read-kept : (m k : ℕ) (a b : Arranged) → walk n (pivot_read n list) m k a ≡ Ok b → KeptBefore k a b
+  read-kept : (m k : ℕ) (a b : Arranged) → walk n (pivot_read n list) m k a ≡ Ok b → KeptBefore k a b
   unfolding walk
   read-kept zero k a b x = let z : b ≡ a = cc in rw z (record { rows = λ i l. refl; bytes = λ i l. refl })
   read-kept (suc m) k a b x =

@@ -67,7 +67,7 @@ bytes-paired xs e = all-paired (naturals xs) (length xs) e
 -- ---- and back
 
 -- a well-formed byte is sound
-pub sound-at : (f : ℕ → ℕ) (n k : ℕ) → Paired n f → k < n → byte_sound f n k ≡ true
+sound-at : (f : ℕ → ℕ) (n k : ℕ) → Paired n f → k < n → byte_sound f n k ≡ true
 unfolding byte_sound
 sound-at f n k w h =
     rw (le-leb (f k) 1 (w.byte k h)) (test (eqb (f k) 1)
@@ -83,7 +83,7 @@ bytes-sound f n zero k h w = refl
 bytes-sound f n (suc m) k h w = rw (sound-at f n k w (omega arith)) (bytes-sound f n m (k + 1) (omega arith) w)
 
 -- a list made of well-formed bytes holds them
-pub tabulated-paired : (n : ℕ) (f : ℕ → ℕ) → Paired n f → Paired n (naturals (tabulate n f))
+tabulated-paired : (n : ℕ) (f : ℕ → ℕ) → Paired n f → Paired n (naturals (tabulate n f))
 unfolding naturals
 tabulated-paired n f w = record {
   byte = λ c h. subst (λ (v : ℕ). v ≤ 1) (sym (get_d_tabulate n c f 0 h)) (w.byte c h);

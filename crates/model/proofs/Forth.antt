@@ -14,7 +14,8 @@ use Rattle.model.specs.Matrix.{naturals, put, swapped}
 use Rattle.model.specs.Step.{begins}
 use Rattle.model.specs.Head.{last_of, byte_of}
 use Rattle.model.specs.Kept.{Paired, Standing}
-use Rattle.model.specs.Lapack.{number_of, is_negative, goes, walk, place_from, stands_first, with_number, Listing, pivot_listed, Arranged, past_pivot, pivot_read}
+use Rattle.model.specs.Lapack.{number_of, is_negative, goes, walk, place_from, stands_first, with_number, Listing, pivot_listed, Arranged, past_pivot}
+use Rattle.model.specs.Lapack.{pivot_read}
 use Rattle.model.specs.declared.Refusal.{Refusal}
 use Rattle.model.specs.declared.Refusal.TheVariants.{BlockRow}
 use Rattle.model.proofs.Cases.{test, cmp}
@@ -125,7 +126,10 @@ module _ (n : ℕ) (order blocks : ℕ → ℕ) (w : Sound n order blocks) where
   -- past the pivot at k
   abbrev pub past_listed : ℕ → Listing → Listing
   past_listed k s =
-      record { rows = swapped s.rows (last_column k) (partner k s.rows); list = with_number s.list k (last_column k) (number_of (begins blocks k) (partner k s.rows)) }
+      record {
+        rows = swapped s.rows (last_column k) (partner k s.rows);
+        list = with_number s.list k (last_column k) (number_of (begins blocks k) (partner k s.rows));
+      }
 
   -- a step that was taken: the block's first row stood in its place
   pub record ListedOn (k l : ℕ) (s t : Listing) : Type 0 where

@@ -29,13 +29,13 @@ pub number-again : (z : ℤ) → 0 < unsigned_abs z → number_of (is_negative z
 number-again (pos n) h = ap pos (omega arith)
 number-again (negsuc n) h = ap negsuc (omega arith)
 
-pub same-is : (x y : ℤ) → same_number x y ≡ true → x ≡ y
+same-is : (x y : ℤ) → same_number x y ≡ true → x ≡ y
 same-is (pos a) (pos b) h = ap pos (eqb-true a b h)
 same-is (pos a) (negsuc b) h = absurd (let w : ◌≡◌ {A = ℕ} 0 1 = cc in omega arith)
 same-is (negsuc a) (pos b) h = absurd (let w : ◌≡◌ {A = ℕ} 0 1 = cc in omega arith)
 same-is (negsuc a) (negsuc b) h = ap negsuc (eqb-true a b h)
 
-pub is-same : (x y : ℤ) → x ≡ y → same_number x y ≡ true
+is-same : (x y : ℤ) → x ≡ y → same_number x y ≡ true
 is-same x y e = rw e (self y)
   where
     self : (z : ℤ) → same_number z z ≡ true
@@ -66,7 +66,7 @@ pub record Faultless (n : ℕ) (list : ℕ → ℤ) (k : ℕ) : Type 0 where
   pub low : last_of k (is_negative (list k)) < unsigned_abs (list k)
   pub high : unsigned_abs (list k) ≤ n
 
-pub faultless-passes : (n : ℕ) (list : ℕ → ℤ) (k : ℕ) → Faultless n list k → fault_at n list k ≡ Ok tt
+faultless-passes : (n : ℕ) (list : ℕ → ℤ) (k : ℕ) → Faultless n list k → fault_at n list k ≡ Ok tt
 unfolding fault_at
 faultless-passes n list k w =
     let e = last_of k (is_negative (list k)) in
@@ -80,7 +80,7 @@ faultless-passes n list k w =
         (λ t. let p = w.pair t in rw (t, lt-ltb (k + 1) n p.0, is-same (list (k + 1)) (list k) p.1) refl)
         (λ t. rw t refl)
 
-pub passes-faultless : (n : ℕ) (list : ℕ → ℤ) (k : ℕ) → fault_at n list k ≡ Ok tt → Faultless n list k
+passes-faultless : (n : ℕ) (list : ℕ → ℤ) (k : ℕ) → fault_at n list k ≡ Ok tt → Faultless n list k
 unfolding fault_at
 passes-faultless n list k h =
     let e = last_of k (is_negative (list k)) in

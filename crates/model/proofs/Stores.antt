@@ -47,10 +47,6 @@ pub integers-zeros : (n : ℕ) → integers (replicate n (pos 0)) ≡ (λ i. pos
 unfolding integers
 integers-zeros n = none_stored (pos 0) n
 
-pub naturals-set : (xs : List ℕ) (i v : ℕ) → i < length xs → naturals (set xs i v) ≡ put (naturals xs) i v
-unfolding naturals
-naturals-set xs i v h = stored 0 xs i v h
-
 pub both-naturals : (xs ys : List ℕ) (k e x y x' y' : ℕ) → ys ≡ set (set xs e y) k x → x ≡ x' → y ≡ y' → k ≤ e → e < length xs
     → naturals ys ≡ put (put (naturals xs) e y') k x'
 unfolding naturals
@@ -73,7 +69,7 @@ pub place_at : (xs : List ℕ) (i : ℕ) → i < length xs → get_or xs i 0 ≡
 unfolding places
 place_at xs i l = sym (get_or-set_same xs i (get_or xs i 0) i l) ∙ ap (λ (zs : List ℕ). get_or zs i i) (set-get_or xs i 0)
 
-pub places-set : (xs : List ℕ) (i v : ℕ) → i < length xs → places (set xs i v) ≡ put (places xs) i v
+places-set : (xs : List ℕ) (i v : ℕ) → i < length xs → places (set xs i v) ≡ put (places xs) i v
 unfolding places put
 places-set xs i v h =
     fun_ext λ a. test (eqb a i)
@@ -81,7 +77,7 @@ places-set xs i v h =
     (λ p. rw p (get_or-set_other xs i a v a (eqb-false a i p)))
 
 -- two stores exchange two places, which may be one
-pub stores-swap : (f g h : ℕ → ℕ) (p q a b : ℕ) → a ≡ f p → b ≡ f q → g ≡ put f p b → h ≡ put g q a → h ≡ swapped f p q
+stores-swap : (f g h : ℕ → ℕ) (p q a b : ℕ) → a ≡ f p → b ≡ f q → g ≡ put f p b → h ≡ put g q a → h ≡ swapped f p q
 unfolding put swapped
 stores-swap f g h p q a b ea eb eg eh =
     eh ∙ rw eg (fun_ext λ i. test (eqb i q)

@@ -18,7 +18,10 @@ pub record Walked (n k : ℕ) (rows blocks : ℕ → ℕ) : Type 0 where
   pub reads : (l : ℕ → ℤ) → ((i : ℕ) → i < k → l i ≡ list i) → arranged_of n l ≡ walk n (pivot_read n l) (n - k) k (record { rows = rows; blocks = blocks })
 
 pub none-walked : (n : ℕ) → Walked n 0 (λ i. i) (λ i. 0)
-none-walked n = record { list = λ i. pos 0; reads = λ l h. ap (λ (m : ℕ). walk n (pivot_read n l) m 0 (record { rows = λ i. i; blocks = λ i. 0 })) (omega arith) }
+none-walked n = record {
+  list = λ i. pos 0;
+  reads = λ l h. ap (λ (m : ℕ). walk n (pivot_read n l) m 0 (record { rows = λ i. i; blocks = λ i. 0 })) (omega arith);
+}
 
 -- a pivot more, whose last column is exchanged with p
 pub step-walked : (n k : ℕ) (rows blocks : ℕ → ℕ) (block : Bool) (p : ℕ) → last_of k block < n → last_of k block ≤ p → p < n → Walked n k rows blocks

@@ -1,7 +1,7 @@
 // Replays recorded answers on the seven calls and the leaf magnitude, and prints how many differ: those of the Rust,
 // and for solve and LAPACK's pivot lists, which the Rust does not have, those of the oracle's restatements. A case
-// differs if the answer's number, place, rounds or counts do, or the bits of a buffer; one of the magnitude, if its bits
-// do.
+// differs if the answer's number, place, rounds or counts do, or the bits of a buffer; one of the magnitude, if its
+// bits do.
 // data/answers has the cases; data/LEGEND says what made them, what they meet and how they are written.
 // Proved is that the program is safe and ends. What stands in a file no contract can say: the run is the test.
 // Nothing of it is public: what one module has of another is the crate's own, pub(crate).
