@@ -1,7 +1,7 @@
 -- Laws of the walk from LAPACK, one pivot at a time and in turn. Assumes nothing.
 use Rattle.std.specs.Prelude.{ℤ, pos, unsigned_abs, Result, Ok, Err}
 use Rattle.std.specs.Int.{from_bool}
-use mathlib.Core.Path.{◌≡◌, refl, sym, ◌∙◌, ap}
+use mathlib.Core.Path.{◌≡◌, refl, ◌∙◌, ap}
 use mathlib.Core.Bool.{Bool, true, false, not, ◌&&◌}
 use mathlib.Core.List.{List}
 use Prim.Native.Nat.{ℕ, ◌+◌, ◌-◌, ◌<◌, ◌≤◌}
@@ -25,6 +25,7 @@ use Rattle.model.proofs.Lapack.{read-on}
 use Rattle.buffers.specs.Buffers.{in_order}
 use Rattle.lapack.specs.Walks.{stepped, arranged, ReadPre}
 use Rattle.buffers.proofs.Buffers.{places-in_order}
+use Rattle.lapack.proofs.Stepped.{taken}
 
 -- ---- a pair; the code holds a number by its bits
 
@@ -102,18 +103,10 @@ read-done n list k rows blocks new bytes t block e row byte w p h b l r f x y z 
 
 -- ---- the pivots from LAPACK in turn
 
--- a step that was taken, as the definition has it
-pub from-taken : (n k l : ℕ) (list : ℕ → ℤ) (a b : Arranged) (r : Result ℕ Refusal) → stepped r b ≡ pivot_read n list k a → r ≡ Ok l
-    → pivot_read n list k a ≡ Ok (l, b)
-from-taken n k l list a b r e o = rw o at (sym e)
-
-pub from-stopped : (n k : ℕ) (why : Refusal) (list : ℕ → ℤ) (a b : Arranged) (r : Result ℕ Refusal) → stepped r b ≡ pivot_read n list k a → r ≡ Err why
-    → pivot_read n list k a ≡ Err why
-from-stopped n k why list a b r e o = rw o at (sym e)
-
+-- the next column, after it and within the list's
 pub from-goes : (n k l : ℕ) (list : ℕ → ℤ) (a b : Arranged) (r : Result ℕ Refusal) → k < n → stepped r b ≡ pivot_read n list k a → r ≡ Ok l → (l ≤ n) × (k < l)
 from-goes n k l list a b r h e o =
-    let on = read-on n list k l a b (from-taken n k l list a b r e o) in
+    let on = read-on n list k l a b (taken l b r _ e o) in
     (omega (arith, on.next, on.column.low, on.column.high), omega (arith, on.next, last-from k (is_negative (list k))))
 
 -- as the walk begins

@@ -27,6 +27,7 @@ use Rattle.model.proofs.Tabulated.{length-tabulate_from}
 use Rattle.buffers.specs.Buffers.{in_order}
 use Rattle.lapack.specs.Walks.{stepped, listing, SoundPre, PivotPre}
 use Rattle.buffers.proofs.Buffers.{places-in_order}
+use Rattle.lapack.proofs.Stepped.{taken}
 
 -- ---- a search
 
@@ -120,22 +121,13 @@ to-begins n m order blocks rows list e l z =
       rw (count, own, zeros) refl,
     )
 
--- a step that was taken, as the definition has it
-pub to-taken : (n k l : ℕ) (order blocks : ℕ → ℕ) (s t : Listing) (r : Result ℕ Refusal) → stepped r t ≡ pivot_listed n order blocks k s → r ≡ Ok l
-    → pivot_listed n order blocks k s ≡ Ok (l, t)
-to-taken n k l order blocks s t r e o = rw o at (sym e)
-
-pub to-stopped : (n k : ℕ) (why : Refusal) (order blocks : ℕ → ℕ) (s t : Listing) (r : Result ℕ Refusal) → stepped r t ≡ pivot_listed n order blocks k s
-    → r ≡ Err why → pivot_listed n order blocks k s ≡ Err why
-to-stopped n k why order blocks s t r e o = rw o at (sym e)
-
 -- the rows in their places, one more after each step
 pub to-goes : (n k l : ℕ) (order blocks rows new : List ℕ) (list list' : List ℤ) (r : Result ℕ Refusal) → SoundPre n order blocks → PivotPre n order k rows
     → stepped r (listing new list') ≡ pivot_listed n (naturals order) (naturals blocks) k (listing rows list) → r ≡ Ok l
     → (l ≤ n) × (k < l) × Standing n (naturals order) l (places new)
 to-goes n k l order blocks rows new list list' r s w e o =
     let sound = sound-in n order blocks s in
-    let on = listed-on n (naturals order) (naturals blocks) sound k l (listing rows list) (listing new list') (to-taken n k l _ _ _ _ r e o) in
+    let on = listed-on n (naturals order) (naturals blocks) sound k l (listing rows list) (listing new list') (taken l (listing new list') r _ e o) in
     let c = last_of k (begins (naturals blocks) k) in
     let inn : c < n = last-in n (naturals order) (naturals blocks) sound k w.here in
     let last = standing-last n (naturals order) (naturals blocks) sound k (begins (naturals blocks) k) (places rows) on.in_place w.standing in
