@@ -1,5 +1,5 @@
 -- What an accepted call may be relied on for: its order is a permutation that leaves the tail in place; its block bytes are well formed, so that inertia and
--- update never answer 16 to them; and both are what a walk from LAPACK makes. Assumes nothing.
+-- update never answer 16 to them; both are what a walk from LAPACK makes; and its test numbers tell what `TestsTell` says. Assumes nothing.
 use mathlib.Core.Path.{◌≡◌, refl, sym, ◌∙◌, ap, subst}
 use mathlib.Core.List.{List}
 use Prim.Native.Nat.{ℕ, zero, suc, ◌+◌, ◌-◌, ◌≤◌, ◌<◌, min, max}
@@ -19,6 +19,8 @@ use Rattle.model.specs.Factor.{pivoting_of, Outcome, start, head_run_of, HeadAns
 use Rattle.model.specs.Factor.{after_head, after_check, factor_of}
 use Rattle.model.specs.Answer.{Said, accepted, Check}
 use Rattle.model.specs.Independence.{Call, PastEntry, outcome_of}
+use Rattle.model.specs.Tests.{Told, TestsTell}
+use Rattle.model.specs.declared.Mode.{Mode}
 use Rattle.model.specs.declared.Pivoting.{Pivoting}
 use Rattle.model.specs.declared.Pivot.{Pivot}
 use Rattle.model.specs.declared.Report.{Report}
@@ -29,84 +31,88 @@ use Rattle.model.proofs.Exchanged.{swapped_same}
 use Rattle.model.proofs.Walked.{Walked, none-walked, step-walked}
 use Rattle.model.proofs.Order.{swapped-permutes, permutes-apart, permutes_inside, own-places}
 use Rattle.model.proofs.Numbered.{refused-not}
+use Rattle.model.proofs.Independence.{bytes-tabulate}
 use Rattle.model.proofs.Entry.{Passed, passed as entry-passed, past-entry}
 use Rattle.model.proofs.Bounds.{GoodPivot}
-use Rattle.model.proofs.Recorded.{last-from, step_bytes, Reached, panel-reached, noted-recorded, none-recorded}
+use Rattle.model.proofs.Recorded.{last-from, step_bytes, Reached, panel-reached, noted-recorded, none-recorded, step_puts}
+use Rattle.model.proofs.Tests.{step-told, none-told, told-alike}
 
--- ---- the run keeps all three
+-- ---- the run keeps all four
 
 -- at column k of a run over ncol columns
-pub record Kept (ncol k : ℕ) (p : Pivots) : Type 0 where
+pub record Kept (mode : Mode) (ncol k : ℕ) (p : Pivots) : Type 0 where
   pub order : Permutes ncol p.notes.order
   pub recorded : Recorded k p.diagonals.blocks p.partners
   pub walked : Walked ncol k p.notes.order p.diagonals.blocks
+  pub told : Told mode k p.diagonals.blocks p.notes.tests
 
 -- the first exchange is with the pivot's own row, and so none
-walked-noted : (ncol ke limit k : ℕ) (p : Pivots) (v : Pivot) → ke ≤ ncol → GoodPivot ke limit k v → Walked ncol k p.notes.order p.diagonals.blocks
+walked-noted : (mode : Mode) (ncol ke limit k : ℕ) (p : Pivots) (v : Pivot) → ke ≤ ncol → GoodPivot mode ke limit k v → Walked ncol k p.notes.order p.diagonals.blocks
     → let e = last_of k (is_block v.diagonal) in
     Walked ncol (e + 1) (noted p k e v).notes.order (noted p k e v).diagonals.blocks
 unfolding noted step_bytes
-walked-noted ncol ke limit k p v h g w =
+walked-noted mode ncol ke limit k p v h g w =
     let none : swapped p.notes.order k v.p.0 ≡ p.notes.order = sym (swapped_same p.notes.order k v.p.0 (sym g.own)) in
     rw none (step-walked ncol k p.notes.order p.diagonals.blocks (is_block v.diagonal) v.kp.0 (omega (arith, g.last)) g.from (omega (arith, g.row)) w)
 
--- a step keeps all three
-pub noted-kept : (ncol ke limit k : ℕ) (p : Pivots) (v : Pivot) → ke ≤ ncol → GoodPivot ke limit k v → Kept ncol k p
-    → Kept ncol (last_of k (is_block v.diagonal) + 1) (noted p k (last_of k (is_block v.diagonal)) v)
-unfolding noted
-noted-kept ncol ke limit k p v h g w = record {
+-- a step keeps all four
+pub noted-kept : (mode : Mode) (ncol ke limit k : ℕ) (p : Pivots) (v : Pivot) → ke ≤ ncol → GoodPivot mode ke limit k v → Kept mode ncol k p
+    → Kept mode ncol (last_of k (is_block v.diagonal) + 1) (noted p k (last_of k (is_block v.diagonal)) v)
+unfolding noted step_bytes step_puts
+noted-kept mode ncol ke limit k p v h g w = record {
   order =
       swapped-permutes ncol (swapped p.notes.order k v.p.0) (last_of k (is_block v.diagonal)) v.kp.0 (omega (arith, g.last)) (omega (arith, g.row))
       (swapped-permutes ncol p.notes.order k v.p.0 (omega (arith, g.last, last-from k (is_block v.diagonal))) (omega (arith, g.first)) w.order);
-  recorded = noted-recorded ke limit k p v g w.recorded;
-  walked = walked-noted ncol ke limit k p v h g w.walked;
+  recorded = noted-recorded mode ke limit k p v g w.recorded;
+  walked = walked-noted mode ncol ke limit k p v h g w.walked;
+  told = step-told mode k p.diagonals.blocks p.notes.tests v.test g.zero (is_block v.diagonal) w.recorded.paired g.block w.told;
 }
 
 -- a panel keeps them
-pub panel-kept : (ncol ke : ℕ) (how : Pivoting) (n k : ℕ) (s : State) → k ≤ ke → ke ≤ ncol → ke - k ≤ n → Kept ncol k s.pivots
-    → Reached (Kept ncol) ke (panel_of ke how n k s)
+pub panel-kept : (ncol ke : ℕ) (how : Pivoting) (n k : ℕ) (s : State) → k ≤ ke → ke ≤ ncol → ke - k ≤ n → Kept how.mode ncol k s.pivots
+    → Reached (Kept how.mode ncol) ke (panel_of ke how n k s)
 panel-kept ncol ke how n k s h l f w =
-    panel-reached ke how (Kept ncol) (λ j p v g x. noted-kept ncol ke how.limit j p v l g x) n k s h f w
+    panel-reached ke how (Kept how.mode ncol) (λ j p v g x. noted-kept how.mode ncol ke how.limit j p v l g x) n k s h f w
 
 -- where a run was done, they hold at its end
-abbrev pub AtEnd : ℕ → Run → Type 0
-AtEnd ncol (head.refused r) = Unit {0}
-AtEnd ncol (done s ps) = Kept ncol ncol s.pivots
+abbrev pub AtEnd : Mode → ℕ → Run → Type 0
+AtEnd mode ncol (head.refused r) = Unit {0}
+AtEnd mode ncol (done s ps) = Kept mode ncol ncol s.pivots
 
 -- a panel in front of a run changes nothing of its end
-pub with-panel-kept : (ncol : ℕ) (p : Panel) (r : Run) → AtEnd ncol r → AtEnd ncol (with_panel p r)
-with-panel-kept ncol p (head.refused r) w = tt
-with-panel-kept ncol p (done s ps) w = w
+pub with-panel-kept : (mode : Mode) (ncol : ℕ) (p : Panel) (r : Run) → AtEnd mode ncol r → AtEnd mode ncol (with_panel p r)
+with-panel-kept mode ncol p (head.refused r) w = tt
+with-panel-kept mode ncol p (done s ps) w = w
 
 -- what a panel reached, the rest of the run goes on from
-pub continued-kept : (ncol ke : ℕ) (g : Progress) (f : State → Run) → Reached (Kept ncol) ke g
-    → ((t : State) → Kept ncol ke t.pivots → AtEnd ncol (f t)) → AtEnd ncol (continued g f)
-continued-kept ncol ke (stopped r) f e next = tt
-continued-kept ncol ke (going k s) f e next = next s e.1
+pub continued-kept : (mode : Mode) (ncol ke : ℕ) (g : Progress) (f : State → Run) → Reached (Kept mode ncol) ke g
+    → ((t : State) → Kept mode ncol ke t.pivots → AtEnd mode ncol (f t)) → AtEnd mode ncol (continued g f)
+continued-kept mode ncol ke (stopped r) f e next = tt
+continued-kept mode ncol ke (going k s) f e next = next s e.1
 
 -- the later columns of a panel leave the pivots as they are
-pub same-pivots : (ncol k : ℕ) (p : Panel) (u : State) → Kept ncol k u.pivots → Kept ncol k (passed p u).pivots
+pub same-pivots : (mode : Mode) (ncol k : ℕ) (p : Panel) (u : State) → Kept mode ncol k u.pivots → Kept mode ncol k (passed p u).pivots
 unfolding passed
-same-pivots ncol k p u w = w
+same-pivots mode ncol k p u w = w
 
 -- panels in turn keep them
-pub panels-kept : (how : Pivoting) (ncol nb n kb : ℕ) (s : State) → 1 ≤ nb → kb ≤ ncol → ncol - kb ≤ n → Kept ncol kb s.pivots
-    → AtEnd ncol (panels_of how ncol nb n kb s)
+pub panels-kept : (how : Pivoting) (ncol nb n kb : ℕ) (s : State) → 1 ≤ nb → kb ≤ ncol → ncol - kb ≤ n → Kept how.mode ncol kb s.pivots
+    → AtEnd how.mode ncol (panels_of how ncol nb n kb s)
 unfolding panels_of
-panels-kept how ncol nb zero kb s b h f w = let e : kb ≡ ncol = omega arith in subst (λ (m : ℕ). Kept ncol m s.pivots) e w
+panels-kept how ncol nb zero kb s b h f w = let e : kb ≡ ncol = omega arith in subst (λ (m : ℕ). Kept how.mode ncol m s.pivots) e w
 panels-kept how ncol nb (suc n) kb s b h f w =
     test (ltb kb ncol)
     (λ t. let l : kb < ncol = ltb-true kb ncol t in
     let ke = min (kb + nb) ncol in
-    rw t (continued-kept ncol ke (panel_of ke how (ke - kb) kb s)
+    rw t (continued-kept how.mode ncol ke (panel_of ke how (ke - kb) kb s)
     (λ u. with_panel (closed kb ke u) (panels_of how ncol nb n ke (passed (closed kb ke u) u)))
     (panel-kept ncol ke how (ke - kb) kb s (omega arith) (omega arith) (omega arith) w)
-    (λ u kept. with-panel-kept ncol (closed kb ke u) (panels_of how ncol nb n ke (passed (closed kb ke u) u))
-    (panels-kept how ncol nb n ke (passed (closed kb ke u) u) b (omega arith) (omega arith) (same-pivots ncol ke (closed kb ke u) u kept)))))
-    (λ t. let e : kb ≡ ncol = omega (arith, ltb-false kb ncol t) in rw t (subst (λ (m : ℕ). Kept ncol m s.pivots) e w))
+    (λ u kept. with-panel-kept how.mode ncol (closed kb ke u) (panels_of how ncol nb n ke (passed (closed kb ke u) u))
+    (panels-kept how ncol nb n ke (passed (closed kb ke u) u) b (omega arith) (omega arith) (same-pivots how.mode ncol ke (closed kb ke u) u kept)))))
+    (λ t. let e : kb ≡ ncol = omega (arith, ltb-false kb ncol t) in rw t (subst (λ (m : ℕ). Kept how.mode ncol m s.pivots) e w))
 
 -- of the head's run
-pub head-kept : (how : Pivoting) (ncol nb : ℕ) (a : Mat) → 1 ≤ nb → AtEnd ncol (head_run_of how ncol nb a)
+pub head-kept : (how : Pivoting) (ncol nb : ℕ) (a : Mat) → 1 ≤ nb → AtEnd how.mode ncol (head_run_of how ncol nb a)
 unfolding head_run_of start
 head-kept how ncol nb a b =
     panels-kept how ncol (min nb (max ncol 1)) ncol 0 (start ncol (head_of ncol a)) (omega arith) (omega arith) (omega arith)
@@ -114,6 +120,7 @@ head-kept how ncol nb a b =
       order = own-places ncol;
       recorded = none-recorded _ _;
       walked = none-walked ncol;
+      told = none-told how.mode _ _;
     })
 
 -- ---- an accepted call
@@ -146,19 +153,19 @@ accepted-is x r e = by-check (entry_check x.settings x.input x.lent) refl
     by-check (Err why) h = absurd (refused-not why r (outcome_of x).answer (ap (λ (k : Check). answer_by k head_of_call) h) e)
 
 -- the run of a head that stands was done
-pub stands-kept : (ncol : ℕ) (g : Run) (s : State) (ps : List Panel) → AtEnd ncol g → judged_run ncol g ≡ stands s ps → Kept ncol ncol s.pivots
-stands-kept ncol (head.refused r) s ps w e = absurd (let z : ◌≡◌ {A = ℕ} 0 1 = cc in omega arith)
-stands-kept ncol (done t qs) s ps w e = by-check (result_check ncol t.pivots.diagonals t.a ncol 0) e
+pub stands-kept : (mode : Mode) (ncol : ℕ) (g : Run) (s : State) (ps : List Panel) → AtEnd mode ncol g → judged_run ncol g ≡ stands s ps → Kept mode ncol ncol s.pivots
+stands-kept mode ncol (head.refused r) s ps w e = absurd (let z : ◌≡◌ {A = ℕ} 0 1 = cc in omega arith)
+stands-kept mode ncol (done t qs) s ps w e = by-check (result_check ncol t.pivots.diagonals t.a ncol 0) e
   where
-    by-check : (c : Check) → judged c t qs ≡ stands s ps → Kept ncol ncol s.pivots
-    by-check (Ok u) h = let z : t ≡ s = cc in subst (λ (u : State). Kept ncol ncol u.pivots) z w
+    by-check : (c : Check) → judged c t qs ≡ stands s ps → Kept mode ncol ncol s.pivots
+    by-check (Ok u) h = let z : t ≡ s = cc in subst (λ (u : State). Kept mode ncol ncol u.pivots) z w
     by-check (Err why) h = absurd (let z : ◌≡◌ {A = ℕ} 0 1 = cc in omega arith)
 
 -- its order and block bytes at the end
-pub accepted-kept : (x : Call) (w : Accepted x) → Kept x.settings.ncol x.settings.ncol w.state.pivots
+pub accepted-kept : (x : Call) (w : Accepted x) → Kept x.settings.mode x.settings.ncol x.settings.ncol w.state.pivots
 unfolding head_answer_of
 accepted-kept x w =
-    stands-kept x.settings.ncol (head_run_of (pivoting_of x.settings) x.settings.ncol x.settings.nb (view x.settings.nrow x.input))
+    stands-kept x.settings.mode x.settings.ncol (head_run_of (pivoting_of x.settings) x.settings.ncol x.settings.nb (view x.settings.nrow x.input))
     w.state w.panels
     (head-kept (pivoting_of x.settings) x.settings.ncol x.settings.nb (view x.settings.nrow x.input) passed_entry.some) w.head
   where
@@ -205,3 +212,16 @@ pub accepted-bytes : (x : Call) → Accepted x → check_bytes (outcome_of x).bu
 accepted-bytes x w =
     ap (λ (o : Outcome). check_bytes o.buffers.blocks) (accepted-leaves x w)
     ∙ tabulated-bytes x.settings.ncol w.state.pivots.diagonals.blocks (accepted-kept x w).recorded.paired
+
+-- ---- the test numbers
+
+-- they tell what is said of them
+pub tests-tell : TestsTell
+tests-tell x r e =
+    let w : Accepted x = accepted-is x r e in
+    let n : ℕ = x.settings.ncol in
+    told-alike x.settings.mode n w.state.pivots.diagonals.blocks w.state.pivots.notes.tests
+    (naturals (outcome_of x).buffers.blocks) (naturals (outcome_of x).buffers.tests)
+    (λ k h. ap (λ (o : Outcome). naturals o.buffers.blocks k) (accepted-leaves x w) ∙ bytes-tabulate n k w.state.pivots.diagonals.blocks h)
+    (λ k h. ap (λ (o : Outcome). naturals o.buffers.tests k) (accepted-leaves x w) ∙ bytes-tabulate n k w.state.pivots.notes.tests h)
+    (accepted-kept x w).told

@@ -1,11 +1,12 @@
--- Where the pivot search can end, and what a step's pivot keeps to: its rows and columns stand within the panel, its rounds within the limit. Assumes nothing.
+-- Where the pivot search can end, and what a step's pivot keeps to: its rows and columns stand within the panel, its rounds within the limit, and its test is
+-- one that can have chosen it. Assumes nothing.
 use mathlib.Core.Path.{◌≡◌, refl, ◌∙◌, ap}
 use mathlib.Core.Logic.{◌⊎◌, inl, inr, ⊎_elim}
 use mathlib.Core.Bool.{Bool, true, false, cond, ◌&&◌, ◌||◌}
 use Prim.Native.Nat.{ℕ, zero, suc, ◌+◌, ◌-◌, ◌*◌, ◌≤◌, ◌<◌}
 use native.Mathlib.Omega.{arith}
 use native.Mathlib.Nat.{zero-mul}
-use borrow.Author.Tests.{eq-eqb, ltb-false}
+use borrow.Author.Tests.{eq-eqb, eqb-true, ltb-false}
 use lib.Dec.{ltb, eqb}
 use lib.Count.{count_trailing_zeros}
 use lib.Ieee.{Float, nan, inf, fin, up, lt, le, eq, is_nan, of_bits, of_fields, odd, add, mul, div, sum, round, units, size, span, climb}
@@ -13,7 +14,7 @@ use Rattle.std.specs.Prelude.{Option, Some, None, Result, Ok, Err}
 use Rattle.model.specs.Scalar.{◌⊕◌, ◌⊗◌, ◌⊘◌, zero_f, square_of, magnitude_of, maximum_of}
 use Rattle.model.specs.Root.{sqrt_of, alpha, round_root, isqrt, whole_root}
 use Rattle.model.specs.Matrix.{Row, Mat, exchanged}
-use Rattle.model.specs.Choice.{greatest, none_yet, column_greatest, row_greatest, choose_of}
+use Rattle.model.specs.Choice.{greatest, none_yet, column_greatest, row_greatest, test_number, choose_of}
 use Rattle.model.specs.Head.{settled_one, raised_from, unlifted, settled_two, bar_of, lift_step_of, growth_floor_of, Tried, refused_by, took, after_one, after_two, try_block}
 use Rattle.model.specs.Head.{try_by, try_of, last_of}
 use Rattle.model.specs.Step.{block_of, is_block}
@@ -25,11 +26,14 @@ use Rattle.model.specs.declared.LocalRow.{LocalRow}
 use Rattle.model.specs.declared.Greatest.{Greatest}
 use Rattle.model.specs.declared.Choice.{Choice}
 use Rattle.model.specs.declared.Choice.TheVariants as choice
+use Rattle.model.specs.declared.PivotTest.{PivotTest}
+use Rattle.model.specs.declared.PivotTest.TheVariants as by
 use Rattle.model.specs.declared.OneSettled.{OneSettled}
 use Rattle.model.specs.declared.TwoSettled.{TwoSettled}
 use Rattle.model.specs.declared.Unfit.{Unfit}
 use Rattle.model.specs.declared.Unfit.TheVariants.{Low, OutOfRounds}
 use Rattle.model.specs.declared.Pivot.{Pivot}
+use Rattle.model.specs.Tests.{block_number, Lifts}
 use Rattle.model.proofs.Cases.{test}
 
 -- ---- the greatest square
@@ -56,11 +60,11 @@ greatest-where f lo (suc n) best =
 
 -- ---- the choice
 
--- what a choice may name
+-- what a choice may name: the rows, and the tests that can have chosen a 1x1, and a block
 abbrev pub Chosen : ℕ → ℕ → Choice → Type 0
 Chosen k ke choice.ZeroColumn = Unit {0}
-Chosen k ke (choice.Single kp) = (k ≤ kp.0) × (kp.0 < ke)
-Chosen k ke (choice.Block p kp) = (k < kp.0) × (kp.0 < ke) × (k ≤ p.0) × (p.0 < ke) × (p.0 ≡ k)
+Chosen k ke (choice.Single t kp) = (k ≤ kp.0) × (kp.0 < ke) × (block_number (test_number t) ≡ false) × (test_number t ≡ 0 → ⊥)
+Chosen k ke (choice.Block t p kp) = (k < kp.0) × (kp.0 < ke) × (k ≤ p.0) × (p.0 < ke) × (p.0 ≡ k) × (block_number (test_number t) ≡ true)
 
 either-chosen : (k ke : ℕ) (t : Bool) (a b : Choice) → Chosen k ke a → Chosen k ke b → Chosen k ke (cond t a b)
 either-chosen k ke true a b p q = p
@@ -100,19 +104,21 @@ abbrev row : ℕ → LocalRow
 row i = record { 0 = i }
 
 none-chosen : (k ke : ℕ) (x : Float) (rest : Choice) → k < ke
-    → Chosen k ke (cond (eq (maximum_of (magnitude_of x) zero_f) zero_f) choice.ZeroColumn (cond (le zero_f (magnitude_of x)) (choice.Single (row k)) rest))
+    → Chosen k ke (cond (eq (maximum_of (magnitude_of x) zero_f) zero_f) choice.ZeroColumn
+    (cond (le zero_f (magnitude_of x)) (choice.Single by.OwnDiagonal (row k)) rest))
 none-chosen k ke x rest h =
-    ⊎_elim (λ t. rw t (either-chosen k ke (eq (maximum_of (magnitude_of x) zero_f) zero_f) choice.ZeroColumn (choice.Single (row k)) tt (omega arith, h)))
+    ⊎_elim (λ t. rw t (either-chosen k ke (eq (maximum_of (magnitude_of x) zero_f) zero_f) choice.ZeroColumn (choice.Single by.OwnDiagonal (row k)) tt
+    (omega arith, h, refl, λ e. omega arith)))
     (λ t. rw t tt) (own-or-zero x)
 
 some-chosen : (k ke : ℕ) (at : LocalRow) (zero own by_row other : Bool) → k < at.0 → at.0 < ke
-    → Chosen k ke (cond zero choice.ZeroColumn (cond own (choice.Single (row k))
-    (cond by_row (choice.Single (row k)) (cond other (choice.Single at) (choice.Block (row k) at)))))
+    → Chosen k ke (cond zero choice.ZeroColumn (cond own (choice.Single by.OwnDiagonal (row k))
+    (cond by_row (choice.Single by.RowTest (row k)) (cond other (choice.Single by.ExchangedDiagonal at) (choice.Block by.Block (row k) at)))))
 some-chosen k ke at true own by_row other l r = tt
-some-chosen k ke at false true by_row other l r = (omega arith, omega arith)
-some-chosen k ke at false false true other l r = (omega arith, omega arith)
-some-chosen k ke at false false false true l r = (omega arith, omega arith)
-some-chosen k ke at false false false false l r = (l, r, omega arith, omega arith, refl)
+some-chosen k ke at false true by_row other l r = (omega arith, omega arith, refl, λ e. omega arith)
+some-chosen k ke at false false true other l r = (omega arith, omega arith, refl, λ e. omega arith)
+some-chosen k ke at false false false true l r = (omega arith, omega arith, refl, λ e. omega arith)
+some-chosen k ke at false false false false l r = (l, r, omega arith, omega arith, refl, refl)
 
 -- a block's two rows are different rows of the panel, so it never crosses ke
 pub choose-in : (a : Mat) (k ke : ℕ) → k < ke → Chosen k ke (choose_of a k ke)
@@ -133,8 +139,8 @@ choose-in a k ke h =
 -- ---- a step
 
 -- the pivot's last column and its rows stand within the panel, no row before the column that it is exchanged with; its first exchange is none, as the tests
--- stand; its rounds keep to the limit
-pub record GoodPivot (ke limit k : ℕ) (v : Pivot) : Type 0 where
+-- stand; its rounds keep to the limit; its test is a block's if it is one, and the zero column's in Lift alone
+pub record GoodPivot (mode : Mode) (ke limit k : ℕ) (v : Pivot) : Type 0 where
   pub last : last_of k (is_block v.diagonal) < ke
   pub from : last_of k (is_block v.diagonal) ≤ v.kp.0
   pub row : v.kp.0 < ke
@@ -142,10 +148,12 @@ pub record GoodPivot (ke limit k : ℕ) (v : Pivot) : Type 0 where
   pub first : v.p.0 < ke
   pub own : v.p.0 ≡ k
   pub few : v.rounds ≤ limit
+  pub block : block_number (test_number v.test) ≡ is_block v.diagonal
+  pub zero : test_number v.test ≡ 0 → Lifts mode
 
-abbrev pub Good : ℕ → ℕ → ℕ → Tried → Type 0
-Good ke limit k (refused_by r) = Unit {0}
-Good ke limit k (took v a m) = GoodPivot ke limit k v
+abbrev pub Good : Mode → ℕ → ℕ → ℕ → Tried → Type 0
+Good mode ke limit k (refused_by r) = Unit {0}
+Good mode ke limit k (took v a m) = GoodPivot mode ke limit k v
 
 -- a block's rounds
 abbrev pub FewRounds : ℕ → Result TwoSettled Unfit → Type 0
@@ -172,31 +180,52 @@ settled-few (Lift floor) limit b =
     (Ok (unlifted b))
     (raised-few limit b (bar_of floor b) (lift_step_of floor b) limit 1 (lift_step_of floor b) (omega arith)) (omega arith)
 
-module _ (ke : ℕ) (a m : Mat) (limit k : ℕ) where
-  one-good : (kp : ℕ) (s : Option OneSettled) → k ≤ kp → kp < ke → Good ke limit k (after_one ke a m k kp s)
+-- a block's test is not the zero column's
+block-nonzero : (n : ℕ) → block_number n ≡ true → n ≡ 0 → ⊥
+block-nonzero n h e = omega (arith, eqb-true n 4 h)
+
+module _ (mode : Mode) (ke : ℕ) (a m : Mat) (limit k : ℕ) where
+  one-good : (t : PivotTest) (kp : ℕ) (s : Option OneSettled) → k ≤ kp → kp < ke → block_number (test_number t) ≡ false → (test_number t ≡ 0 → Lifts mode)
+      → Good mode ke limit k (after_one ke a m t k kp s)
   unfolding last_of
-  one-good kp None l r = tt
-  one-good kp (Some s) l r = record { last = omega arith; from = l; row = r; ahead = omega arith; first = omega arith; own = refl; few = omega arith }
+  one-good t kp None l r b z = tt
+  one-good t kp (Some s) l r b z =
+      record { last = omega arith; from = l; row = r; ahead = omega arith; first = omega arith; own = refl; few = omega arith; block = b; zero = z }
 
-  two_good : (p kp : ℕ) (s : Result TwoSettled Unfit) → FewRounds limit s → k < kp → kp < ke → k ≤ p → p < ke → p ≡ k
-      → Good ke limit k (after_two ke a m k p kp s)
+  two_good : (t : PivotTest) (p kp : ℕ) (s : Result TwoSettled Unfit) → FewRounds limit s → k < kp → kp < ke → k ≤ p → p < ke → p ≡ k
+      → block_number (test_number t) ≡ true → Good mode ke limit k (after_two ke a m t k p kp s)
   unfolding last_of
-  two_good p kp (Err Low) f l r g h o = tt
-  two_good p kp (Err OutOfRounds) f l r g h o = tt
-  two_good p kp (Ok s) f l r g h o = record { last = omega arith; from = omega arith; row = r; ahead = g; first = h; own = o; few = f }
+  two_good t p kp (Err Low) f l r g h o b = tt
+  two_good t p kp (Err OutOfRounds) f l r g h o b = tt
+  two_good t p kp (Ok s) f l r g h o b = record {
+    last = omega arith;
+    from = omega arith;
+    row = r;
+    ahead = g;
+    first = h;
+    own = o;
+    few = f;
+    block = b;
+    zero = λ e. absurd (block-nonzero (test_number t) b e);
+  }
 
-  block-good : (mode : Mode) (p kp : ℕ) → k < kp → kp < ke → k ≤ p → p < ke → p ≡ k → Good ke limit k (try_block ke a m mode limit k p kp)
-  block-good mode p kp = two_good p kp (settled_two mode limit _) (settled-few mode limit _)
+  block-good : (t : PivotTest) (p kp : ℕ) → k < kp → kp < ke → k ≤ p → p < ke → p ≡ k → block_number (test_number t) ≡ true
+      → Good mode ke limit k (try_block ke a m mode limit t k p kp)
+  block-good t p kp = two_good t p kp (settled_two mode limit _) (settled-few mode limit _)
 
 module _ (ke : ℕ) (a m : Mat) (limit k : ℕ) where
-  by-good : (mode : Mode) (c : Choice) → k < ke → Chosen k ke c → Good ke limit k (try_by ke a m mode limit k c)
+  by-good : (mode : Mode) (c : Choice) → k < ke → Chosen k ke c → Good mode ke limit k (try_by ke a m mode limit k c)
   by-good Fail choice.ZeroColumn h p = tt
-  by-good (Lift floor) choice.ZeroColumn h p = one-good ke a m limit k k (settled_one (Lift floor) (a k k)) (omega arith) h
-  by-good Fail (choice.Single kp) h p = one-good ke a m limit k kp.0 (settled_one Fail (a kp.0 kp.0)) p.0 p.1
-  by-good (Lift floor) (choice.Single kp) h p = one-good ke a m limit k kp.0 (settled_one (Lift floor) (a kp.0 kp.0)) p.0 p.1
-  by-good Fail (choice.Block q kp) h p = block-good ke (exchanged k q.0 ke a) m limit k Fail q.0 kp.0 p.0 p.1 p.2 p.3 p.4
-  by-good (Lift floor) (choice.Block q kp) h p = block-good ke (exchanged k q.0 ke a) m limit k (Lift floor) q.0 kp.0 p.0 p.1 p.2 p.3 p.4
+  by-good (Lift floor) choice.ZeroColumn h p =
+      one-good (Lift floor) ke a m limit k by.ZeroColumn k (settled_one (Lift floor) (a k k)) (omega arith) h refl (λ e. tt)
+  by-good Fail (choice.Single t kp) h p =
+      one-good Fail ke a m limit k t kp.0 (settled_one Fail (a kp.0 kp.0)) p.0 p.1 p.2 (λ e. p.3 e)
+  by-good (Lift floor) (choice.Single t kp) h p =
+      one-good (Lift floor) ke a m limit k t kp.0 (settled_one (Lift floor) (a kp.0 kp.0)) p.0 p.1 p.2 (λ e. tt)
+  by-good Fail (choice.Block t q kp) h p = block-good Fail ke (exchanged k q.0 ke a) m limit k t q.0 kp.0 p.0 p.1 p.2 p.3 p.4 p.5
+  by-good (Lift floor) (choice.Block t q kp) h p =
+      block-good (Lift floor) ke (exchanged k q.0 ke a) m limit k t q.0 kp.0 p.0 p.1 p.2 p.3 p.4 p.5
 
-pub try-good : (ke : ℕ) (a m : Mat) (how : Pivoting) (k : ℕ) → k < ke → Good ke how.limit k (try_of ke a m how k)
+pub try-good : (ke : ℕ) (a m : Mat) (how : Pivoting) (k : ℕ) → k < ke → Good how.mode ke how.limit k (try_of ke a m how k)
 unfolding try_of
 try-good ke a m how k h = by-good ke a m how.limit k how.mode (choose_of a k ke) h (choose-in a k ke h)

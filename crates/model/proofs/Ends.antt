@@ -26,6 +26,8 @@ use Rattle.model.specs.declared.Pivoting.{Pivoting}
 use Rattle.model.specs.declared.Block.{Block}
 use Rattle.model.specs.declared.Choice.{Choice}
 use Rattle.model.specs.declared.Choice.TheVariants as choice
+use Rattle.model.specs.declared.PivotTest.{PivotTest}
+use Rattle.model.specs.declared.PivotTest.TheVariants as by
 use Rattle.model.specs.declared.OneSettled.{OneSettled}
 use Rattle.model.specs.declared.TwoSettled.{TwoSettled}
 use Rattle.model.specs.declared.Unfit.{Unfit}
@@ -80,35 +82,35 @@ module _ (ncol : ℕ) where
   TriedEnds mode (took v a m) = Unit {0}
 
   module _ (ke : ℕ) (a m : Mat) (k : ℕ) (h : k < ncol) where
-    after_one_lem : (mode : Mode) (kp : ℕ) (s : Option OneSettled) → OneEnds mode s → TriedEnds mode (after_one ke a m k kp s)
+    after_one_lem : (mode : Mode) (t : PivotTest) (kp : ℕ) (s : Option OneSettled) → OneEnds mode s → TriedEnds mode (after_one ke a m t k kp s)
     unfolding among
-    after_one_lem Fail kp None w = record { listed = refl; column = h; alone = refl }
-    after_one_lem (Lift floor) kp None w = absurd w
-    after_one_lem mode kp (Some s) w = tt
+    after_one_lem Fail t kp None w = record { listed = refl; column = h; alone = refl }
+    after_one_lem (Lift floor) t kp None w = absurd w
+    after_one_lem mode t kp (Some s) w = tt
 
-    try_one : (mode : Mode) (kp : ℕ) (d : Float) → TriedEnds mode (after_one ke a m k kp (settled_one mode d))
-    try_one mode kp d = after_one_lem mode kp (settled_one mode d) (one-ends mode d)
+    try_one : (mode : Mode) (t : PivotTest) (kp : ℕ) (d : Float) → TriedEnds mode (after_one ke a m t k kp (settled_one mode d))
+    try_one mode t kp d = after_one_lem mode t kp (settled_one mode d) (one-ends mode d)
 
-    after_two_lem : (mode : Mode) (p kp : ℕ) (s : Result TwoSettled Unfit) → TwoEnds mode s → TriedEnds mode (after_two ke a m k p kp s)
+    after_two_lem : (mode : Mode) (t : PivotTest) (p kp : ℕ) (s : Result TwoSettled Unfit) → TwoEnds mode s → TriedEnds mode (after_two ke a m t k p kp s)
     unfolding among
-    after_two_lem Fail p kp (Err Low) w = record { listed = refl; column = h; alone = refl }
-    after_two_lem (Lift floor) p kp (Err Low) w = absurd w
-    after_two_lem Fail p kp (Err OutOfRounds) w = absurd w
-    after_two_lem (Lift floor) p kp (Err OutOfRounds) w = record { listed = refl; column = h; alone = refl }
-    after_two_lem mode p kp (Ok s) w = tt
+    after_two_lem Fail t p kp (Err Low) w = record { listed = refl; column = h; alone = refl }
+    after_two_lem (Lift floor) t p kp (Err Low) w = absurd w
+    after_two_lem Fail t p kp (Err OutOfRounds) w = absurd w
+    after_two_lem (Lift floor) t p kp (Err OutOfRounds) w = record { listed = refl; column = h; alone = refl }
+    after_two_lem mode t p kp (Ok s) w = tt
 
-    try-block : (mode : Mode) (limit p kp : ℕ) → TriedEnds mode (try_block ke a m mode limit k p kp)
-    try-block mode limit p kp = after_two_lem mode p kp (settled_two mode limit _) (two_ends mode limit _)
+    try-block : (mode : Mode) (limit : ℕ) (t : PivotTest) (p kp : ℕ) → TriedEnds mode (try_block ke a m mode limit t k p kp)
+    try-block mode limit t p kp = after_two_lem mode t p kp (settled_two mode limit _) (two_ends mode limit _)
 
   module _ (ke : ℕ) (a m : Mat) (k : ℕ) (h : k < ncol) where
     try-by : (mode : Mode) (limit : ℕ) (c : Choice) → TriedEnds mode (try_by ke a m mode limit k c)
     unfolding among
     try-by Fail limit choice.ZeroColumn = record { listed = refl; column = h; alone = refl }
-    try-by (Lift floor) limit choice.ZeroColumn = try_one ke a m k h (Lift floor) k (a k k)
-    try-by Fail limit (choice.Single kp) = try_one ke a m k h Fail kp.0 (a kp.0 kp.0)
-    try-by (Lift floor) limit (choice.Single kp) = try_one ke a m k h (Lift floor) kp.0 (a kp.0 kp.0)
-    try-by Fail limit (choice.Block p kp) = try-block ke (exchanged k p.0 ke a) m k h Fail limit p.0 kp.0
-    try-by (Lift floor) limit (choice.Block p kp) = try-block ke (exchanged k p.0 ke a) m k h (Lift floor) limit p.0 kp.0
+    try-by (Lift floor) limit choice.ZeroColumn = try_one ke a m k h (Lift floor) by.ZeroColumn k (a k k)
+    try-by Fail limit (choice.Single t kp) = try_one ke a m k h Fail t kp.0 (a kp.0 kp.0)
+    try-by (Lift floor) limit (choice.Single t kp) = try_one ke a m k h (Lift floor) t kp.0 (a kp.0 kp.0)
+    try-by Fail limit (choice.Block t p kp) = try-block ke (exchanged k p.0 ke a) m k h Fail limit t p.0 kp.0
+    try-by (Lift floor) limit (choice.Block t p kp) = try-block ke (exchanged k p.0 ke a) m k h (Lift floor) limit t p.0 kp.0
 
   try-ends : (ke : ℕ) (a m : Mat) (how : Pivoting) (k : ℕ) → k < ncol → TriedEnds how.mode (try_of ke a m how k)
   unfolding try_of

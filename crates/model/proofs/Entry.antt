@@ -40,6 +40,7 @@ pub record Lengths (c : Settings) (xs : List Float) (b : Buffers) : Type 0 where
   pub blocks : length b.blocks ≡ c.ncol
   pub lifts : length b.lifts ≡ c.ncol
   pub amounts : length b.amounts ≡ c.ncol
+  pub tests : length b.tests ≡ c.ncol
   pub order : length b.order ≡ c.nrow
   pub marks : length b.marks ≡ c.nrow - c.ncol
   pub work : length b.work ≡ work_length c.nrow c.nb
@@ -55,9 +56,10 @@ lengths c input b h =
       blocks = eqb-true (length b.blocks) c.ncol (search (and_left, and_right) depth 12);
       lifts = eqb-true (length b.lifts) c.ncol (search (and_left, and_right) depth 12);
       amounts = eqb-true (length b.amounts) c.ncol (search (and_left, and_right) depth 12);
-      order = eqb-true (length b.order) c.nrow (search (and_left, and_right) depth 12);
-      marks = eqb-true (length b.marks) (c.nrow - c.ncol) (search (and_left, and_right) depth 12);
-      work = eqb-true (length b.work) (work_length c.nrow c.nb) (search (and_left, and_right) depth 12);
+      tests = eqb-true (length b.tests) c.ncol (search (and_left, and_right) depth 13);
+      order = eqb-true (length b.order) c.nrow (search (and_left, and_right) depth 13);
+      marks = eqb-true (length b.marks) (c.nrow - c.ncol) (search (and_left, and_right) depth 13);
+      work = eqb-true (length b.work) (work_length c.nrow c.nb) (search (and_left, and_right) depth 13);
     }
 
 -- shape, width, lengths, mode and input are as they should be

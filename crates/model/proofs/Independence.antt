@@ -154,6 +154,7 @@ module _ (x y : Call) (px : PassedCall x) (py : PassedCall y) (cols : x.settings
     blocks = through (λ (o : Outcome). o.buffers.blocks) _ _ _ _ ex ey (bytes_same _ _ px.lengths.blocks py.lengths.blocks);
     lifts = through (λ (o : Outcome). o.buffers.lifts) _ _ _ _ ex ey (bytes_same _ _ px.lengths.lifts py.lengths.lifts);
     amounts = through (λ (o : Outcome). o.buffers.amounts) _ _ _ _ ex ey (zeros-same _ _ px.lengths.amounts py.lengths.amounts);
+    tests = through (λ (o : Outcome). o.buffers.tests) _ _ _ _ ex ey (bytes_same _ _ px.lengths.tests py.lengths.tests);
     order = λ k l. order-fails x px r ex k (omega (arith, px.head)) ∙ sym (order-fails y py r ey k (omega (arith, py.head)));
     lower = λ i j h l.
         panel-fails x px r ex i j (omega (arith, px.head)) (omega arith)
@@ -166,6 +167,7 @@ module _ (x y : Call) (px : PassedCall x) (py : PassedCall y) (cols : x.settings
     blocks = through (λ (o : Outcome). o.buffers.blocks) _ _ _ _ ex ey (ap (λ (n : ℕ). tabulate n s.pivots.diagonals.blocks) cols);
     lifts = through (λ (o : Outcome). o.buffers.lifts) _ _ _ _ ex ey (ap (λ (n : ℕ). tabulate n s.pivots.notes.lifts) cols);
     amounts = through (λ (o : Outcome). o.buffers.amounts) _ _ _ _ ex ey (ap (λ (n : ℕ). tabulate n s.pivots.notes.amounts) cols);
+    tests = through (λ (o : Outcome). o.buffers.tests) _ _ _ _ ex ey (ap (λ (n : ℕ). tabulate n s.pivots.notes.tests) cols);
     order = λ k l. order-stands x s ps ex k (omega (arith, px.head)) ∙ sym (order-stands y s ps ey k (omega (arith, py.head)));
     lower = λ i j h l.
         panel-stands x s ps ex i j (omega (arith, px.head)) (omega arith) ∙ entry-lower x.settings.ncol s ps (given x) i j h l

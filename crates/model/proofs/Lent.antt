@@ -1,4 +1,4 @@
--- What stays lent after one call stays lent after the next: for the record of pivots and for the nine buffers. Assumes nothing.
+-- What stays lent after one call stays lent after the next: for the record of pivots and for the ten buffers. Assumes nothing.
 use mathlib.Core.Path.{◌∙◌}
 use Rattle.std.specs.Prelude.{List}
 use Rattle.std.specs.Borrow.{MutBor}
@@ -17,5 +17,6 @@ record-then x y z f g =
       partners = stays-then x.partners y.partners z.partners f.partners g.partners;
       lifts = stays-then x.lifts y.lifts z.lifts f.lifts g.lifts;
       amounts = stays-then x.amounts y.amounts z.amounts f.amounts g.amounts;
+      tests = stays-then x.tests y.tests z.tests f.tests g.tests;
       order = stays-then x.order y.order z.order f.order g.order;
     }

@@ -24,6 +24,7 @@ pub mod Stations
 pub mod Independence
 pub mod Bounds
 pub mod Recorded
+pub mod Tests
 pub mod Past
 pub mod Forth
 pub mod Walked

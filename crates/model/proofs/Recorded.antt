@@ -9,6 +9,7 @@ use Rattle.model.specs.Matrix.{put}
 use Rattle.model.specs.Step.{Pivots, past_of, first_of, is_block}
 use Rattle.model.specs.Head.{State, Tried, refused_by, took, try_of, last_of, byte_of, noted, Progress, stopped, going, after, panel_of}
 use Rattle.model.specs.Kept.{Paired, Starts, Ahead, Recorded}
+use Rattle.model.specs.declared.Mode.{Mode}
 use Rattle.model.specs.declared.Pivoting.{Pivoting}
 use Rattle.model.specs.declared.Pivot.{Pivot}
 use Rattle.model.proofs.Cases.{test, cmp}
@@ -78,26 +79,28 @@ step-paired f k false w = record {
     own : (c : ℕ) → c ≡ k → step_bytes f k false c ≡ 1 → ⊥
     own c x e = omega (arith, ap (step_bytes f k false) x, bytes-at f k false)
 
--- ---- exchanges
+-- ---- what a step puts at a pivot's columns
 
--- a step's partners: p at its last column, then kp at k
-unfoldable pub step_partners : (ℕ → ℕ) → ℕ → Bool → ℕ → ℕ → ℕ → ℕ
-step_partners f k two p kp = put (put f (last_of k two) p) k kp
+-- y at its last column, then x at k: so partners, and test numbers
+unfoldable pub step_puts : (ℕ → ℕ) → ℕ → Bool → ℕ → ℕ → ℕ → ℕ
+step_puts f k two y x = put (put f (last_of k two) y) k x
 
 -- before k they are as they were
-pub partners-before : (f : ℕ → ℕ) (k : ℕ) (two : Bool) (p kp c : ℕ) → c < k → step_partners f k two p kp c ≡ f c
-unfolding step_partners put
-partners-before f k two p kp c h = rw (ne_eqb c k (λ e. omega arith), ne_eqb c (last_of k two) (λ e. omega (arith, last-from k two)))
+pub puts-before : (f : ℕ → ℕ) (k : ℕ) (two : Bool) (y x c : ℕ) → c < k → step_puts f k two y x c ≡ f c
+unfolding step_puts put
+puts-before f k two y x c h = rw (ne_eqb c k (λ e. omega arith), ne_eqb c (last_of k two) (λ e. omega (arith, last-from k two)))
 
--- at k is kp
-pub partners-at : (f : ℕ → ℕ) (k : ℕ) (two : Bool) (p kp : ℕ) → step_partners f k two p kp k ≡ kp
-unfolding step_partners put
-partners-at f k two p kp = rw (eq-eqb k k refl)
+-- at k is x
+pub puts-at : (f : ℕ → ℕ) (k : ℕ) (two : Bool) (y x : ℕ) → step_puts f k two y x k ≡ x
+unfolding step_puts put
+puts-at f k two y x = rw (eq-eqb k k refl)
 
--- at a block's second column is p
-pub partners-second : (f : ℕ → ℕ) (k p kp : ℕ) → step_partners f k true p kp (k + 1) ≡ p
-unfolding step_partners put last_of
-partners-second f k p kp = rw (ne_eqb (k + 1) k (λ e. omega arith), eq-eqb (k + 1) (k + 1) refl)
+-- at a block's second column is y
+pub puts-second : (f : ℕ → ℕ) (k y x : ℕ) → step_puts f k true y x (k + 1) ≡ y
+unfolding step_puts put last_of
+puts-second f k y x = rw (ne_eqb (k + 1) k (λ e. omega arith), eq-eqb (k + 1) (k + 1) refl)
+
+-- ---- exchanges
 
 -- records that agree at k agree on where the next pivot begins
 pub past-alike : (f g : ℕ → ℕ) (k : ℕ) → f k ≡ g k → past_of f k ≡ past_of g k
@@ -118,23 +121,23 @@ own-ahead f q k false p kp b e s hp hk = record { first = rw b (omega arith); la
 
 -- no exchange goes back after a step, if none did before it
 pub step-ahead : (f q : ℕ → ℕ) (k : ℕ) (two : Bool) (p kp : ℕ) → Recorded k f q → k ≤ p → last_of k two ≤ kp
-    → (c : ℕ) → c < last_of k two + 1 → Starts (step_bytes f k two) c → Ahead (step_bytes f k two) (step_partners q k two p kp) c
+    → (c : ℕ) → c < last_of k two + 1 → Starts (step_bytes f k two) c → Ahead (step_bytes f k two) (step_puts q k two p kp) c
 step-ahead f q k two p kp w hp hk c h s =
-    cmp c k before (λ e. subst (Ahead (step_bytes f k two) (step_partners q k two p kp)) (sym e) here) (λ g. absurd (after-it g))
+    cmp c k before (λ e. subst (Ahead (step_bytes f k two) (step_puts q k two p kp)) (sym e) here) (λ g. absurd (after-it g))
   where
-    here : Ahead (step_bytes f k two) (step_partners q k two p kp) k
-    here = own-ahead (step_bytes f k two) (step_partners q k two p kp) k two p kp (bytes-at f k two) (partners-at q k two p kp)
-        (λ z. rw z (partners-second q k p kp)) hp hk
+    here : Ahead (step_bytes f k two) (step_puts q k two p kp) k
+    here = own-ahead (step_bytes f k two) (step_puts q k two p kp) k two p kp (bytes-at f k two) (puts-at q k two p kp)
+        (λ z. rw z (puts-second q k p kp)) hp hk
 
-    before : c < k → Ahead (step_bytes f k two) (step_partners q k two p kp) c
+    before : c < k → Ahead (step_bytes f k two) (step_puts q k two p kp) c
     before l =
         let b : step_bytes f k two c ≡ f c = bytes-before f k two c l in
         let o = w.ahead c l (λ d e z. s d e (bytes-before f k two d (omega arith) ∙ z)) in
-        let x : first_of (step_bytes f k two) (step_partners q k two p kp) c ≡ first_of f q c = first_alike _ f _ q c b
-        (λ z. partners-before q k two p kp (c + 1) (w.paired.room c l z)) in
+        let x : first_of (step_bytes f k two) (step_puts q k two p kp) c ≡ first_of f q c = first_alike _ f _ q c b
+        (λ z. puts-before q k two p kp (c + 1) (w.paired.room c l z)) in
         record {
           first = omega (arith, o.first);
-          last = omega (arith, past-alike (step_bytes f k two) f c b, partners-before q k two p kp c l, o.last);
+          last = omega (arith, past-alike (step_bytes f k two) f c b, puts-before q k two p kp c l, o.last);
         }
 
     after-it : k < c → ⊥
@@ -147,10 +150,10 @@ step-ahead f q k two p kp w hp hk c h s =
 -- ---- a step
 
 -- the record after a step keeps to both
-pub noted-recorded : (ke limit k : ℕ) (p : Pivots) (v : Pivot) → GoodPivot ke limit k v → Recorded k p.diagonals.blocks p.partners
+pub noted-recorded : (mode : Mode) (ke limit k : ℕ) (p : Pivots) (v : Pivot) → GoodPivot mode ke limit k v → Recorded k p.diagonals.blocks p.partners
     → Recorded (last_of k (is_block v.diagonal) + 1) (noted p k (last_of k (is_block v.diagonal)) v).diagonals.blocks (noted p k (last_of k (is_block v.diagonal)) v).partners
-unfolding noted step_bytes step_partners
-noted-recorded ke limit k p v g w = record {
+unfolding noted step_bytes step_puts
+noted-recorded mode ke limit k p v g w = record {
   paired = step-paired p.diagonals.blocks k (is_block v.diagonal) w.paired;
   ahead = step-ahead p.diagonals.blocks p.partners k (is_block v.diagonal) v.p.0 v.kp.0 w g.ahead g.from;
 }
@@ -180,9 +183,9 @@ Reached P ke (stopped r) = Unit {0}
 Reached P ke (going k s) = (k ≡ ke) × P ke s.pivots
 
 module _ (ke : ℕ) (how : Pivoting) (P : ℕ → Pivots → Type 0)
-    (step : (k : ℕ) (p : Pivots) (v : Pivot) → GoodPivot ke how.limit k v → P k p → P (last_of k (is_block v.diagonal) + 1) (noted p k (last_of k (is_block v.diagonal)) v)) where
+    (step : (k : ℕ) (p : Pivots) (v : Pivot) → GoodPivot how.mode ke how.limit k v → P k p → P (last_of k (is_block v.diagonal) + 1) (noted p k (last_of k (is_block v.diagonal)) v)) where
   -- through what a step leads to: a refusal, or the next column
-  pub after-reached : (k : ℕ) (s : State) (f : ℕ → State → Progress) (t : Tried) → Good ke how.limit k t → P k s.pivots
+  pub after-reached : (k : ℕ) (s : State) (f : ℕ → State → Progress) (t : Tried) → Good how.mode ke how.limit k t → P k s.pivots
       → ((m : ℕ) (u : State) → k < m → m ≤ ke → P m u.pivots → Reached P ke (f m u)) → Reached P ke (after t s k f)
   after-reached k s f (refused_by r) g w next = tt
   after-reached k s f (took v a m) g w next =

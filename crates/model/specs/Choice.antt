@@ -9,6 +9,8 @@ use Rattle.model.specs.declared.LocalRow.{LocalRow}
 use Rattle.model.specs.declared.Greatest.{Greatest}
 use Rattle.model.specs.declared.Choice.{Choice}
 use Rattle.model.specs.declared.Choice.TheVariants.{ZeroColumn, Single, Block}
+use Rattle.model.specs.declared.PivotTest.{PivotTest}
+use Rattle.model.specs.declared.PivotTest.TheVariants as by
 
 -- the greatest square of f over the n places from lo on, beginning with `best`: the first on ties; a not-a-number never wins
 unfoldable pub greatest : Row → ℕ → ℕ → Greatest → Greatest
@@ -29,7 +31,18 @@ column_greatest a k ke = greatest (λ i. a i k) (k + 1) (ke - (k + 1)) (none_yet
 unfoldable pub row_greatest : Mat → ℕ → ℕ → ℕ → Greatest
 row_greatest a k ke r = greatest (λ i. a i r) (r + 1) (ke - (r + 1)) (greatest (a r) k (r - k) (none_yet k))
 
--- the five tests in their order; imax is the row of the column's greatest square, and the first row of a block is k's own
+-- ---- the tests
+
+-- the number that a caller is told of each
+abbrev pub test_number : PivotTest → ℕ
+test_number by.ZeroColumn = 0
+test_number by.OwnDiagonal = 1
+test_number by.RowTest = 2
+test_number by.ExchangedDiagonal = 3
+test_number by.Block = 4
+
+-- the five tests in their order, each naming itself in its choice; imax is the row of the column's greatest square, and the first row of a block is
+-- k's own
 unfoldable pub choose_of : Mat → ℕ → ℕ → Choice
 choose_of a k ke =
     let here : LocalRow = record { 0 = k } in
@@ -39,7 +52,8 @@ choose_of a k ke =
     let colmax = sqrt_of c.square in
     let bar = alpha ⊗ colmax in
     let rowmax = sqrt_of (row_greatest a k ke imax.0).square in
-    let exchanged_diagonal = cond (le (alpha ⊗ rowmax) (magnitude_of (a imax.0 imax.0))) (Single imax) (Block here imax) in
-    let row_test = cond (le (bar ⊗ (colmax ⊘ rowmax)) own) (Single here) exchanged_diagonal in
-    let own_diagonal = cond (le bar own) (Single here) row_test in
+    let block = Block by.Block here imax in
+    let exchanged_diagonal = cond (le (alpha ⊗ rowmax) (magnitude_of (a imax.0 imax.0))) (Single by.ExchangedDiagonal imax) block in
+    let row_test = cond (le (bar ⊗ (colmax ⊘ rowmax)) own) (Single by.RowTest here) exchanged_diagonal in
+    let own_diagonal = cond (le bar own) (Single by.OwnDiagonal here) row_test in
     cond (eq (maximum_of own colmax) zero_f) ZeroColumn own_diagonal

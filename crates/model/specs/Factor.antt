@@ -21,7 +21,7 @@ use Rattle.model.specs.declared.Refusal.TheVariants.{Shape, Width, Length, Floor
 use Rattle.model.specs.declared.Report.{Report}
 use Rattle.model.specs.declared.LentBuffers.{LentBuffers}
 
--- the nine buffers that a call writes
+-- the ten buffers that a call writes
 pub record Buffers : Type 0 where
   pub panel : List Float
   pub d : List Float
@@ -29,6 +29,7 @@ pub record Buffers : Type 0 where
   pub blocks : List ℕ
   pub lifts : List ℕ
   pub amounts : List Float
+  pub tests : List ℕ
   pub order : List ℕ
   pub marks : List ℕ
   pub work : List Float
@@ -42,12 +43,13 @@ lent_in b = record {
   blocks = b.blocks.now;
   lifts = b.lifts.now;
   amounts = b.amounts.now;
+  tests = b.tests.now;
   order = b.order.now;
   marks = b.marks.now;
   work = b.work.now;
 }
 
--- the same nine buffers
+-- the same ten buffers
 pub record SameLent (x y : LentBuffers) : Type 0 where
   pub panel : StaysLent x.panel y.panel
   pub d : StaysLent x.d y.d
@@ -55,6 +57,7 @@ pub record SameLent (x y : LentBuffers) : Type 0 where
   pub blocks : StaysLent x.blocks y.blocks
   pub lifts : StaysLent x.lifts y.lifts
   pub amounts : StaysLent x.amounts y.amounts
+  pub tests : StaysLent x.tests y.tests
   pub order : StaysLent x.order y.order
   pub marks : StaysLent x.marks y.marks
   pub work : StaysLent x.work y.work
@@ -78,6 +81,7 @@ lengths_of input b = record {
   blocks = length b.blocks;
   lifts = length b.lifts;
   amounts = length b.amounts;
+  tests = length b.tests;
   order = length b.order;
   marks = length b.marks;
   work = length b.work;
@@ -87,8 +91,8 @@ lengths_of input b = record {
 unfoldable pub lengths_sound : Settings → Lengths → Bool
 lengths_sound c n =
     eqb n.input (c.nrow * c.ncol) && (eqb n.panel (c.nrow * c.ncol) && (eqb n.d c.ncol && (eqb n.sub c.ncol
-    && (eqb n.blocks c.ncol && (eqb n.lifts c.ncol && (eqb n.amounts c.ncol && (eqb n.order c.nrow
-    && (eqb n.marks (c.nrow - c.ncol) && eqb n.work (work_length c.nrow c.nb)))))))))
+    && (eqb n.blocks c.ncol && (eqb n.lifts c.ncol && (eqb n.amounts c.ncol && (eqb n.tests c.ncol && (eqb n.order c.nrow
+    && (eqb n.marks (c.nrow - c.ncol) && eqb n.work (work_length c.nrow c.nb))))))))))
 
 -- refusals 4 and 5
 unfoldable pub mode_check : Mode → ℕ → Check
@@ -130,7 +134,7 @@ start ncol a =
       pivots = record {
         diagonals = record { d = none; sub = none; blocks = λ i. 0 };
         partners = λ i. 0;
-        notes = record { lifts = λ i. 0; amounts = none; order = λ i. i };
+        notes = record { lifts = λ i. 0; amounts = none; tests = λ i. 0; order = λ i. i };
       };
       rounds = 0;
     }
@@ -214,6 +218,7 @@ zeros b = record {
   blocks = replicate (length b.blocks) 0;
   lifts = replicate (length b.lifts) 0;
   amounts = replicate (length b.amounts) zero_f;
+  tests = replicate (length b.tests) 0;
   order = replicate (length b.order) 0;
   marks = replicate (length b.marks) 0;
   work = replicate (length b.work) zero_f;
@@ -227,6 +232,7 @@ written c a s ps b = record {
   blocks = tabulate c.ncol s.pivots.diagonals.blocks;
   lifts = tabulate c.ncol s.pivots.notes.lifts;
   amounts = tabulate c.ncol s.pivots.notes.amounts;
+  tests = tabulate c.ncol s.pivots.notes.tests;
   order = tabulate c.nrow s.pivots.notes.order;
   marks = tabulate (c.nrow - c.ncol) (λ i. mark_of c.ncol (factor_row_of c.ncol ps (a (c.ncol + i))));
   work = replicate (length b.work) zero_f;

@@ -4,7 +4,8 @@
 -- entry checks, with the same number of columns, panel width, mode, floor and lift limit, and the same bits in the lower triangle of the first
 -- ncol rows (the head). Their tail rows may differ in every number, and in how many there are. Then
 --   1. both calls end in the same one of the five run refusals (7, 8, 9, 23, 24) at the same place, or both accept with the same order of the
---      head, the same pivots, lifts, rounds and inertia, and the same numbers in the head's lower triangle (`SameHead`);
+--      head, the same pivots, each decided by the same test, the same lifts, rounds and inertia, and the same numbers in the head's lower
+--      triangle (`SameHead`);
 --   2. a tail row of the one and a tail row of the other that hold the same bits, wherever each stands, get the same factor row and the same
 --      mark (`SameTailRow`). The two calls may be one and the same call: then this speaks of two rows of it.
 -- `TailRowsSteerNothing` is that statement; proofs/Independence.antt proves it. Definitions only. Assumes nothing.
@@ -35,7 +36,7 @@ pub record Alike (x y : Call) : Type 0 where
   pub limit : x.settings.limit ≡ y.settings.limit
   pub head : (i j : ℕ) → j ≤ i → i < x.settings.ncol → view x.settings.nrow x.input i j ≡ view y.settings.nrow y.input i j
 
--- the same refusal and place, or the same rounds and counts; the same pivots and lifts, order of the head and lower head
+-- the same refusal and place, or the same rounds and counts; the same pivots, lifts and test numbers, order of the head and lower head
 pub record SameHead (x y : Call) : Type 0 where
   pub answer : (outcome_of x).answer ≡ (outcome_of y).answer
   pub d : (outcome_of x).buffers.d ≡ (outcome_of y).buffers.d
@@ -43,6 +44,7 @@ pub record SameHead (x y : Call) : Type 0 where
   pub blocks : (outcome_of x).buffers.blocks ≡ (outcome_of y).buffers.blocks
   pub lifts : (outcome_of x).buffers.lifts ≡ (outcome_of y).buffers.lifts
   pub amounts : (outcome_of x).buffers.amounts ≡ (outcome_of y).buffers.amounts
+  pub tests : (outcome_of x).buffers.tests ≡ (outcome_of y).buffers.tests
   pub order : (k : ℕ) → k < x.settings.ncol → naturals (outcome_of x).buffers.order k ≡ naturals (outcome_of y).buffers.order k
   pub lower : (i j : ℕ) → j ≤ i → i < x.settings.ncol
       → view x.settings.nrow (outcome_of x).buffers.panel i j ≡ view y.settings.nrow (outcome_of y).buffers.panel i j

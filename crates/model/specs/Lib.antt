@@ -17,6 +17,7 @@ pub mod Solve
 pub mod Lapack
 pub mod Independence
 pub mod Ends
+pub mod Tests
 pub mod Solution
 pub mod ForthAndBack
 pub mod Stations

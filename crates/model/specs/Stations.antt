@@ -25,11 +25,11 @@ bits xs = map (to_bits binary64) xs
 abbrev count_line : Tally → List ℕ
 count_line t = t.positive ∷ t.negative ∷ t.zero ∷ []
 
--- refused: number and place. Accepted: rounds, counts, order, d, subdiagonal, block bytes, lift bytes, amounts, panel, marks
+-- refused: number and place. Accepted: rounds, counts, order, d, subdiagonal, block bytes, lift bytes, amounts, test numbers, panel, marks
 unfoldable pub factor_lines : Said Report → Buffers → Lines
 factor_lines (refused n a b) x = (n ∷ a ∷ b ∷ []) ∷ []
 factor_lines (accepted r) x =
-    (r.rounds ∷ []) ∷ count_line r.inertia ∷ x.order ∷ bits x.d ∷ bits x.sub ∷ x.blocks ∷ x.lifts ∷ bits x.amounts ∷ bits x.panel ∷ x.marks ∷ []
+    (r.rounds ∷ []) ∷ count_line r.inertia ∷ x.order ∷ bits x.d ∷ bits x.sub ∷ x.blocks ∷ x.lifts ∷ bits x.amounts ∷ x.tests ∷ bits x.panel ∷ x.marks ∷ []
 
 abbrev inertia_lines : Said Tally → Lines
 inertia_lines (refused n a b) = (n ∷ a ∷ b ∷ []) ∷ []
@@ -65,6 +65,7 @@ lent c = record {
   blocks = replicate c.ncol 9;
   lifts = replicate c.ncol 9;
   amounts = replicate c.ncol nan;
+  tests = replicate c.ncol 9;
   order = replicate c.nrow 9;
   marks = replicate (c.nrow - c.ncol) 9;
   work = replicate (work_length c.nrow c.nb) nan;
@@ -137,6 +138,9 @@ nine = 0x4022_0000_0000_0000
 abbrev eighteen : ℕ
 eighteen = 0x4032_0000_0000_0000
 
+abbrev quarter : ℕ
+quarter = 0x3FD0_0000_0000_0000
+
 abbrev minus_quarter : ℕ
 minus_quarter = 0xBFD0_0000_0000_0000
 
@@ -161,6 +165,10 @@ large = 0x5F13_8D35_2E50_96AF
 
 abbrev huge : ℕ
 huge = 0x6974_E718_D7D7_625A
+
+-- 1e-200, whose square vanishes
+abbrev faint : ℕ
+faint = 0x1668_7E92_154E_F7AC
 
 abbrev infinite : ℕ
 infinite = 0x7FF0_0000_0000_0000
@@ -211,34 +219,43 @@ zeros = replicate 3 0
 abbrev pub stations : List Station
 stations =
     -- ncol 0, nrow 3, nb 1: order 0 1 2, counts 0 0 0
-    (factor_gives (fail 0 3 1) [] ⇒ (0 ∷ []) ∷ (0 ∷ 0 ∷ 0 ∷ []) ∷ (0 ∷ 1 ∷ 2 ∷ []) ∷ [] ∷ [] ∷ [] ∷ [] ∷ [] ∷ [] ∷ (0 ∷ 0 ∷ 0 ∷ []) ∷ []) ∷
+    (factor_gives (fail 0 3 1) [] ⇒ (0 ∷ []) ∷ (0 ∷ 0 ∷ 0 ∷ []) ∷ (0 ∷ 1 ∷ 2 ∷ []) ∷ [] ∷ [] ∷ [] ∷ [] ∷ [] ∷ [] ∷ [] ∷ (0 ∷ 0 ∷ 0 ∷ []) ∷ []) ∷
     -- [4], tail 6: d 4, L 1.5, mark 0
     (factor_gives (fail 1 2 1) (four ∷ six ∷ [])
-    ⇒ (0 ∷ []) ∷ (1 ∷ 0 ∷ 0 ∷ []) ∷ (0 ∷ 1 ∷ []) ∷ (four ∷ []) ∷ (0 ∷ []) ∷ (0 ∷ []) ∷ (0 ∷ []) ∷ (0 ∷ []) ∷ (four ∷ one_half ∷ []) ∷ (0 ∷ []) ∷ []) ∷
+    ⇒ (0 ∷ []) ∷ (1 ∷ 0 ∷ 0 ∷ []) ∷ (0 ∷ 1 ∷ []) ∷ (four ∷ []) ∷ (0 ∷ []) ∷ (0 ∷ []) ∷ (0 ∷ []) ∷ (0 ∷ []) ∷ (1 ∷ []) ∷ (four ∷ one_half ∷ []) ∷ (0 ∷ []) ∷ []) ∷
     -- [0]: 7 at 0
     (factor_gives (fail 1 1 1) (0 ∷ []) ⇒ (7 ∷ 0 ∷ 0 ∷ []) ∷ []) ∷
-    -- [0], Lift 0.5: d 0.5, amount 0.5
+    -- [0], Lift 0.5: d 0.5, amount 0.5, test number 0
     (factor_gives (lift 1 1 half 1) (0 ∷ [])
-    ⇒ (0 ∷ []) ∷ (1 ∷ 0 ∷ 0 ∷ []) ∷ (0 ∷ []) ∷ (half ∷ []) ∷ (0 ∷ []) ∷ (0 ∷ []) ∷ (1 ∷ []) ∷ (half ∷ []) ∷ (half ∷ []) ∷ [] ∷ []) ∷
-    -- [−0.25], Lift 0.5: −0.5, amount −0.25
+    ⇒ (0 ∷ []) ∷ (1 ∷ 0 ∷ 0 ∷ []) ∷ (0 ∷ []) ∷ (half ∷ []) ∷ (0 ∷ []) ∷ (0 ∷ []) ∷ (1 ∷ []) ∷ (half ∷ []) ∷ (0 ∷ []) ∷ (half ∷ []) ∷ [] ∷ []) ∷
+    -- [−0.25], Lift 0.5: −0.5, amount −0.25, test number 1
     (factor_gives (lift 1 1 half 1) (minus_quarter ∷ [])
-    ⇒ (0 ∷ []) ∷ (0 ∷ 1 ∷ 0 ∷ []) ∷ (0 ∷ []) ∷ (minus_half ∷ []) ∷ (0 ∷ []) ∷ (0 ∷ []) ∷ (1 ∷ []) ∷ (minus_quarter ∷ []) ∷ (minus_half ∷ []) ∷ [] ∷ []) ∷
+    ⇒ (0 ∷ []) ∷ (0 ∷ 1 ∷ 0 ∷ []) ∷ (0 ∷ []) ∷ (minus_half ∷ []) ∷ (0 ∷ []) ∷ (0 ∷ []) ∷ (1 ∷ []) ∷ (minus_quarter ∷ []) ∷ (1 ∷ []) ∷ (minus_half ∷ []) ∷ [] ∷ []) ∷
     -- [−0.5], Lift 0.5: unlifted
     (factor_gives (lift 1 1 half 1) (minus_half ∷ [])
-    ⇒ (0 ∷ []) ∷ (0 ∷ 1 ∷ 0 ∷ []) ∷ (0 ∷ []) ∷ (minus_half ∷ []) ∷ (0 ∷ []) ∷ (0 ∷ []) ∷ (0 ∷ []) ∷ (0 ∷ []) ∷ (minus_half ∷ []) ∷ [] ∷ []) ∷
-    -- [0,1; 0]: one block, counts 1 1 0
+    ⇒ (0 ∷ []) ∷ (0 ∷ 1 ∷ 0 ∷ []) ∷ (0 ∷ []) ∷ (minus_half ∷ []) ∷ (0 ∷ []) ∷ (0 ∷ []) ∷ (0 ∷ []) ∷ (0 ∷ []) ∷ (1 ∷ []) ∷ (minus_half ∷ []) ∷ [] ∷ []) ∷
+    -- [0,1; 0]: one block, counts 1 1 0, test numbers 4 4
     (factor_gives (fail 2 2 2) zero_diagonal
-    ⇒ (0 ∷ []) ∷ (1 ∷ 1 ∷ 0 ∷ []) ∷ (0 ∷ 1 ∷ []) ∷ (0 ∷ 0 ∷ []) ∷ (one ∷ 0 ∷ []) ∷ (1 ∷ 0 ∷ []) ∷ (0 ∷ 0 ∷ []) ∷ (0 ∷ 0 ∷ []) ∷ zero_diagonal ∷ [] ∷ []) ∷
+    ⇒ (0 ∷ []) ∷ (1 ∷ 1 ∷ 0 ∷ []) ∷ (0 ∷ 1 ∷ []) ∷ (0 ∷ 0 ∷ []) ∷ (one ∷ 0 ∷ []) ∷ (1 ∷ 0 ∷ []) ∷ (0 ∷ 0 ∷ []) ∷ (0 ∷ 0 ∷ []) ∷ (4 ∷ 4 ∷ []) ∷ zero_diagonal ∷ [] ∷ []) ∷
+    -- [1,2; 8]: order 1 0, test numbers 3 1
+    (factor_gives (fail 2 2 2) exchanging
+    ⇒ (0 ∷ []) ∷ (2 ∷ 0 ∷ 0 ∷ []) ∷ (1 ∷ 0 ∷ []) ∷ (eight ∷ half ∷ []) ∷ (0 ∷ 0 ∷ []) ∷ (0 ∷ 0 ∷ []) ∷ (0 ∷ 0 ∷ []) ∷ (0 ∷ 0 ∷ []) ∷ (3 ∷ 1 ∷ []) ∷ (eight ∷ quarter ∷ 0 ∷ half ∷ []) ∷ [] ∷ []) ∷
+    -- [0.5,1,0; 0,8; 0]: test numbers 2 4 4
+    (factor_gives (fail 3 3 3) (half ∷ one ∷ 0 ∷ 0 ∷ 0 ∷ eight ∷ 0 ∷ 0 ∷ 0 ∷ [])
+    ⇒ (0 ∷ []) ∷ (2 ∷ 1 ∷ 0 ∷ []) ∷ (0 ∷ 1 ∷ 2 ∷ []) ∷ (half ∷ minus_two ∷ 0 ∷ []) ∷ (0 ∷ eight ∷ 0 ∷ []) ∷ (0 ∷ 1 ∷ 0 ∷ []) ∷ zeros ∷ zeros ∷ (2 ∷ 4 ∷ 4 ∷ []) ∷ (half ∷ two ∷ 0 ∷ 0 ∷ minus_two ∷ eight ∷ 0 ∷ 0 ∷ 0 ∷ []) ∷ [] ∷ []) ∷
+    -- [1e-200,1e-200; 1]: test numbers 1 1, a diagonal over a square that vanishes
+    (factor_gives (fail 2 2 2) (faint ∷ faint ∷ 0 ∷ one ∷ [])
+    ⇒ (0 ∷ []) ∷ (2 ∷ 0 ∷ 0 ∷ []) ∷ (0 ∷ 1 ∷ []) ∷ (faint ∷ one ∷ []) ∷ (0 ∷ 0 ∷ []) ∷ (0 ∷ 0 ∷ []) ∷ (0 ∷ 0 ∷ []) ∷ (0 ∷ 0 ∷ []) ∷ (1 ∷ 1 ∷ []) ∷ (faint ∷ one ∷ 0 ∷ one ∷ []) ∷ [] ∷ []) ∷
     -- [0,1; 0], nb 1: 7 at 0
     (factor_gives (fail 2 2 1) zero_diagonal ⇒ (7 ∷ 0 ∷ 0 ∷ []) ∷ []) ∷
-    -- [0,1; 0], nb 1, Lift 0.5: d 0.5, −2, L 2
+    -- [0,1; 0], nb 1, Lift 0.5: d 0.5, −2, L 2, test numbers 0 1, since the search stays in the panel
     (factor_gives (lift 2 1 half 1) zero_diagonal
-    ⇒ (0 ∷ []) ∷ (1 ∷ 1 ∷ 0 ∷ []) ∷ (0 ∷ 1 ∷ []) ∷ (half ∷ minus_two ∷ []) ∷ (0 ∷ 0 ∷ []) ∷ (0 ∷ 0 ∷ []) ∷ (1 ∷ 0 ∷ []) ∷ (half ∷ 0 ∷ []) ∷ (half ∷ two ∷ 0 ∷ minus_two ∷ []) ∷ [] ∷ []) ∷
+    ⇒ (0 ∷ []) ∷ (1 ∷ 1 ∷ 0 ∷ []) ∷ (0 ∷ 1 ∷ []) ∷ (half ∷ minus_two ∷ []) ∷ (0 ∷ 0 ∷ []) ∷ (0 ∷ 0 ∷ []) ∷ (1 ∷ 0 ∷ []) ∷ (half ∷ 0 ∷ []) ∷ (0 ∷ 1 ∷ []) ∷ (half ∷ two ∷ 0 ∷ minus_two ∷ []) ∷ [] ∷ []) ∷
     -- [0,1; 0], Lift 2, limit 1: 8 at 0
     (factor_gives (lift 2 2 two 1) zero_diagonal ⇒ (8 ∷ 0 ∷ 0 ∷ []) ∷ []) ∷
     -- limit 2: d 4, 4, rounds 2, counts 2 0 0
     (factor_gives (lift 2 2 two 2) zero_diagonal
-    ⇒ (2 ∷ []) ∷ (2 ∷ 0 ∷ 0 ∷ []) ∷ (0 ∷ 1 ∷ []) ∷ (four ∷ four ∷ []) ∷ (one ∷ 0 ∷ []) ∷ (1 ∷ 0 ∷ []) ∷ (1 ∷ 1 ∷ []) ∷ (four ∷ four ∷ []) ∷ zero_diagonal ∷ [] ∷ []) ∷
+    ⇒ (2 ∷ []) ∷ (2 ∷ 0 ∷ 0 ∷ []) ∷ (0 ∷ 1 ∷ []) ∷ (four ∷ four ∷ []) ∷ (one ∷ 0 ∷ []) ∷ (1 ∷ 0 ∷ []) ∷ (1 ∷ 1 ∷ []) ∷ (four ∷ four ∷ []) ∷ (4 ∷ 4 ∷ []) ∷ zero_diagonal ∷ [] ∷ []) ∷
     -- [0,1e-160,0; 0,1e150; 0]: 23 at 0
     (factor_gives (fail 3 3 3) (0 ∷ small ∷ 0 ∷ 0 ∷ 0 ∷ large ∷ 0 ∷ 0 ∷ 0 ∷ []) ⇒ (23 ∷ 0 ∷ 0 ∷ []) ∷ []) ∷
     -- [0,1e200; 0]: 24 at 0

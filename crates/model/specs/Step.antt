@@ -97,14 +97,15 @@ diagonals_of d sub blocks = record { d = vec d; sub = vec sub; blocks = naturals
 abbrev pub diagonals_in : DiagonalLists → Diagonals
 diagonals_in x = diagonals_of x.d.now x.sub.now x.blocks.now
 
--- what a caller is told beside D and no step reads: a byte that is 1 where a lift was, lift amounts, the order
+-- what a caller is told beside D and no step reads: a byte that is 1 where a lift was, lift amounts, test numbers, the order
 pub record Notes : Type 0 where
   pub lifts : ℕ → ℕ
   pub amounts : Row
+  pub tests : ℕ → ℕ
   pub order : ℕ → ℕ
 
-abbrev pub notes_of : List ℕ → List Float → List ℕ → Notes
-notes_of lifts amounts order = record { lifts = naturals lifts; amounts = vec amounts; order = places order }
+abbrev pub notes_of : (lifts : List ℕ) (amounts : List Float) (tests order : List ℕ) → Notes
+notes_of lifts amounts tests order = record { lifts = naturals lifts; amounts = vec amounts; tests = naturals tests; order = places order }
 
 -- D; the rows exchanged, at a pivot's first column the one with its last column, at a block's second column the one that was exchanged with its first
 -- column before; the notes
@@ -113,12 +114,12 @@ pub record Pivots : Type 0 where
   pub partners : ℕ → ℕ
   pub notes : Notes
 
-abbrev pub pivots_of : (d sub : List Float) (blocks partners lifts : List ℕ) (amounts : List Float) (order : List ℕ) → Pivots
-pivots_of d sub blocks partners lifts amounts order =
-    record { diagonals = diagonals_of d sub blocks; partners = naturals partners; notes = notes_of lifts amounts order }
+abbrev pub pivots_of : (d sub : List Float) (blocks partners lifts : List ℕ) (amounts : List Float) (tests order : List ℕ) → Pivots
+pivots_of d sub blocks partners lifts amounts tests order =
+    record { diagonals = diagonals_of d sub blocks; partners = naturals partners; notes = notes_of lifts amounts tests order }
 
 abbrev pub recorded_in : PivotRecord → Pivots
-recorded_in r = pivots_of r.d.now r.sub.now r.blocks.now r.partners.now r.lifts.now r.amounts.now r.order.now
+recorded_in r = pivots_of r.d.now r.sub.now r.blocks.now r.partners.now r.lifts.now r.amounts.now r.tests.now r.order.now
 
 -- a buffer that stays lent: the reference is the same one and its length is as it was, whatever was written
 pub record StaysLent {A : Type 0} (x y : MutBor (List A)) : Type 0 where
@@ -133,6 +134,7 @@ pub record SameRecord (x y : PivotRecord) : Type 0 where
   pub partners : StaysLent x.partners y.partners
   pub lifts : StaysLent x.lifts y.lifts
   pub amounts : StaysLent x.amounts y.amounts
+  pub tests : StaysLent x.tests y.tests
   pub order : StaysLent x.order y.order
 
 -- a block begins at k

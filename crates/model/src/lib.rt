@@ -50,7 +50,7 @@ pub struct Pivoting {
     pub limit: usize,
 }
 
-// The lengths of a factor call's input and of the nine buffers that it writes.
+// The lengths of a factor call's input and of the ten buffers that it writes.
 #[derive(Clone, Copy)]
 pub struct Lengths {
     pub input: usize,
@@ -60,6 +60,7 @@ pub struct Lengths {
     pub blocks: usize,
     pub lifts: usize,
     pub amounts: usize,
+    pub tests: usize,
     pub order: usize,
     pub marks: usize,
     pub work: usize,
@@ -99,14 +100,25 @@ pub struct Greatest {
     pub at: LocalRow,
 }
 
+// The pivot tests, in their order: which of them decided on a pivot. `test_number` of specs/Choice.antt gives the number
+// that a caller is told.
+#[derive(Clone, Copy)]
+pub enum PivotTest {
+    ZeroColumn,
+    OwnDiagonal,
+    RowTest,
+    ExchangedDiagonal,
+    Block,
+}
+
 // What the pivot tests choose at k: nothing, since the column test finds zero; a 1x1 with the row that is exchanged
 // with k; a block with the row that is exchanged with k, which is k's own as the tests stand, and the row that is then
-// exchanged with k + 1.
+// exchanged with k + 1. With a pivot goes the test that decided on it.
 #[derive(Clone, Copy)]
 pub enum Choice {
     ZeroColumn,
-    Single(LocalRow),
-    Block(LocalRow, LocalRow),
+    Single(PivotTest, LocalRow),
+    Block(PivotTest, LocalRow, LocalRow),
 }
 
 // The chosen 1x1 as it is taken: its number, and where it was lifted by how much.
@@ -131,10 +143,12 @@ pub enum Unfit {
     OutOfRounds,
 }
 
-// What a step took: the row exchanged with its first column before anything else (its own but for a rook block), the
-// row exchanged with its last column, its numbers, where it was lifted by how much, the rounds that its lift used.
+// What a step took: the test that decided on it, the row exchanged with its first column before anything else (its own
+// but for a rook block), the row exchanged with its last column, its numbers, where it was lifted by how much, the
+// rounds that its lift used.
 #[derive(Clone, Copy)]
 pub struct Pivot {
+    pub test: PivotTest,
     pub p: LocalRow,
     pub kp: LocalRow,
     pub diagonal: Diagonal,
@@ -150,7 +164,8 @@ pub struct DiagonalLists<'a> {
     pub blocks: &'a [u8],
 }
 
-// The record of pivots as a call's lists hold it: D; the rows exchanged; the lift bytes, the lift amounts, the order.
+// The record of pivots as a call's lists hold it: D; the rows exchanged; the lift bytes, the lift amounts, the test
+// numbers, the order.
 // (A function that is lent such a struct promises besides that its buffers stay the same ones; to lend them on it
 // takes each into a local first.)
 #[derive(Drop)]
@@ -161,10 +176,11 @@ pub struct PivotRecord<'a> {
     pub partners: &'a mut [u16],
     pub lifts: &'a mut [u8],
     pub amounts: &'a mut [f64],
+    pub tests: &'a mut [u8],
     pub order: &'a mut [usize],
 }
 
-// The nine buffers that a factor call writes.
+// The ten buffers that a factor call writes.
 #[derive(Drop)]
 pub struct LentBuffers<'a> {
     pub panel: &'a mut [f64],
@@ -173,6 +189,7 @@ pub struct LentBuffers<'a> {
     pub blocks: &'a mut [u8],
     pub lifts: &'a mut [u8],
     pub amounts: &'a mut [f64],
+    pub tests: &'a mut [u8],
     pub order: &'a mut [usize],
     pub marks: &'a mut [u8],
     pub work: &'a mut [f64],
