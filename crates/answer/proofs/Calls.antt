@@ -31,6 +31,7 @@ told x = record {
   blocks = x.blocks;
   lifts = x.lifts;
   amounts = x.amounts;
+  tests = x.tests;
   order = x.order;
   marks = x.marks;
   work = [];

@@ -21,9 +21,9 @@ take-replicate (suc n) (suc m) v h = rw (take-replicate n m v (omega arith))
 pub part-clear : {A : Type 0} (n e m : ℕ) (v : A) → e ≡ n → e ≤ m → mid_of 0 e (replicate m v) ≡ replicate n v
 part-clear n e m v q h = rw q (take-replicate n m v (omega arith))
 
-pub cleared-is : {xs : List ℕ} (c : Settings) (input : List Float) {panel d sub amounts work : List Float} {blocks lifts order marks : List ℕ}
+pub cleared-is : {xs : List ℕ} (c : Settings) (input : List Float) {panel d sub amounts work : List Float} {blocks lifts tests order marks : List ℕ}
     → panel ≡ replicate (c.nrow * c.ncol) zero_f → d ≡ replicate c.ncol zero_f → sub ≡ replicate c.ncol zero_f → blocks ≡ replicate c.ncol 0
-    → lifts ≡ replicate c.ncol 0 → amounts ≡ replicate c.ncol zero_f → order ≡ replicate c.nrow 0 → marks ≡ replicate (c.nrow - c.ncol) 0
+    → lifts ≡ replicate c.ncol 0 → amounts ≡ replicate c.ncol zero_f → tests ≡ replicate c.ncol 0 → order ≡ replicate c.nrow 0 → marks ≡ replicate (c.nrow - c.ncol) 0
     → work ≡ replicate (work_length c.nrow c.nb) zero_f
     → xs ≡ outcome_lines c (factor_of c input (record {
       panel = panel;
@@ -32,10 +32,11 @@ pub cleared-is : {xs : List ℕ} (c : Settings) (input : List Float) {panel d su
       blocks = blocks;
       lifts = lifts;
       amounts = amounts;
+      tests = tests;
       order = order;
       marks = marks;
       work = work;
     }))
     → xs ≡ outcome_lines c (factor_of c input (cleared c))
 unfolding cleared
-cleared-is c input ep ed es eb el ea eo em ew w = rw (ep, ed, es, eb, el, ea, eo, em, ew) at w
+cleared-is c input ep ed es eb el ea et eo em ew w = rw (ep, ed, es, eb, el, ea, et, eo, em, ew) at w

@@ -16,6 +16,7 @@ cleared c = record {
   blocks = replicate c.ncol 0;
   lifts = replicate c.ncol 0;
   amounts = replicate c.ncol zero_f;
+  tests = replicate c.ncol 0;
   order = replicate c.nrow 0;
   marks = replicate (c.nrow - c.ncol) 0;
   work = replicate (work_length c.nrow c.nb) zero_f;

@@ -33,7 +33,7 @@ pub const ROOM: usize = 32768;
 fn run(c: Settings, input: &[f64], b: &mut LentBuffers) -> Text<ROOM>
     requires { LinesPre c (length b.old.panel.now) (length b.old.d.now) (length b.old.sub.now)
         (length b.old.blocks.now) (length b.old.lifts.now) (length b.old.amounts.now)
-        (length b.old.order.now) (length b.old.marks.now) }
+        (length b.old.tests.now) (length b.old.order.now) (length b.old.marks.now) }
     ensures { result ≡ outcome_lines c (factor_of c input.now (lent_in b.old)) }
 {
     let answer = factor::factor(c, input, b);
@@ -43,6 +43,7 @@ fn run(c: Settings, input: &[f64], b: &mut LentBuffers) -> Text<ROOM>
     let blocks = &mut *b.blocks;
     let lifts = &mut *b.lifts;
     let amounts = &mut *b.amounts;
+    let tests = &mut *b.tests;
     let order = &mut *b.order;
     let marks = &mut *b.marks;
     let left = Left {
@@ -53,6 +54,7 @@ fn run(c: Settings, input: &[f64], b: &mut LentBuffers) -> Text<ROOM>
         blocks,
         lifts,
         amounts,
+        tests,
         order,
         marks,
     };
@@ -89,6 +91,7 @@ fn with_buffers(c: Settings, input: &[f64]) -> Text<ROOM>
     let mut blocks = [0; COLUMNS];
     let mut lifts = [0; COLUMNS];
     let mut amounts = [0.0; COLUMNS];
+    let mut tests = [0; COLUMNS];
     let mut order = [0; ROWS];
     let mut marks = [0; ROWS];
     let mut work = [0.0; WORK];
@@ -104,6 +107,7 @@ fn with_buffers(c: Settings, input: &[f64]) -> Text<ROOM>
         blocks: &mut blocks[..ncol],
         lifts: &mut lifts[..ncol],
         amounts: &mut amounts[..ncol],
+        tests: &mut tests[..ncol],
         order: &mut order[..nrow],
         marks: &mut marks[..tail],
         work: &mut work[..size],

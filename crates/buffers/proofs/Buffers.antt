@@ -39,15 +39,16 @@ pub begun-start : (given : List Float) (b l : Buffers) (partners : List ℕ) (nr
     → ◌≡◌ {A = State} (record {
       a = view nrow l.panel;
       mult = blank;
-      pivots = pivots_of l.d l.sub l.blocks partners l.lifts l.amounts l.order;
+      pivots = pivots_of l.d l.sub l.blocks partners l.lifts l.amounts l.tests l.order;
       rounds = 0;
     }) (start ncol (view nrow given))
 unfolding start
 begun-start given b l partners nrow ncol e d s a p =
     let eb : naturals (replicate (length b.blocks) 0) ≡ (λ i. 0) = naturals-zeros (length b.blocks) in
     let el : naturals (replicate (length b.lifts) 0) ≡ (λ i. 0) = naturals-zeros (length b.lifts) in
+    let et : naturals (replicate (length b.tests) 0) ≡ (λ i. 0) = naturals-zeros (length b.tests) in
     let eo : places (in_order (length b.order)) ≡ (λ i. i) = places-in_order (length b.order) in
-    rw (e, d, s, a, eb, el, eo, p)
+    rw (e, d, s, a, eb, el, et, eo, p)
 
 -- ---- zeros
 
@@ -61,6 +62,7 @@ zeros-same x y h =
       h.blocks.count,
       h.lifts.count,
       h.amounts.count,
+      h.tests.count,
       h.order.count,
       h.marks.count,
       h.work.count,

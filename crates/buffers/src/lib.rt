@@ -31,11 +31,12 @@ pub fn begin(input: &[f64], b: &mut LentBuffers)
     b.blocks.fill(0);
     b.lifts.fill(0);
     b.amounts.fill(0.0);
+    b.tests.fill(0);
     in_order(b.order);
 }
 
 // What a run refusal (7, 8, 9, 23 or 24) leaves: every output and the working buffer hold zeros.
-// out: all nine
+// out: all ten
 // (Inlined: as a call it would have every factor call, refused or not, store the buffers' addresses on the stack.)
 #[inline(always)]
 pub fn zero_all(b: &mut LentBuffers)
@@ -48,6 +49,7 @@ pub fn zero_all(b: &mut LentBuffers)
     b.blocks.fill(0);
     b.lifts.fill(0);
     b.amounts.fill(0.0);
+    b.tests.fill(0);
     b.order.fill(0);
     b.marks.fill(0);
     b.work.fill(0.0);

@@ -35,4 +35,5 @@ pub record NotesPre (ke : ℕ) (r : PivotRecord) : Type 0 where
   pub partners : ke ≤ length r.partners.now
   pub lifts : ke ≤ length r.lifts.now
   pub amounts : ke ≤ length r.amounts.now
+  pub tests : ke ≤ length r.tests.now
   pub order : ke ≤ length r.order.now

@@ -91,9 +91,9 @@ pub extern "C" fn misuktaan_sqrt(x: f64) -> f64
 // ---- the calls
 
 // One node factored. Lift with this floor where `lift`, else Fail. The definition decides all of it: the answer, and
-// what each of the nine buffers holds afterwards.
-// in: settings; input, nrow * ncol. out: panel, nrow * ncol; d, sub, blocks, lifted, amounts, ncol each; order, nrow;
-// marks, nrow - ncol. work: 3 * nrow * (nb + 1) + nb * nb, any on entry, +0.0 after acceptance.
+// what each of the ten buffers holds afterwards.
+// in: settings; input, nrow * ncol. out: panel, nrow * ncol; d, sub, blocks, lifted, amounts, tests, ncol each; order,
+// nrow; marks, nrow - ncol. work: 3 * nrow * (nb + 1) + nb * nb, any on entry, +0.0 after acceptance.
 // (Lists as parameters of their own, in this call and the ones after it: the C interface fixes them.)
 #[unsafe(no_mangle)]
 pub extern "C" fn misuktaan_factor(
@@ -110,6 +110,7 @@ pub extern "C" fn misuktaan_factor(
     blocks: &mut [u8],
     lifted: &mut [u8],
     amounts: &mut [f64],
+    tests: &mut [u8],
     order: &mut [usize],
     marks: &mut [u8],
     work: &mut [f64],
@@ -123,6 +124,7 @@ pub extern "C" fn misuktaan_factor(
         blocks = blocks.new;
         lifts = lifted.new;
         amounts = amounts.new;
+        tests = tests.new;
         order = order.new;
         marks = marks.new;
         work = work.new;
@@ -135,6 +137,7 @@ pub extern "C" fn misuktaan_factor(
           blocks = blocks.old;
           lifts = lifted.old;
           amounts = amounts.old;
+          tests = tests.old;
           order = order.old;
           marks = marks.old;
           work = work.old;
@@ -155,6 +158,7 @@ pub extern "C" fn misuktaan_factor(
         blocks,
         lifts: lifted,
         amounts,
+        tests,
         order,
         marks,
         work,

@@ -1,5 +1,5 @@
 // The factor call's entry checks, refusals 1 to 6 in their order. They read the settings, the lengths
-// of the ten buffers and the input, and write nothing. A length is worked out only once the shape and the width are
+// of the eleven buffers and the input, and write nothing. A length is worked out only once the shape and the width are
 // sound, so that no product overflows. Tests are joined by `&`, not `&&`: they are plain comparisons, and without a
 // branch the whole test is the definition's own.
 #![tactic(auto)]
@@ -21,7 +21,7 @@ fn lengths_sound(c: Settings, n: Lengths) -> bool
     let tail = c.nrow - c.ncol;
     let work = 3 * c.nrow * (c.nb + 1) + c.nb * c.nb;
     let rows = (n.order == c.nrow) & ((n.marks == tail) & (n.work == work));
-    let lifts = (n.lifts == c.ncol) & ((n.amounts == c.ncol) & rows);
+    let lifts = (n.lifts == c.ncol) & ((n.amounts == c.ncol) & ((n.tests == c.ncol) & rows));
     let pivots = (n.d == c.ncol) & ((n.sub == c.ncol) & ((n.blocks == c.ncol) & lifts));
     (n.input == area) & ((n.panel == area) & pivots)
 }
@@ -59,7 +59,7 @@ fn check_settings(c: Settings, n: Lengths) -> Result<(), Refusal>
 }
 
 // Refusals 1 to 6.
-// in: the settings, the lengths of the ten buffers, and the input itself
+// in: the settings, the lengths of the eleven buffers, and the input itself
 pub fn check(c: Settings, n: Lengths, input: &[f64]) -> Result<(), Refusal>
     requires { n.input ≡ length input.now }
     ensures { result ≡ or_else (settings_check c n)

@@ -79,8 +79,8 @@ run-pre c input b w len len_w e h l m =
 pub holds-pre : (c : Settings) (input : List Float) (x : LentBuffers) (r : PivotRecord) → entry_check c input (lent_in x) ≡ Ok tt
     → length r.d.now ≡ length x.d.now → length r.sub.now ≡ length x.sub.now → length r.blocks.now ≡ length x.blocks.now
     → r.partners.now ≡ replicate most_columns 0 → length r.lifts.now ≡ length x.lifts.now → length r.amounts.now ≡ length x.amounts.now
-    → length r.order.now ≡ length x.order.now → TurnHolds c.nrow c.ncol r
-holds-pre c input x r e e1 e2 e3 e4 e5 e6 e7 =
+    → length r.tests.now ≡ length x.tests.now → length r.order.now ≡ length x.order.now → TurnHolds c.nrow c.ncol r
+holds-pre c input x r e e1 e2 e3 e4 e5 e6 e7 e8 =
     let p = passed c input (lent_in x) e in
     record {
       d = e1 ∙ p.lengths.d;
@@ -89,7 +89,8 @@ holds-pre c input x r e e1 e2 e3 e4 e5 e6 e7 =
       partners = ap length e4 ∙ length-replicate {A = ℕ} most_columns 0;
       lifts = e5 ∙ p.lengths.lifts;
       amounts = e6 ∙ p.lengths.amounts;
-      order = e7 ∙ p.lengths.order;
+      tests = e7 ∙ p.lengths.tests;
+      order = e8 ∙ p.lengths.order;
     }
 
 -- the run with the width that is used, from the start
@@ -101,9 +102,9 @@ run_is how nrow ncol w v r s t e f h =
 -- ---- before the first panel
 
 -- nothing is noted yet
-pub noted-none : (n : ℕ) (d sub : List Float) (blocks partners lifts : List ℕ) (amounts : List Float) (order : List ℕ)
-    → blocks ≡ replicate n 0 → partners ≡ replicate most_columns 0 → NotedTo 0 1 0 (pivots_of d sub blocks partners lifts amounts order)
-noted-none n d sub blocks partners lifts amounts order e f = record {
+pub noted-none : (n : ℕ) (d sub : List Float) (blocks partners lifts : List ℕ) (amounts : List Float) (tests order : List ℕ)
+    → blocks ≡ replicate n 0 → partners ≡ replicate most_columns 0 → NotedTo 0 1 0 (pivots_of d sub blocks partners lifts amounts tests order)
+noted-none n d sub blocks partners lifts amounts tests order e f = record {
   few = omega arith;
   pair = λ c h. absurd (omega (arith, ap (λ (g : ℕ → ℕ). g c) (ap naturals e ∙ naturals-zeros n)));
   partner = λ c. omega (arith, ap (λ (g : ℕ → ℕ). g c) (ap naturals f ∙ naturals-zeros most_columns));
@@ -113,7 +114,7 @@ noted-none n d sub blocks partners lifts amounts order e f = record {
 -- the buffers show the start: x as they were lent, y as they begin
 pub start_is : (c : Settings) (input : List Float) (x y : LentBuffers) (partners : List ℕ) → entry_check c input (lent_in x) ≡ Ok tt
     → lent_in y ≡ begun_of input (lent_in x) → partners ≡ replicate most_columns 0
-    → between c.nrow y.panel.now (pivots_of y.d.now y.sub.now y.blocks.now partners y.lifts.now y.amounts.now y.order.now) 0
+    → between c.nrow y.panel.now (pivots_of y.d.now y.sub.now y.blocks.now partners y.lifts.now y.amounts.now y.tests.now y.order.now) 0
     ≡ start c.ncol (view c.nrow input)
 start_is c input x y partners e w p =
     let q = passed c input (lent_in x) e in
@@ -126,6 +127,6 @@ start_is c input x y partners e w p =
 pub eliminated-is : (c : Settings) (input : List Float) (r : Ran) (b : Buffers) (R : PivotRecord)
     → run_of r (between c.nrow b.panel (recorded_in R))
     ≡ whole_panels_of (pivoting_of c) c.nrow c.ncol (min c.nb (max c.ncol 1)) c.ncol 0 (start c.ncol (view c.nrow input))
-    → b.d ≡ R.d.now → b.sub ≡ R.sub.now → b.blocks ≡ R.blocks.now → b.lifts ≡ R.lifts.now → b.amounts ≡ R.amounts.now → b.order ≡ R.order.now
-    → Eliminated c input r b
-eliminated-is c input r b R h e1 e2 e3 e4 e5 e6 = record { partners = R.partners.now; run = rw (e1, e2, e3, e4, e5, e6) h }
+    → b.d ≡ R.d.now → b.sub ≡ R.sub.now → b.blocks ≡ R.blocks.now → b.lifts ≡ R.lifts.now → b.amounts ≡ R.amounts.now → b.tests ≡ R.tests.now
+    → b.order ≡ R.order.now → Eliminated c input r b
+eliminated-is c input r b R h e1 e2 e3 e4 e5 e6 e7 = record { partners = R.partners.now; run = rw (e1, e2, e3, e4, e5, e6, e7) h }

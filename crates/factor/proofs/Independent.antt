@@ -30,6 +30,7 @@ module _ (x y : Call) (m : Made x) (n : Made y) where
     blocks = left-same (λ o. o.buffers.blocks) (λ o. o.buffers.blocks) s.blocks;
     lifts = left-same (λ o. o.buffers.lifts) (λ o. o.buffers.lifts) s.lifts;
     amounts = left-same (λ o. o.buffers.amounts) (λ o. o.buffers.amounts) s.amounts;
+    tests = left-same (λ o. o.buffers.tests) (λ o. o.buffers.tests) s.tests;
     order = λ k h. left-same (λ o. naturals o.buffers.order k) (λ o. naturals o.buffers.order k) (s.order k h);
     lower = λ i j h l. entry-same i j i (s.lower i j h l);
   }

@@ -32,7 +32,7 @@ use Rattle.factor.proofs.Outcome.{whole_of, stopped-outcome, unsound-outcome, ac
 
 -- the state that an elimination's buffers show, by the rounds
 abbrev shown : ℕ → Buffers → List ℕ → ℕ → State
-shown nrow a partners = between nrow a.panel (pivots_of a.d a.sub a.blocks partners a.lifts a.amounts a.order)
+shown nrow a partners = between nrow a.panel (pivots_of a.d a.sub a.blocks partners a.lifts a.amounts a.tests a.order)
 
 -- x the buffers as they were lent, y as the elimination left them
 module _ (c : Settings) (input : List Float) (x : LentBuffers) (e : entry_check c input (lent_in x) ≡ Ok tt) where
@@ -60,8 +60,8 @@ module _ (c : Settings) (input : List Float) (x : LentBuffers) (e : entry_check 
     -- its block bytes are well formed
     bytes-kept : check_bytes a.blocks ≡ Ok tt
     bytes-kept =
-        let kept : Kept c.ncol c.ncol reach.state.pivots =
-        subst (λ (g : Run). AtEnd c.ncol g) reach.run
+        let kept : Kept c.mode c.ncol c.ncol reach.state.pivots =
+        subst (λ (g : Run). AtEnd c.mode c.ncol g) reach.run
         (head-kept (pivoting_of c) c.ncol c.nb (view c.nrow input) checked.some) in
         let same : last.pivots ≡ reach.state.pivots =
         reached-pivots (pivoting_of c) c.nrow c.ncol c.nb (view c.nrow input) last reach in
@@ -86,11 +86,11 @@ module _ (c : Settings) (input : List Float) (x : LentBuffers) (e : entry_check 
     unfolding tail_marks
     judged-call (Ok u) g =
         let len = checked.lengths in
-        accepted-outcome c input (lent_in x) e a.panel a.d a.sub a.amounts (replicate (length a.work) zero_f) a.blocks a.lifts a.order
+        accepted-outcome c input (lent_in x) e a.panel a.d a.sub a.amounts (replicate (length a.work) zero_f) a.blocks a.lifts a.tests a.order
         (tail_marks (view c.nrow a.panel) c.ncol c.nrow c.ncol) w.partners rounds
         (tallied_of (length a.d) (vec a.d) (vec a.sub) (naturals a.blocks))
         ends g (l.panel.count ∙ len.panel) (l.d.count ∙ len.d) (l.sub.count ∙ len.sub) (l.amounts.count ∙ len.amounts)
-        (l.blocks.count ∙ len.blocks) (l.lifts.count ∙ len.lifts) (l.order.count ∙ len.order)
+        (l.blocks.count ∙ len.blocks) (l.lifts.count ∙ len.lifts) (l.tests.count ∙ len.tests) (l.order.count ∙ len.order)
         refl (ap (λ (n : ℕ). replicate n zero_f) l.work.count)
         (ap (λ (n : ℕ). tallied_of n (vec a.d) (vec a.sub) (naturals a.blocks)) (l.d.count ∙ len.d))
     judged-call (Err f) g = rw (zeros-same x y l) (unsound-outcome c input (lent_in x) e last ends f g)

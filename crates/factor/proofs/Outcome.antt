@@ -52,11 +52,11 @@ tabulate-same n f g h = is-tabulate n g 0 (tabulate n f) (length-tabulate_from 0
 abbrev accepted_with : ℕ → Tally → Buffers → Outcome
 accepted_with rounds tally b = record { answer = accepted (record { rounds = rounds; inertia = tally }); buffers = b }
 
-outcome-same : (r r' : ℕ) (t t' : Tally) (p p' d d' s s' a a' w w' : List Float) (b b' l l' o o' m m' : List ℕ)
-    → r ≡ r' → t ≡ t' → p ≡ p' → d ≡ d' → s ≡ s' → b ≡ b' → l ≡ l' → a ≡ a' → o ≡ o' → m ≡ m' → w ≡ w'
-    → accepted_with r t (buffers_of p d s b l a o m w) ≡ accepted_with r' t' (buffers_of p' d' s' b' l' a' o' m' w')
-outcome-same r r' t t' p p' d d' s s' a a' w w' b b' l l' o o' m m' er et ep ed es eb el ea eo em ew =
-    rw (er, et, ep, ed, es, eb, el, ea, eo, em, ew)
+outcome-same : (r r' : ℕ) (t t' : Tally) (p p' d d' s s' a a' w w' : List Float) (b b' l l' n n' o o' m m' : List ℕ)
+    → r ≡ r' → t ≡ t' → p ≡ p' → d ≡ d' → s ≡ s' → b ≡ b' → l ≡ l' → a ≡ a' → n ≡ n' → o ≡ o' → m ≡ m' → w ≡ w'
+    → accepted_with r t (buffers_of p d s b l a n o m w) ≡ accepted_with r' t' (buffers_of p' d' s' b' l' a' n' o' m' w')
+outcome-same r r' t t' p p' d d' s s' a a' w w' b b' l l' n n' o o' m m' er et ep ed es eb el ea en eo em ew =
+    rw (er, et, ep, ed, es, eb, el, ea, en, eo, em, ew)
 
 -- ---- the call past the entry checks
 
@@ -94,16 +94,16 @@ module _ (c : Settings) (input : List Float) (b : Buffers) (e : entry_check c in
     stands-answer h = reached-answer (pivoting_of c) c.nrow c.ncol c.nb given t reached ∙ rw h
 
   -- accepted
-  pub accepted-outcome : (panel d sub amounts work : List Float) (blocks lifts order marks partners : List ℕ) (rounds : ℕ) (tally : Tally)
-      → ended (between c.nrow panel (pivots_of d sub blocks partners lifts amounts order) rounds) ≡ whole_of
+  pub accepted-outcome : (panel d sub amounts work : List Float) (blocks lifts tests order marks partners : List ℕ) (rounds : ℕ) (tally : Tally)
+      → ended (between c.nrow panel (pivots_of d sub blocks partners lifts amounts tests order) rounds) ≡ whole_of
       → result_check c.ncol (diagonals_of d sub blocks) (view c.nrow panel) c.ncol 0 ≡ Ok tt
       → length panel ≡ c.nrow * c.ncol → length d ≡ c.ncol → length sub ≡ c.ncol → length amounts ≡ c.ncol
-      → length blocks ≡ c.ncol → length lifts ≡ c.ncol → length order ≡ c.nrow
+      → length blocks ≡ c.ncol → length lifts ≡ c.ncol → length tests ≡ c.ncol → length order ≡ c.nrow
       → marks ≡ tabulate (c.nrow - c.ncol) (λ i. mark_of c.ncol (view c.nrow panel (c.ncol + i)))
       → work ≡ replicate (length b.work) zero_f → tally ≡ tallied_of c.ncol (vec d) (vec sub) (naturals blocks)
-      → accepted_with rounds tally (buffers_of panel d sub blocks lifts amounts order marks work) ≡ factor_of c input b
-  accepted-outcome panel d sub amounts work blocks lifts order marks partners rounds tally s h lp ld ls la lb ll lo em ew et =
-      let t = between c.nrow panel (pivots_of d sub blocks partners lifts amounts order) rounds in
+      → accepted_with rounds tally (buffers_of panel d sub blocks lifts amounts tests order marks work) ≡ factor_of c input b
+  accepted-outcome panel d sub amounts work blocks lifts tests order marks partners rounds tally s h lp ld ls la lb ll ln lo em ew et =
+      let t = between c.nrow panel (pivots_of d sub blocks partners lifts amounts tests order) rounds in
       let w = reached t s in
       let v : Pivots = w.state.pivots in
       let p : t.pivots ≡ v = reached-pivots (pivoting_of c) c.nrow c.ncol c.nb given t w in
@@ -112,7 +112,8 @@ module _ (c : Settings) (input : List Float) (b : Buffers) (e : entry_check c in
       panel (column_major c.nrow c.ncol entries)
       d (tabulate c.ncol v.diagonals.d) sub (tabulate c.ncol v.diagonals.sub) amounts (tabulate c.ncol v.notes.amounts)
       work (replicate (length b.work) zero_f)
-      blocks (tabulate c.ncol v.diagonals.blocks) lifts (tabulate c.ncol v.notes.lifts) order (tabulate c.nrow v.notes.order)
+      blocks (tabulate c.ncol v.diagonals.blocks) lifts (tabulate c.ncol v.notes.lifts)
+      tests (tabulate c.ncol v.notes.tests) order (tabulate c.nrow v.notes.order)
       marks (tabulate (c.nrow - c.ncol) (λ i. mark_of c.ncol (factor_row_of c.ncol w.panels (given (c.ncol + i)))))
       (reached-rounds (pivoting_of c) c.nrow c.ncol c.nb given t w)
       (et ∙ ap (λ (q : Pivots). tallied_of c.ncol q.diagonals.d q.diagonals.sub q.diagonals.blocks) p)
@@ -122,6 +123,7 @@ module _ (c : Settings) (input : List Float) (b : Buffers) (e : entry_check c in
       (bytes-tabulate c.ncol blocks v.diagonals.blocks lb (ap (λ (q : Pivots). q.diagonals.blocks) p))
       (bytes-tabulate c.ncol lifts v.notes.lifts ll (ap (λ (q : Pivots). q.notes.lifts) p))
       (vec-tabulate c.ncol amounts v.notes.amounts la (ap (λ (q : Pivots). q.notes.amounts) p))
+      (bytes-tabulate c.ncol tests v.notes.tests ln (ap (λ (q : Pivots). q.notes.tests) p))
       (places-tabulate c.nrow order v.notes.order lo (ap (λ (q : Pivots). q.notes.order) p))
       (em ∙ tabulate-same (c.nrow - c.ncol) _ _
       (λ i l. reached-mark (pivoting_of c) c.nrow c.ncol c.nb given t w (c.ncol + i) (omega arith) (omega arith)))

@@ -7,13 +7,13 @@ use Rattle.model.specs.Answer.{Factored, factored_says}
 use Rattle.model.specs.Independence.{Call, PastEntry, Alike, SameInput}
 use Rattle.judge.specs.Judge.{outcome_of}
 
--- a call that was made: what `factor` answered, what it left in the nine buffers, and its contract
+-- a call that was made: what `factor` answered, what it left in the ten buffers, and its contract
 pub record Made (x : Call) : Type 0 where
   pub answer : Factored
   pub left : Buffers
   pub contract : outcome_of answer left ≡ factor_of x.settings x.input x.lent
 
--- the same refusal and place, or the same rounds and counts; the same pivots and lifts, order of the head and lower head
+-- the same refusal and place, or the same rounds and counts; the same pivots, lifts and test numbers, order of the head and lower head
 pub record SameHeadLeft (x y : Call) (m : Made x) (n : Made y) : Type 0 where
   pub answer : factored_says m.answer ≡ factored_says n.answer
   pub d : m.left.d ≡ n.left.d
@@ -21,6 +21,7 @@ pub record SameHeadLeft (x y : Call) (m : Made x) (n : Made y) : Type 0 where
   pub blocks : m.left.blocks ≡ n.left.blocks
   pub lifts : m.left.lifts ≡ n.left.lifts
   pub amounts : m.left.amounts ≡ n.left.amounts
+  pub tests : m.left.tests ≡ n.left.tests
   pub order : (k : ℕ) → k < x.settings.ncol → naturals m.left.order k ≡ naturals n.left.order k
   pub lower : (i j : ℕ) → j ≤ i → i < x.settings.ncol → view x.settings.nrow m.left.panel i j ≡ view y.settings.nrow n.left.panel i j
 

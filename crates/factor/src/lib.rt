@@ -34,6 +34,7 @@ fn eliminate(c: Settings, input: &[f64], b: &mut LentBuffers) -> Result<usize, R
     let blocks = &mut *b.blocks;
     let lifts = &mut *b.lifts;
     let amounts = &mut *b.amounts;
+    let tests = &mut *b.tests;
     let order = &mut *b.order;
     let work = &mut *b.work;
     // a limit's length: there is no heap
@@ -45,6 +46,7 @@ fn eliminate(c: Settings, input: &[f64], b: &mut LentBuffers) -> Result<usize, R
         partners: &mut partners,
         lifts,
         amounts,
+        tests,
         order,
     };
     panels::panels(panel, work, &mut r, used)
@@ -67,8 +69,8 @@ fn run(c: Settings, input: &[f64], b: &mut LentBuffers) -> Result<Report, Refusa
 
 // The factor call.
 // in: c, the settings; input, nrow·ncol numbers, column by column; upper positions are copied and never read
-// out: panel, nrow·ncol: L with D's own diagonal; d, sub, amounts: ncol numbers; blocks, lifts: ncol bytes; order: nrow
-//      rows; marks: nrow − ncol bytes
+// out: panel, nrow·ncol: L with D's own diagonal; d, sub, amounts: ncol numbers; blocks, lifts, tests: ncol bytes;
+//      order: nrow rows; marks: nrow − ncol bytes
 // work: 3·nrow·(nb + 1) + nb² numbers, any on entry, +0.0 on acceptance
 // refused with 1 to 6: nothing is written; with 7, 8, 9, 23 or 24: every output and the working buffer hold zeros
 // origin: src/numeric/ldlt/bunch_kaufman.rs, fn ll_cdiv_emit
@@ -84,6 +86,7 @@ pub fn factor(c: Settings, input: &[f64], b: &mut LentBuffers) -> Result<Report,
         blocks: b.blocks.len(),
         lifts: b.lifts.len(),
         amounts: b.amounts.len(),
+        tests: b.tests.len(),
         order: b.order.len(),
         marks: b.marks.len(),
         work: b.work.len(),

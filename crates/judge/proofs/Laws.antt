@@ -43,7 +43,7 @@ module _ (nrow ncol rounds : ℕ) (b : Buffers) (panel : List Float) (rows colum
 
   pub judge-accepted : (marks : List ℕ) (work : List Float) (t : Tally) → found ≡ Ok tt → marks ≡ tail_marks (view rows panel) columns rows columns
       → work ≡ replicate (length b.work) zero_f → t ≡ tallied_of (length b.d) (vec b.d) (vec b.sub) (naturals b.blocks)
-      → outcome_of (Ok (record { rounds = rounds; inertia = t })) (buffers_of b.panel b.d b.sub b.blocks b.lifts b.amounts b.order marks work)
+      → outcome_of (Ok (record { rounds = rounds; inertia = t })) (buffers_of b.panel b.d b.sub b.blocks b.lifts b.amounts b.tests b.order marks work)
       ≡ judge_of nrow ncol rounds b
   unfolding judge_of
   judge-accepted marks work t e em ew et =

@@ -23,6 +23,7 @@ accept_of nrow ncol rounds b = record {
     blocks = b.blocks;
     lifts = b.lifts;
     amounts = b.amounts;
+    tests = b.tests;
     order = b.order;
     marks = tail_marks (view nrow b.panel) ncol nrow ncol;
     work = replicate (length b.work) zero_f;

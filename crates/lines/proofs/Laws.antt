@@ -24,25 +24,27 @@ accepted-is o n a b c =
     let one = word "accepted rounds" in
     after o (one ++ field n) newline (after o one (field n) a b) c
 
-pub pivot-is : (o : List ℕ) {p₁ p₂ p₃ p₄ p₅ p₆ p₇ p₈ : List ℕ} (k block : ℕ) (d sub : Float) (lift : ℕ) (amount : Float)
+pub pivot-is : (o : List ℕ) {p₁ p₂ p₃ p₄ p₅ p₆ p₇ p₈ p₉ : List ℕ} (k block : ℕ) (d sub : Float) (lift : ℕ) (amount : Float) (test : ℕ)
     → p₁ ≡ o ++ word "pivot" → p₂ ≡ p₁ ++ field k → p₃ ≡ p₂ ++ field block → p₄ ≡ p₃ ++ number d → p₅ ≡ p₄ ++ number sub → p₆ ≡ p₅ ++ field lift
-    → p₇ ≡ p₆ ++ number amount → p₈ ≡ p₇ ++ newline → p₈ ≡ o ++ pivot_line k block d sub lift amount
+    → p₇ ≡ p₆ ++ number amount → p₈ ≡ p₇ ++ field test → p₉ ≡ p₈ ++ newline → p₉ ≡ o ++ pivot_line k block d sub lift amount test
 unfolding pivot_line
-pivot-is o k block d sub lift amount a b c e f g h i =
+pivot-is o k block d sub lift amount test a b c e f g h i j =
     let two = word "pivot" ++ field k in
     let three = two ++ field block in
     let four = three ++ number d in
     let five = four ++ number sub in
     let six = five ++ field lift in
     let seven = six ++ number amount in
-    after o seven newline (after o six (number amount) (after o five (field lift) (after o four (number sub) (after o three (number d)
-    (after o two (field block) (after o (word "pivot") (field k) a b) c) e) f) g) h) i
+    let eight = seven ++ field test in
+    after o eight newline (after o seven (field test) (after o six (number amount) (after o five (field lift) (after o four (number sub)
+    (after o three (number d) (after o two (field block) (after o (word "pivot") (field k) a b) c) e) f) g) h) i) j
 
-pub pivot-at : (o : List ℕ) {p : List ℕ} (d sub amounts : List Float) (blocks lifts : List ℕ) (k block lift : ℕ) → block ≡ get_or blocks k 0
-    → lift ≡ get_or lifts k 0 → p ≡ o ++ pivot_line k block (get_or d k nan) (get_or sub k nan) lift (get_or amounts k nan)
-    → p ≡ o ++ pivot_at d sub blocks lifts amounts k
+pub pivot-at : (o : List ℕ) {p : List ℕ} (d sub amounts : List Float) (blocks lifts tests : List ℕ) (k block lift test : ℕ) → block ≡ get_or blocks k 0
+    → lift ≡ get_or lifts k 0 → test ≡ get_or tests k 0
+    → p ≡ o ++ pivot_line k block (get_or d k nan) (get_or sub k nan) lift (get_or amounts k nan) test
+    → p ≡ o ++ pivot_at d sub blocks lifts amounts tests k
 unfolding pivot_at vec naturals
-pivot-at o d sub amounts blocks lifts k block lift e f w = rw (e, f) at w
+pivot-at o d sub amounts blocks lifts tests k block lift test e f g w = rw (e, f, g) at w
 
 -- ---- one after another
 

@@ -12,6 +12,7 @@ left_in x = record {
   blocks = x.blocks.now;
   lifts = x.lifts.now;
   amounts = x.amounts.now;
+  tests = x.tests.now;
   order = x.order.now;
   marks = x.marks.now;
   work = [];

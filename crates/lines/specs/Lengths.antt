@@ -3,7 +3,7 @@ use Rattle.std.specs.Prelude.{◌≡◌, ℕ, ◌-◌, ◌*◌, ◌≤◌}
 use Rattle.model.specs.declared.Settings.{Settings}
 
 -- the lists of a factor call at the program's sizes
-pub record LinesPre (c : Settings) (panel d sub blocks lifts amounts order marks : ℕ) : Type 0 where
+pub record LinesPre (c : Settings) (panel d sub blocks lifts amounts tests order marks : ℕ) : Type 0 where
   pub columns : c.ncol ≤ 16
   pub rows : c.nrow ≤ 64
   pub numbers : panel ≡ c.nrow * c.ncol
@@ -12,5 +12,6 @@ pub record LinesPre (c : Settings) (panel d sub blocks lifts amounts order marks
   pub bytes : blocks ≡ c.ncol
   pub lifted : lifts ≡ c.ncol
   pub added : amounts ≡ c.ncol
+  pub decided : tests ≡ c.ncol
   pub places : order ≡ c.nrow
   pub tail : marks ≡ c.nrow - c.ncol

@@ -49,17 +49,18 @@ order_field order i = field (naturals order i)
 unfoldable pub order_line : List ℕ → List ℕ
 order_line order = word "order" ++ each (order_field order) (length order) ++ newline
 
--- 'position, block byte, d, subdiagonal, lift byte, amount'
-unfoldable pub pivot_line : (k block : ℕ) → (d sub : Float) → (lift : ℕ) → (amount : Float) → List ℕ
-pivot_line k block d sub lift amount =
-    word "pivot" ++ field k ++ field block ++ number d ++ number sub ++ field lift ++ number amount ++ newline
+-- 'position, block byte, d, subdiagonal, lift byte, amount, test number'
+unfoldable pub pivot_line : (k block : ℕ) → (d sub : Float) → (lift : ℕ) → (amount : Float) → (test : ℕ) → List ℕ
+pivot_line k block d sub lift amount test =
+    word "pivot" ++ field k ++ field block ++ number d ++ number sub ++ field lift ++ number amount ++ field test ++ newline
 
-unfoldable pub pivot_at : (d sub : List Float) → (blocks lifts : List ℕ) → (amounts : List Float) → ℕ → List ℕ
-pivot_at d sub blocks lifts amounts k = pivot_line k (naturals blocks k) (vec d k) (vec sub k) (naturals lifts k) (vec amounts k)
+unfoldable pub pivot_at : (d sub : List Float) → (blocks lifts : List ℕ) → (amounts : List Float) → (tests : List ℕ) → ℕ → List ℕ
+pivot_at d sub blocks lifts amounts tests k =
+    pivot_line k (naturals blocks k) (vec d k) (vec sub k) (naturals lifts k) (vec amounts k) (naturals tests k)
 
 -- position k's line of a call's buffers
 abbrev pub pivot_of : Buffers → ℕ → List ℕ
-pivot_of x = pivot_at x.d x.sub x.blocks x.lifts x.amounts
+pivot_of x = pivot_at x.d x.sub x.blocks x.lifts x.amounts x.tests
 
 -- 'positive, negative, zero'
 unfoldable pub inertia_line : Tally → List ℕ

@@ -16,8 +16,9 @@ pub struct Left<'a> {
     pub blocks: &'a [u8],
     pub lifts: &'a [u8],
     pub amounts: &'a [f64],
+    pub tests: &'a [u8],
     pub order: &'a [usize],
     pub marks: &'a [u8],
     pub ghost sizes: { LinesPre c (length panel.now) (length d.now) (length sub.now) (length blocks.now)
-        (length lifts.now) (length amounts.now) (length order.now) (length marks.now) },
+        (length lifts.now) (length amounts.now) (length tests.now) (length order.now) (length marks.now) },
 }

@@ -17,6 +17,7 @@ pub record NotePre (k e p kp : ℕ) (r : PivotRecord) : Type 0 where
   pub partners : e < length r.partners.now
   pub lifts : e < length r.lifts.now
   pub amounts : e < length r.amounts.now
+  pub tests : e < length r.tests.now
   pub order : e < length r.order.now
   pub row : kp < length r.order.now
   pub first : p < length r.order.now

@@ -1,16 +1,17 @@
-// What is noted of a pivot in the record of pivots: its numbers and block byte, its lift, its exchanges. `note` leaves
-// exactly `noted` of crates/model/specs/Head.antt.
+// What is noted of a pivot in the record of pivots: its numbers and block byte, its lift, its test number, its exchanges.
+// `note` leaves exactly `noted` of crates/model/specs/Head.antt.
 // origin: src/numeric/ldlt/bunch_kaufman.rs, fn ll_bk_panel_step
 #![tactic(auto)]
 
 ghost use Rattle.std.specs.Prelude.{◌≡◌, length, ◌<◌, slice_set};
 ghost use Rattle.model.specs.Sizes.{most_columns};
 ghost use Rattle.model.specs.Matrix.{places, swapped};
+ghost use Rattle.model.specs.Choice.{test_number};
 ghost use Rattle.model.specs.Step.{is_block, recorded_in, SameRecord};
 ghost use Rattle.model.specs.Head.{last_of, noted};
 ghost use Rattle.notes.specs.Notes.{ColumnsPre, NotePre};
 
-use model::{Diagonal, Elim, LocalRow, Pivot, PivotRecord};
+use model::{Diagonal, Elim, LocalRow, Pivot, PivotRecord, PivotTest};
 
 // y at e, then x at k: what belongs to a pivot's two columns, where e is its last. A 1x1 keeps x.
 fn put_both<T: Copy>(v: &mut [T], k: Elim, e: Elim, x: T, y: T)
@@ -29,6 +30,19 @@ fn put_swap(order: &mut [usize], e: Elim, kp: LocalRow)
 {
     if e.0 != kp.0 {
         order.swap(e.0, kp.0);
+    }
+}
+
+// The number that a caller is told of a test.
+fn test_number(test: PivotTest) -> u8
+    ensures { result ≡ test_number test }
+{
+    match test {
+        PivotTest::ZeroColumn => 0,
+        PivotTest::OwnDiagonal => 1,
+        PivotTest::RowTest => 2,
+        PivotTest::ExchangedDiagonal => 3,
+        PivotTest::Block => 4,
     }
 }
 
@@ -53,17 +67,20 @@ pub fn note(r: &mut PivotRecord, k: Elim, e: Elim, v: Pivot)
     let partners = &mut *r.partners;
     let lifts = &mut *r.lifts;
     let amounts = &mut *r.amounts;
+    let tests = &mut *r.tests;
     let order = &mut *r.order;
     let x = v.diagonal;
     let block = u8::from(diagonal::is_block(x));
     let lifted = u8::from(v.lift.is_some());
     let amount = v.lift.unwrap_or(0.0);
+    let test = test_number(v.test);
     put_both(d, k, e, diagonal::first_number(x), diagonal::last_number(x));
     put_both(sub, k, e, diagonal::under_number(x), 0.0);
     put_both(blocks, k, e, block, 0);
     put_both(partners, k, e, v.kp.0 as u16, v.p.0 as u16);
     put_both(lifts, k, e, lifted, lifted);
     put_both(amounts, k, e, amount, amount);
+    put_both(tests, k, e, test, test);
     put_swap(order, k, v.p);
     put_swap(order, e, v.kp);
 }

@@ -53,4 +53,5 @@ pub record TurnHolds (nrow ncol : ℕ) (r : PivotRecord) : Type 0 where
   pub partners : length r.partners.now ≡ most_columns
   pub lifts : length r.lifts.now ≡ ncol
   pub amounts : length r.amounts.now ≡ ncol
+  pub tests : length r.tests.now ≡ ncol
   pub order : length r.order.now ≡ nrow

@@ -79,6 +79,7 @@ fn read_lengths(answers: &mut Answers) -> Lengths {
         blocks: answers.count(),
         lifts: answers.count(),
         amounts: answers.count(),
+        tests: answers.count(),
         order: answers.count(),
         marks: answers.count(),
         work: answers.count(),
@@ -93,6 +94,7 @@ fn factor_left(answers: &mut Answers, number: usize, lent: &LentBuffers) -> bool
     same &= file::holds(answers, left, lent.blocks);
     same &= file::holds(answers, left, lent.lifts);
     same &= file::holds(answers, left, lent.amounts);
+    same &= file::holds(answers, left, lent.tests);
     same &= file::holds(answers, left, lent.order);
     same &= file::holds(answers, left, lent.marks);
     same & file::holds(answers, work_after(number), lent.work)
@@ -106,6 +108,7 @@ fn factor_same(answers: &mut Answers, recorded: Outcome, c: Settings, n: Lengths
     let mut of_blocks = [u8::HELD; COLUMNS];
     let mut of_lifts = [u8::HELD; COLUMNS];
     let mut of_amounts = [f64::HELD; COLUMNS];
+    let mut of_tests = [u8::HELD; COLUMNS];
     let mut of_order = [usize::HELD; ROWS];
     let mut of_marks = [u8::HELD; ROWS];
     let mut of_work = [f64::HELD; NUMBERS];
@@ -117,6 +120,7 @@ fn factor_same(answers: &mut Answers, recorded: Outcome, c: Settings, n: Lengths
         blocks: file::first_of(n.blocks, &mut of_blocks),
         lifts: file::first_of(n.lifts, &mut of_lifts),
         amounts: file::first_of(n.amounts, &mut of_amounts),
+        tests: file::first_of(n.tests, &mut of_tests),
         order: file::first_of(n.order, &mut of_order),
         marks: file::first_of(n.marks, &mut of_marks),
         work: file::first_of(n.work, &mut of_work),

@@ -12,6 +12,8 @@ use Rattle.model.specs.declared.LocalRow.{LocalRow}
 use Rattle.model.specs.declared.Greatest.{Greatest}
 use Rattle.model.specs.declared.Choice.{Choice}
 use Rattle.model.specs.declared.Choice.TheVariants.{ZeroColumn, Single, Block}
+use Rattle.model.specs.declared.PivotTest.{PivotTest}
+use Rattle.model.specs.declared.PivotTest.TheVariants as by
 use Rattle.model.proofs.Bounds.{Chosen, choose-in}
 use Rattle.greatest.proofs.Squares.{greatest-keeps}
 use Rattle.rule.specs.Chosen.{by_row, ChosenWithin}
@@ -24,11 +26,11 @@ chosen a k ke c h e = (e, go c (subst (λ (x : Choice). Chosen k ke x) (sym e) (
   where
     go : (c : Choice) → Chosen k ke c → ChosenWithin k ke c
     go ZeroColumn w = tt
-    go (Single kp) w = record { low = w.0; high = w.1 }
-    go (Block p kp) w = (record { low = w.2; high = w.3 }, record { low = omega (arith, w.0); high = w.1 })
+    go (Single t kp) w = record { low = w.0; high = w.1 }
+    go (Block t p kp) w = (record { low = w.2; high = w.3 }, record { low = omega (arith, w.0); high = w.1 })
 
-abbrev here : ℕ → Choice
-here k = Single (record { 0 = k })
+abbrev here : PivotTest → ℕ → Choice
+here t k = Single t (record { 0 = k })
 
 -- ---- the first test without the root: neither the diagonal's magnitude nor the greatest square has a sign
 
@@ -61,7 +63,7 @@ unsigned-both a k ke x own g eo eg = record {
 }
 
 pub way-reached : (a : Mat) (k ke : ℕ) (x own : Float) (g : Greatest) → x ≡ a k k → own ≡ magnitude_of x → g ≡ column_greatest a k ke
-    → Reaches own g.square → here k ≡ choose_of a k ke
+    → Reaches own g.square → here by.OwnDiagonal k ≡ choose_of a k ke
 unfolding choose_of
 way-reached a k ke x own g ex eo eg r = rw (← eg, ← ex, ← eo, r.nonzero, r.taken)
 
@@ -75,7 +77,7 @@ module _ (a : Mat) (k ke : ℕ) (x own colmax t : Float) (g : Greatest) (ex : x 
   way-zero h = rw (← eg, ← ex, ← eo, ← ec, ← et, h)
 
   module _ (bar : Float) (eb : bar ≡ alpha ⊗ colmax) (h : eq t zero_f ≡ false) where
-    pub way-own : le bar own ≡ true → here k ≡ choose_of a k ke
+    pub way-own : le bar own ≡ true → here by.OwnDiagonal k ≡ choose_of a k ke
     unfolding choose_of
     way-own p = rw (← eg, ← ex, ← eo, ← ec, ← et, ← eb, h, p)
 
@@ -89,17 +91,17 @@ module _ (a : Mat) (k ke : ℕ) (x own colmax t : Float) (g : Greatest) (ex : x 
 -- r is the greatest square of row and column imax, rowmax its root
 module _ (a : Mat) (k ke : ℕ) (own colmax bar rowmax : Float) (imax : LocalRow) (r : Greatest) (eb : bar ≡ alpha ⊗ colmax)
     (er : r ≡ row_greatest a k ke imax.0) (ew : rowmax ≡ sqrt_of r.square) where
-  pub way-row : le (bar ⊗ (colmax ⊘ rowmax)) own ≡ true → here k ≡ by_row a k ke own colmax imax
+  pub way-row : le (bar ⊗ (colmax ⊘ rowmax)) own ≡ true → here by.RowTest k ≡ by_row a k ke own colmax imax
   unfolding by_row
   way-row q = rw (← er, ← ew, ← eb, q)
 
   -- y is the other diagonal and other its magnitude
   module _ (y other reach : Float) (ey : y ≡ a imax.0 imax.0) (eu : other ≡ magnitude_of y) (ef : reach ≡ alpha ⊗ rowmax)
       (q : le (bar ⊗ (colmax ⊘ rowmax)) own ≡ false) where
-    pub way-other : le reach other ≡ true → Single imax ≡ by_row a k ke own colmax imax
+    pub way-other : le reach other ≡ true → Single by.ExchangedDiagonal imax ≡ by_row a k ke own colmax imax
     unfolding by_row
     way-other w = rw (← er, ← ew, ← eb, ← ey, ← eu, ← ef, q, w)
 
-    pub way_block : le reach other ≡ false → Block (record { 0 = k }) imax ≡ by_row a k ke own colmax imax
+    pub way_block : le reach other ≡ false → Block by.Block (record { 0 = k }) imax ≡ by_row a k ke own colmax imax
     unfolding by_row
     way_block w = rw (← er, ← ew, ← eb, ← ey, ← eu, ← ef, q, w)

@@ -12,7 +12,7 @@ ghost use Rattle.greatest.specs.Greatest.{ColumnPre, Within, SquareOf};
 ghost use Rattle.rule.specs.Chosen.{by_row, ChosenWithin};
 ghost use Rattle.rule.specs.Reach.{Reaches, ReachPre};
 
-use model::{Block, Choice, Elim, Frame, LocalRow};
+use model::{Block, Choice, Elim, Frame, LocalRow, PivotTest};
 
 // Bunch and Kaufman's rule: a name for its two constants and its tests.
 #[derive(Clone, Copy)]
@@ -87,35 +87,37 @@ impl PivotRule {
         let row = greatest::row_greatest(panel, at, k, imax);
         let rowmax = PivotRule::root_of(row.square, greatest::across(panel, at.nrow, imax, row.at));
         if own >= PivotRule::threshold(colmax) * (colmax / rowmax) {
-            return Choice::Single(LocalRow(k.0));
+            return Choice::Single(PivotTest::RowTest, LocalRow(k.0));
         }
         if scalar::magnitude(grid::get(panel, at.nrow, imax.0, imax.0))
             >= PivotRule::threshold(rowmax)
         {
-            Choice::Single(imax)
+            Choice::Single(PivotTest::ExchangedDiagonal, imax)
         } else {
-            Choice::Block(LocalRow(k.0), imax)
+            Choice::Block(PivotTest::Block, LocalRow(k.0), imax)
         }
     }
 
-    // The pivot at k of a panel. Squares are compared: an entry whose square underflows is not seen.
+    // The pivot at k of a panel; the test that chooses names itself. Squares are compared: an entry whose square
+    // underflows is not seen.
     // origin: src/numeric/ldlt/bunch_kaufman.rs, fn ll_bk_panel_step
     pub fn choose(panel: &[f64], at: Frame, k: Elim) -> Choice
         requires { ColumnPre at.nrow at.ncol k.0 at.ke (length panel.now) }
         ensures value { result ≡ choose_of (view at.nrow panel.now) k.0 at.ke }
         ensures chosen_within { ChosenWithin k.0 at.ke result }
     {
+        let own_diagonal = Choice::Single(PivotTest::OwnDiagonal, LocalRow(k.0));
         let own = scalar::magnitude(grid::get(panel, at.nrow, k.0, k.0));
         let column = greatest::column_greatest(panel, at, k);
         if PivotRule::reaches(own, column.square) {
-            return Choice::Single(LocalRow(k.0));
+            return own_diagonal;
         }
         let colmax = PivotRule::root_of(column.square, grid::get(panel, at.nrow, column.at.0, k.0));
         if scalar::maximum(own, colmax) == 0.0 {
             return Choice::ZeroColumn;
         }
         if own >= PivotRule::threshold(colmax) {
-            return Choice::Single(LocalRow(k.0));
+            return own_diagonal;
         }
         PivotRule::choose_by_row(panel, at, k, own, colmax, column.at)
     }

@@ -7,6 +7,8 @@ use Rattle.model.specs.declared.Mode.{Mode}
 use Rattle.model.specs.declared.Mode.TheVariants.{Fail, Lift}
 use Rattle.model.specs.declared.Choice.{Choice}
 use Rattle.model.specs.declared.Choice.TheVariants.{ZeroColumn, Single, Block}
+use Rattle.model.specs.declared.PivotTest.{PivotTest}
+use Rattle.model.specs.declared.PivotTest.TheVariants as by
 use Rattle.model.specs.declared.Pivot.{Pivot}
 use Rattle.model.specs.declared.Refusal.{Refusal}
 
@@ -15,17 +17,17 @@ use Rattle.model.specs.declared.Refusal.{Refusal}
 -- what the mode makes of the choice at k: in Lift a zero column is a 1x1 from its own row
 abbrev pub by_mode : Mode → Elim → Choice → Choice
 by_mode Fail k c = c
-by_mode (Lift floor) k ZeroColumn = Single (record { 0 = k.0 })
-by_mode (Lift floor) k (Single kp) = Single kp
-by_mode (Lift floor) k (Block p kp) = Block p kp
+by_mode (Lift floor) k ZeroColumn = Single by.ZeroColumn (record { 0 = k.0 })
+by_mode (Lift floor) k (Single t kp) = Single t kp
+by_mode (Lift floor) k (Block t p kp) = Block t p kp
 
--- a 1x1 at k, its number from row kp
-unfoldable pub single_of : ℕ → Mat → Mat → Mode → ℕ → ℕ → Tried
-single_of ke a m mode k kp = after_one ke a m k kp (settled_one mode (a kp kp))
+-- a 1x1 at k by the test t, its number from row kp
+unfoldable pub single_of : ℕ → Mat → Mat → Mode → PivotTest → ℕ → ℕ → Tried
+single_of ke a m mode t k kp = after_one ke a m t k kp (settled_one mode (a kp kp))
 
--- a block at k and k + 1, with row kp exchanged for k + 1, after p was exchanged for k
-unfoldable pub two_of : ℕ → Mat → Mat → Mode → ℕ → ℕ → ℕ → ℕ → Tried
-two_of ke a m mode limit k p kp = try_block ke a m mode limit k p kp
+-- a block at k and k + 1 by the test t, with row kp exchanged for k + 1, after p was exchanged for k
+unfoldable pub two_of : ℕ → Mat → Mat → Mode → ℕ → PivotTest → ℕ → ℕ → ℕ → Tried
+two_of ke a m mode limit t k p kp = try_block ke a m mode limit t k p kp
 
 -- ---- the answer
 

@@ -13,7 +13,8 @@ ghost use Rattle.step.specs.Answers.{tried, by_mode, single_of, two_of};
 ghost use Rattle.step.specs.Terms.{StepPre, PivotPre, BlockPre, LimitPre, TakenIn};
 
 use model::{
-    Block, Choice, Diagonal, Elim, Frame, LocalRow, Mode, Pivot, Pivoting, Refusal, Unfit,
+    Block, Choice, Diagonal, Elim, Frame, LocalRow, Mode, Pivot, PivotTest, Pivoting, Refusal,
+    Unfit,
 };
 use rule::PivotRule;
 
@@ -28,12 +29,13 @@ fn block_at(panel: &[f64], at: Frame, k: Elim) -> Block
     diagonal::block_of(d11, d21, d22)
 }
 
-// A 1x1 pivot from row kp: settled by the mode, exchanged with k, eliminated.
+// A 1x1 pivot that the test chose, from row kp: settled by the mode, exchanged with k, eliminated.
 fn single(
     panel: &mut [f64],
     mult: &mut [f64],
     at: Frame,
     k: Elim,
+    test: PivotTest,
     kp: LocalRow,
     mode: Mode,
 ) -> Result<Pivot, Refusal>
@@ -41,7 +43,7 @@ fn single(
     ensures { tried result (view at.nrow panel.new)
         (in_panel at.kb at.ke (view at.nb mult.new))
         ≡ single_of at.ke (view at.nrow panel.old)
-        (in_panel at.kb at.ke (view at.nb mult.old)) mode k.0 kp.0 }
+        (in_panel at.kb at.ke (view at.nb mult.old)) mode test k.0 kp.0 }
 {
     let own = grid::get(panel, at.nrow, kp.0, kp.0);
     let Some(settled) = settle::settle_one(mode, own) else {
@@ -50,6 +52,7 @@ fn single(
     exchange::exchange_if(panel, at, LocalRow(k.0), kp);
     eliminate::head_one(panel, mult, at, k, settled.d);
     Ok(Pivot {
+        test,
         p: LocalRow(k.0),
         kp,
         diagonal: Diagonal::One(settled.d),
@@ -58,13 +61,14 @@ fn single(
     })
 }
 
-// A block at k and k + 1: row kp exchanged with k + 1, settled by the mode, eliminated. Row p was exchanged with k
-// before.
+// A block at k and k + 1 that the test chose: row kp exchanged with k + 1, settled by the mode, eliminated. Row p was
+// exchanged with k before.
 fn block(
     panel: &mut [f64],
     mult: &mut [f64],
     at: Frame,
     k: Elim,
+    test: PivotTest,
     p: LocalRow,
     kp: LocalRow,
     how: Pivoting,
@@ -73,7 +77,7 @@ fn block(
     ensures { tried result (view at.nrow panel.new)
         (in_panel at.kb at.ke (view at.nb mult.new))
         ≡ two_of at.ke (view at.nrow panel.old)
-        (in_panel at.kb at.ke (view at.nb mult.old)) how.mode how.limit k.0 p.0
+        (in_panel at.kb at.ke (view at.nb mult.old)) how.mode how.limit test k.0 p.0
         kp.0 }
 {
     let second = k.0 + 1;
@@ -86,6 +90,7 @@ fn block(
     };
     eliminate::head_two(panel, mult, at, k, settled.block);
     Ok(Pivot {
+        test,
         p,
         kp,
         diagonal: Diagonal::Two(settled.block),
@@ -100,6 +105,7 @@ fn moved_block(
     mult: &mut [f64],
     at: Frame,
     k: Elim,
+    test: PivotTest,
     p: LocalRow,
     kp: LocalRow,
     how: Pivoting,
@@ -109,11 +115,11 @@ fn moved_block(
     ensures { tried result (view at.nrow panel.new)
         (in_panel at.kb at.ke (view at.nb mult.new))
         ≡ two_of at.ke (exchanged k.0 p.0 at.ke (view at.nrow panel.old))
-        (in_panel at.kb at.ke (view at.nb mult.old)) how.mode how.limit k.0 p.0
+        (in_panel at.kb at.ke (view at.nb mult.old)) how.mode how.limit test k.0 p.0
         kp.0 }
 {
     exchange::exchange_if(panel, at, LocalRow(k.0), p);
-    block(panel, mult, at, k, p, kp, how)
+    block(panel, mult, at, k, test, p, kp, how)
 }
 
 // What the mode makes of the choice at k: in Lift a zero column is a 1x1 from its own row. (With `_ => choice` the
@@ -124,10 +130,10 @@ fn by_mode(choice: Choice, mode: Mode, k: Elim) -> Choice
     match choice {
         Choice::ZeroColumn => match mode {
             Mode::Fail => Choice::ZeroColumn,
-            Mode::Lift(_) => Choice::Single(LocalRow(k.0)),
+            Mode::Lift(_) => Choice::Single(PivotTest::ZeroColumn, LocalRow(k.0)),
         },
-        Choice::Single(kp) => Choice::Single(kp),
-        Choice::Block(p, kp) => Choice::Block(p, kp),
+        Choice::Single(test, kp) => Choice::Single(test, kp),
+        Choice::Block(test, p, kp) => Choice::Block(test, p, kp),
     }
 }
 
@@ -150,7 +156,7 @@ pub fn step(
     let choice = PivotRule::choose(panel, at, k);
     match by_mode(choice, how.mode, k) {
         Choice::ZeroColumn => Err(Refusal::ZeroColumn(k)),
-        Choice::Single(kp) => single(panel, mult, at, k, kp, how.mode),
-        Choice::Block(p, kp) => moved_block(panel, mult, at, k, p, kp, how),
+        Choice::Single(test, kp) => single(panel, mult, at, k, test, kp, how.mode),
+        Choice::Block(test, p, kp) => moved_block(panel, mult, at, k, test, p, kp, how),
     }
 }

@@ -19,6 +19,8 @@ use Rattle.model.specs.declared.Mode.TheVariants.{Fail, Lift}
 use Rattle.model.specs.declared.Pivot.{Pivot}
 use Rattle.model.specs.declared.Choice.{Choice}
 use Rattle.model.specs.declared.Choice.TheVariants as choice
+use Rattle.model.specs.declared.PivotTest.{PivotTest}
+use Rattle.model.specs.declared.PivotTest.TheVariants as by
 use Rattle.model.specs.declared.OneSettled.{OneSettled}
 use Rattle.model.specs.declared.TwoSettled.{TwoSettled}
 use Rattle.model.specs.declared.Unfit.{Unfit}
@@ -95,16 +97,16 @@ Keeps ke a (refused_by r) = Unit {0}
 Keeps ke a (took v b m) = (i j : ℕ) → Untouched ke i j → b i j ≡ a i j
 
 module _ (ke : ℕ) (a m : Mat) where
-  one-keeps : (k kp : ℕ) (s : Option OneSettled) → k < ke → Keeps ke a (after_one ke a m k kp s)
-  one-keeps k kp None hk = tt
-  one-keeps k kp (Some s) hk = λ i j.
+  one-keeps : (t : PivotTest) (k kp : ℕ) (s : Option OneSettled) → k < ke → Keeps ke a (after_one ke a m t k kp s)
+  one-keeps t k kp None hk = tt
+  one-keeps t k kp (Some s) hk = λ i j.
       ⊎_elim (λ h. head_one-up ke k s.d (exchanged k kp ke a) i j h ∙ exchanged-up k kp ke a i j h)
       (λ h. head_one-past ke k s.d (exchanged k kp ke a) i j (omega arith) h ∙ exchanged-past k kp ke a i j h)
 
-  two-keeps : (k p kp : ℕ) (s : Result TwoSettled Unfit) → Keeps ke a (after_two ke a m k p kp s)
-  two-keeps k p kp (Err Low) = tt
-  two-keeps k p kp (Err OutOfRounds) = tt
-  two-keeps k p kp (Ok s) = λ i j.
+  two-keeps : (t : PivotTest) (k p kp : ℕ) (s : Result TwoSettled Unfit) → Keeps ke a (after_two ke a m t k p kp s)
+  two-keeps t k p kp (Err Low) = tt
+  two-keeps t k p kp (Err OutOfRounds) = tt
+  two-keeps t k p kp (Ok s) = λ i j.
       ⊎_elim (λ h. head_two-up ke k s.block (exchanged (k + 1) kp ke a) i j h ∙ exchanged-up (k + 1) kp ke a i j h)
       (λ h. head_two-past ke k s.block (exchanged (k + 1) kp ke a) i j h ∙ exchanged-past (k + 1) kp ke a i j h)
 
@@ -115,18 +117,18 @@ exchange-keeps ke k p a (took v b m) w = λ i j u.
     w i j u ∙ ⊎_elim (λ h. exchanged-up k p ke a i j h) (λ h. exchanged-past k p ke a i j h) u
 
 module _ (ke : ℕ) (a m : Mat) where
-  block-keeps : (mode : Mode) (limit k p kp : ℕ) → Keeps ke a (try_block ke (exchanged k p ke a) m mode limit k p kp)
-  block-keeps mode limit k p kp =
-      exchange-keeps ke k p a (try_block ke (exchanged k p ke a) m mode limit k p kp) (two-keeps ke (exchanged k p ke a) m k p kp
+  block-keeps : (mode : Mode) (limit : ℕ) (t : PivotTest) (k p kp : ℕ) → Keeps ke a (try_block ke (exchanged k p ke a) m mode limit t k p kp)
+  block-keeps mode limit t k p kp =
+      exchange-keeps ke k p a (try_block ke (exchanged k p ke a) m mode limit t k p kp) (two-keeps ke (exchanged k p ke a) m t k p kp
       (settled_two mode limit (block_in (exchanged (k + 1) kp ke (exchanged k p ke a)) k)))
 
   by-keeps : (mode : Mode) (limit k : ℕ) (o : Choice) → k < ke → Keeps ke a (try_by ke a m mode limit k o)
   by-keeps Fail limit k choice.ZeroColumn hk = tt
-  by-keeps (Lift floor) limit k choice.ZeroColumn hk = one-keeps ke a m k k (settled_one (Lift floor) (a k k)) hk
-  by-keeps Fail limit k (choice.Single kp) hk = one-keeps ke a m k kp.0 (settled_one Fail (a kp.0 kp.0)) hk
-  by-keeps (Lift floor) limit k (choice.Single kp) hk = one-keeps ke a m k kp.0 (settled_one (Lift floor) (a kp.0 kp.0)) hk
-  by-keeps Fail limit k (choice.Block p kp) hk = block-keeps Fail limit k p.0 kp.0
-  by-keeps (Lift floor) limit k (choice.Block p kp) hk = block-keeps (Lift floor) limit k p.0 kp.0
+  by-keeps (Lift floor) limit k choice.ZeroColumn hk = one-keeps ke a m by.ZeroColumn k k (settled_one (Lift floor) (a k k)) hk
+  by-keeps Fail limit k (choice.Single t kp) hk = one-keeps ke a m t k kp.0 (settled_one Fail (a kp.0 kp.0)) hk
+  by-keeps (Lift floor) limit k (choice.Single t kp) hk = one-keeps ke a m t k kp.0 (settled_one (Lift floor) (a kp.0 kp.0)) hk
+  by-keeps Fail limit k (choice.Block t p kp) hk = block-keeps Fail limit t k p.0 kp.0
+  by-keeps (Lift floor) limit k (choice.Block t p kp) hk = block-keeps (Lift floor) limit t k p.0 kp.0
 
   pub try-keeps : (how : Pivoting) (k : ℕ) → k < ke → Keeps ke a (try_of ke a m how k)
   unfolding try_of
@@ -164,10 +166,10 @@ byte-block : (b : Bool) → byte_of b ≡ 1 → b ≡ true
 byte-block true e = refl
 byte-block false e = let z : ◌≡◌ {A = ℕ} 0 1 = e in let n : ⊥ = omega arith in absurd n
 
-noted-inside : (ke limit k : ℕ) (p : Pivots) (v : Pivot) → GoodPivot ke limit k v → PivotsInside ke p
+noted-inside : (mode : Mode) (ke limit k : ℕ) (p : Pivots) (v : Pivot) → GoodPivot mode ke limit k v → PivotsInside ke p
     → PivotsInside ke (noted p k (last_of k (is_block v.diagonal)) v)
 unfolding noted put
-noted-inside ke limit k p v g w =
+noted-inside mode ke limit k p v g w =
     record {
       partner = λ j. test (eqb j k) (λ t. rw t g.row)
           (λ t. rw t (test (eqb j (last_of k (is_block v.diagonal))) (λ u. rw u g.first) (λ u. rw u (w.partner j))));
@@ -182,5 +184,5 @@ pub panel-inside : (ke : ℕ) (how : Pivoting) (n k : ℕ) (s : State) → Pivot
     → Went (λ t. PivotsInside ke t.pivots) (panel_of ke how n k s)
 panel-inside ke how n k s w =
     panel-went ke how (λ t. PivotsInside ke t.pivots)
-    (λ t k v a m hk e p. let g : GoodPivot ke how.limit k v = subst (λ (o : Tried). Good ke how.limit k o) e (try-good ke t.a t.mult how k hk) in
-    noted-inside ke how.limit k t.pivots v g p) n k s w
+    (λ t k v a m hk e p. let g : GoodPivot how.mode ke how.limit k v = subst (λ (o : Tried). Good how.mode ke how.limit k o) e (try-good ke t.a t.mult how k hk) in
+    noted-inside how.mode ke how.limit k t.pivots v g p) n k s w

@@ -12,6 +12,8 @@ use Rattle.model.specs.declared.Mode.TheVariants.{Fail, Lift}
 use Rattle.model.specs.declared.Greatest.{Greatest}
 use Rattle.model.specs.declared.Choice.{Choice}
 use Rattle.model.specs.declared.Choice.TheVariants as choice
+use Rattle.model.specs.declared.PivotTest.{PivotTest}
+use Rattle.model.specs.declared.PivotTest.TheVariants as by
 use Rattle.model.specs.declared.OneSettled.{OneSettled}
 use Rattle.model.specs.declared.TwoSettled.{TwoSettled}
 use Rattle.model.specs.declared.Unfit.{Unfit}
@@ -51,47 +53,47 @@ module _ (c : ℕ) (a : Mat) (k ke : ℕ) (hk : k < ke) (hc : ke ≤ c) where
 -- ---- the step
 
 module _ (c ke : ℕ) (a m : Mat) (hc : ke ≤ c) where
-  one-tried : (k kp : ℕ) (s : Option OneSettled) → k < ke → kp < ke → after_one ke (head_of c a) m k kp s ≡ cut_tried c (after_one ke a m k kp s)
-  one-tried k kp None hk hp = refl
-  one-tried k kp (Some s) hk hp =
+  one-tried : (t : PivotTest) (k kp : ℕ) (s : Option OneSettled) → k < ke → kp < ke → after_one ke (head_of c a) m t k kp s ≡ cut_tried c (after_one ke a m t k kp s)
+  one-tried t k kp None hk hp = refl
+  one-tried t k kp (Some s) hk hp =
       let x = exchanged k kp ke a in
       rw (exchanged-masked c k kp ke a hk hp hc, head_one-masked c ke k s.d x hk hc, kept_one-masked c ke k x m hc s.d)
 
-  two-tried : (k p kp : ℕ) (s : Result TwoSettled Unfit) → k + 1 < ke → kp < ke → after_two ke (head_of c a) m k p kp s ≡ cut_tried c (after_two ke a m k p kp s)
-  two-tried k p kp (Err Low) hk hp = refl
-  two-tried k p kp (Err OutOfRounds) hk hp = refl
-  two-tried k p kp (Ok s) hk hp =
+  two-tried : (t : PivotTest) (k p kp : ℕ) (s : Result TwoSettled Unfit) → k + 1 < ke → kp < ke → after_two ke (head_of c a) m t k p kp s ≡ cut_tried c (after_two ke a m t k p kp s)
+  two-tried t k p kp (Err Low) hk hp = refl
+  two-tried t k p kp (Err OutOfRounds) hk hp = refl
+  two-tried t k p kp (Ok s) hk hp =
       let x = exchanged (k + 1) kp ke a in
       rw (exchanged-masked c (k + 1) kp ke a hk hp hc, head_two-masked c ke k s.block x hc, kept_two-masked c ke k x m hc s.block)
 
-  single-tried : (mode : Mode) (k kp : ℕ) → k < ke → kp < ke
-      → after_one ke (head_of c a) m k kp (settled_one mode (head_of c a kp kp)) ≡ cut_tried c (after_one ke a m k kp (settled_one mode (a kp kp)))
-  single-tried mode k kp hk hp = rw (head_at c a kp kp (omega arith) (omega arith)) (one-tried k kp (settled_one mode (a kp kp)) hk hp)
+  single-tried : (mode : Mode) (t : PivotTest) (k kp : ℕ) → k < ke → kp < ke
+      → after_one ke (head_of c a) m t k kp (settled_one mode (head_of c a kp kp)) ≡ cut_tried c (after_one ke a m t k kp (settled_one mode (a kp kp)))
+  single-tried mode t k kp hk hp = rw (head_at c a kp kp (omega arith) (omega arith)) (one-tried t k kp (settled_one mode (a kp kp)) hk hp)
 
-  block-tried : (mode : Mode) (limit k p kp : ℕ) → k + 1 < ke → kp < ke
-      → try_block ke (head_of c a) m mode limit k p kp ≡ cut_tried c (try_block ke a m mode limit k p kp)
-  block-tried mode limit k p kp hk hp =
+  block-tried : (mode : Mode) (limit : ℕ) (t : PivotTest) (k p kp : ℕ) → k + 1 < ke → kp < ke
+      → try_block ke (head_of c a) m mode limit t k p kp ≡ cut_tried c (try_block ke a m mode limit t k p kp)
+  block-tried mode limit t k p kp hk hp =
       let x = exchanged (k + 1) kp ke a in
       rw (exchanged-masked c (k + 1) kp ke a hk hp hc) (
       let at : (i j : ℕ) → j ≤ i → i < ke → head_of c x i j ≡ x i j = λ i j h l. head_at c x i j h (omega arith) in
       rw (at k k (omega arith) (omega arith), at (k + 1) k (omega arith) hk, at (k + 1) (k + 1) (omega arith) hk)
-      (two-tried k p kp (settled_two mode limit (block_in x k)) hk hp))
+      (two-tried t k p kp (settled_two mode limit (block_in x k)) hk hp))
 
 module _ (c ke : ℕ) (a m : Mat) (hc : ke ≤ c) where
   -- a block's first exchange, then the block
-  pair-tried : (mode : Mode) (limit k p kp : ℕ) → k + 1 < ke → kp < ke → p < ke
-      → try_block ke (exchanged k p ke (head_of c a)) m mode limit k p kp ≡ cut_tried c (try_block ke (exchanged k p ke a) m mode limit k p kp)
-  pair-tried mode limit k p kp hk hp h =
-      rw (exchanged-masked c k p ke a (omega arith) h hc) (block-tried c ke (exchanged k p ke a) m hc mode limit k p kp hk hp)
+  pair-tried : (mode : Mode) (limit : ℕ) (t : PivotTest) (k p kp : ℕ) → k + 1 < ke → kp < ke → p < ke
+      → try_block ke (exchanged k p ke (head_of c a)) m mode limit t k p kp ≡ cut_tried c (try_block ke (exchanged k p ke a) m mode limit t k p kp)
+  pair-tried mode limit t k p kp hk hp h =
+      rw (exchanged-masked c k p ke a (omega arith) h hc) (block-tried c ke (exchanged k p ke a) m hc mode limit t k p kp hk hp)
 
   tried-by : (mode : Mode) (limit k : ℕ) (o : Choice) → k < ke → Chosen k ke o
       → try_by ke (head_of c a) m mode limit k o ≡ cut_tried c (try_by ke a m mode limit k o)
   tried-by Fail limit k choice.ZeroColumn hk p = refl
-  tried-by (Lift floor) limit k choice.ZeroColumn hk p = single-tried c ke a m hc (Lift floor) k k hk hk
-  tried-by Fail limit k (choice.Single kp) hk p = single-tried c ke a m hc Fail k kp.0 hk p.1
-  tried-by (Lift floor) limit k (choice.Single kp) hk p = single-tried c ke a m hc (Lift floor) k kp.0 hk p.1
-  tried-by Fail limit k (choice.Block q kp) hk p = pair-tried Fail limit k q.0 kp.0 (omega (arith, p.0, p.1)) p.1 p.3
-  tried-by (Lift floor) limit k (choice.Block q kp) hk p = pair-tried (Lift floor) limit k q.0 kp.0 (omega (arith, p.0, p.1)) p.1 p.3
+  tried-by (Lift floor) limit k choice.ZeroColumn hk p = single-tried c ke a m hc (Lift floor) by.ZeroColumn k k hk hk
+  tried-by Fail limit k (choice.Single t kp) hk p = single-tried c ke a m hc Fail t k kp.0 hk p.1
+  tried-by (Lift floor) limit k (choice.Single t kp) hk p = single-tried c ke a m hc (Lift floor) t k kp.0 hk p.1
+  tried-by Fail limit k (choice.Block t q kp) hk p = pair-tried Fail limit t k q.0 kp.0 (omega (arith, p.0, p.1)) p.1 p.3
+  tried-by (Lift floor) limit k (choice.Block t q kp) hk p = pair-tried (Lift floor) limit t k q.0 kp.0 (omega (arith, p.0, p.1)) p.1 p.3
 
   -- the cut goes through a step
   pub try-masked : (how : Pivoting) (k : ℕ) → k < ke → try_of ke (head_of c a) m how k ≡ cut_tried c (try_of ke a m how k)

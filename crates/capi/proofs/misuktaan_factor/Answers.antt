@@ -13,6 +13,7 @@ returns c =
     let blocks = same.blocks.name in
     let lifts = same.lifts.name in
     let amounts = same.amounts.name in
+    let tests = same.tests.name in
     let order = same.order.name in
     let marks = same.marks.name in
     let work = same.work.name in

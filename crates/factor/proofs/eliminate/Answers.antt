@@ -20,8 +20,8 @@ panels-requires c = let a = c.args in
     record {
       run_pre = run-pre a.c a.input.now (lent_in a.b.now) _ _ _ c.requires c.width.ensures same.panel.count same.work.count;
       turn_holds = holds-pre a.c a.input.now a.b.now _ c.requires same.d.count same.sub.count same.blocks.count refl
-          same.lifts.count same.amounts.count same.order.count;
-      noted_to = noted-none (length a.b.now.blocks.now) _ _ _ _ _ _ _ (ap (λ (b : Buffers). b.blocks) c.begin.ensures.begun) refl;
+          same.lifts.count same.amounts.count same.tests.count same.order.count;
+      noted_to = noted-none (length a.b.now.blocks.now) _ _ _ _ _ _ _ _ (ap (λ (b : Buffers). b.blocks) c.begin.ensures.begun) refl;
     }
 
 pub returns-clause-eliminated : goal.returns-clause-eliminated
@@ -35,4 +35,5 @@ returns-clause-eliminated c = let s = c.args.c in
     (run_of c.panels.result (between s.nrow new.panel (recorded_in new.r))) _ (start s.ncol (view s.nrow a.input.now)) c.width.ensures
     (start_is s a.input.now a.b.now begun _ c.requires c.begin.ensures.begun refl) c.panels.ensures.run)
     (search (rules, same.d.name)) (search (rules, same.sub.name)) (search (rules, same.blocks.name))
-    (search (rules, same.lifts.name)) (search (rules, same.amounts.name)) (search (rules, same.order.name))
+    (search (rules, same.lifts.name)) (search (rules, same.amounts.name)) (search (rules, same.tests.name))
+    (search (rules, same.order.name))

@@ -8,7 +8,7 @@ pub reaches-requires : goal.reaches-requires
 reaches-requires c = search (rules, unsigned-both)
 
 pub returns-then-reaches : goal.returns-then-reaches
-returns-then-reaches c = let h = chosen _ _ _ (Single _) (search rules) (search (rules, way-reached, c.reaches.ensures c.if-reaches.true)) in
+returns-then-reaches c = let h = chosen _ _ _ (Single _ _) (search rules) (search (rules, way-reached, c.reaches.ensures c.if-reaches.true)) in
     record { value = h.0; chosen_within = h.1 }
 
 pub returns-then-maximum : goal.returns-then-maximum
@@ -16,7 +16,7 @@ returns-then-maximum c = let h = chosen _ _ _ ZeroColumn (search rules) (search 
     record { value = h.0; chosen_within = h.1 }
 
 pub returns-then-own-threshold : goal.returns-then-own-threshold
-returns-then-own-threshold c = let h = chosen _ _ _ (Single _) (search rules) (search (rules, way-own)) in
+returns-then-own-threshold c = let h = chosen _ _ _ (Single _ _) (search rules) (search (rules, way-own)) in
     record { value = h.0; chosen_within = h.1 }
 
 pub returns : goal.returns
