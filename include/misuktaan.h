@@ -102,6 +102,27 @@ extern "C" {
 #define MISUKTAAN_LIMIT_MAX 64
 
 /*
+ * Test numbers: which of the pivot tests decided on a pivot. They compare numbers of the head as it stands when the
+ * position has its turn, from the position on up to the end of its panel. colmax is the greatest magnitude in the
+ * position's column, its diagonal left out, and imax the row that has it; rowmax is the greatest in row imax of the
+ * symmetric matrix, its diagonal left out; alpha is (1 + the root of 17) / 8, some 0.64. The greatest is found by
+ * squares: what vanishes when squared counts as zero. The first test that holds decides:
+ *
+ *   ZERO_COLUMN          |diagonal| and colmax are zero: a 1x1, with lifts alone; without, refusal 7.
+ *   OWN_DIAGONAL         |diagonal| >= alpha * colmax: a 1x1, nothing exchanged.
+ *   ROW                  |diagonal| >= (alpha * colmax) * (colmax / rowmax): a 1x1, nothing exchanged.
+ *   EXCHANGED_DIAGONAL   |diagonal of imax| >= alpha * rowmax: a 1x1 from row imax, which is exchanged with this one.
+ *   BLOCK                none of these: a block of this row and imax; both of its positions have the number.
+ *
+ * A lift changes none. Later versions may have more numbers.
+ */
+#define MISUKTAAN_TEST_ZERO_COLUMN 0
+#define MISUKTAAN_TEST_OWN_DIAGONAL 1
+#define MISUKTAAN_TEST_ROW 2
+#define MISUKTAAN_TEST_EXCHANGED_DIAGONAL 3
+#define MISUKTAAN_TEST_BLOCK 4
+
+/*
  * The most of the stack, in bytes, that an update takes, and any other call: measured, with room to spare
  * (tests/stack.c). If memcpy and memset are looked up at their first use and not at the program's start, that takes up
  * to 4 KiB more, once.
@@ -148,11 +169,13 @@ static inline size_t misuktaan_work_len(size_t nrow, size_t nb)
  *       blocks        ncol: 1 at a block's first position, else 0.
  *       lifted        ncol: 1 where a pivot was lifted (both positions of a block), else 0.
  *       amounts       ncol: what the lift added (both positions of a block), else +0.0.
+ *       tests         ncol: the test number of the pivot, MISUKTAAN_TEST_ZERO_COLUMN and so on; of a block at both
+ *                     positions. It belongs to the position, as d does, and not to a row of the input.
  *       order         nrow: the input row that each row of the output stands for; a tail row keeps its place.
  *       marks         nrow - ncol: 1 if the tail row holds a number that is not finite, else 0.
  * Work: work          misuktaan_work_len(nrow, nb): +0.0 after acceptance.
  * On entry the buffers of Out and Work may hold anything. After acceptance they hold what is said above; after 1 to 6
- * what they held on entry, bit for bit; after 7, 8, 9, 23 and 24 zeros.
+ * what they held on entry, bit for bit; after 7, 8, 9, 23 and 24 zeros, which are then no test numbers.
  */
 struct misuktaan_outcome misuktaan_factor(
     size_t ncol, size_t nrow, size_t nb, bool lift, double floor, size_t limit,
@@ -163,6 +186,7 @@ struct misuktaan_outcome misuktaan_factor(
     uint8_t *blocks, size_t blocks_len,
     uint8_t *lifted, size_t lifted_len,
     double *amounts, size_t amounts_len,
+    uint8_t *tests, size_t tests_len,
     size_t *order, size_t order_len,
     uint8_t *marks, size_t marks_len,
     double *work, size_t work_len);

@@ -76,13 +76,13 @@ static struct misuktaan_outcome factor(void)
 {
     return misuktaan_factor(size[0], size[1], size[2], lift_mode, lift, size[4], LENT(double, 0), LENT(double, 1),
                             LENT(double, 2), LENT(double, 3), LENT(uint8_t, 4), LENT(uint8_t, 5), LENT(double, 6),
-                            LENT(size_t, 7), LENT(uint8_t, 8), LENT(double, 9));
+                            LENT(uint8_t, 7), LENT(size_t, 8), LENT(uint8_t, 9), LENT(double, 10));
 }
 
 static size_t factor_stated(size_t buffer)
 {
     size_t ncol = size[0], nrow = size[1], tail = nrow < ncol ? 0 : nrow - ncol;
-    const size_t len[] = {nrow * ncol, nrow * ncol, ncol, ncol, ncol, ncol, ncol, nrow, tail,
+    const size_t len[] = {nrow * ncol, nrow * ncol, ncol, ncol, ncol, ncol, ncol, ncol, nrow, tail,
                           misuktaan_work_len(nrow, size[2])};
     return len[buffer];
 }
@@ -136,8 +136,8 @@ static const struct call calls[] = {
     {"factor",
      {"ncol", "nrow", "nb", "lift", "limit"},
      {{"input", F64, KEPT}, {"panel", F64, WRITTEN}, {"d", F64, WRITTEN}, {"sub", F64, WRITTEN},
-      {"blocks", BYTE, WRITTEN}, {"lifted", BYTE, WRITTEN}, {"amounts", F64, WRITTEN}, {"order", SIZE, WRITTEN},
-      {"marks", BYTE, WRITTEN}, {"work", F64, WORK}},
+      {"blocks", BYTE, WRITTEN}, {"lifted", BYTE, WRITTEN}, {"amounts", F64, WRITTEN}, {"tests", BYTE, WRITTEN},
+      {"order", SIZE, WRITTEN}, {"marks", BYTE, WRITTEN}, {"work", F64, WORK}},
      factor, factor_stated, factor_also},
     {"inertia", {NULL}, {{"d", F64, KEPT}, {"sub", F64, KEPT}, {"blocks", BYTE, KEPT}}, inertia, NULL, NULL},
     {"assemble",

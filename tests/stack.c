@@ -95,7 +95,7 @@ enum { COLS = MISUKTAAN_COLUMNS_MAX, ROWS = MISUKTAAN_ROWS_MAX, WIDTH = MISUKTAA
 enum { NUMBERS = ROWS * COLS, WORK = 3 * ROWS * (WIDTH + 1) + WIDTH * WIDTH };
 
 static double input[NUMBERS], panel[NUMBERS], d[COLS], sub[COLS], amounts[COLS], work[WORK];
-static uint8_t blocks[COLS], lifted[COLS], marks[ROWS - COLS];
+static uint8_t blocks[COLS], lifted[COLS], tests[COLS], marks[ROWS - COLS];
 static size_t order[ROWS];
 
 /* The settings of the next call. */
@@ -106,8 +106,8 @@ static double least;
 static struct misuktaan_outcome factor(void)
 {
     return misuktaan_factor(COLS, ROWS, nb, lift_mode, least, limit, input, NUMBERS, panel, NUMBERS, d, COLS, sub, COLS,
-                            blocks, COLS, lifted, COLS, amounts, COLS, order, ROWS, marks, ROWS - COLS, work,
-                            misuktaan_work_len(ROWS, nb));
+                            blocks, COLS, lifted, COLS, amounts, COLS, tests, COLS, order, ROWS, marks, ROWS - COLS,
+                            work, misuktaan_work_len(ROWS, nb));
 }
 
 /* Row i, column j of the input, i >= j. */

@@ -92,7 +92,7 @@ static double infinite_last(size_t i, size_t j)
     return i == 20 && j == 20 ? INFINITY : dominant(i, j);
 }
 
-/* A last column of zeros, and one whose pivot has no finite reciprocal. */
+/* A last column of zeros, which is refused without lifts; and one whose pivot has no finite reciprocal. */
 static double zero_last(size_t i, size_t j)
 {
     return i != j ? 0.0 : i == 20 ? 0.0 : 1.0;
@@ -142,6 +142,7 @@ static const struct call calls[] = {
     {"the largest node", COLS, ROWS, WIDTH, FAIL, dominant, 0},
     {"21 x 40: lifts", 21, 40, 6, LIFT(0.5, MISUKTAAN_LIMIT_MAX), faint, 0},
     {"21 x 40: lifts of blocks", 21, 40, 21, LIFT(3.0, MISUKTAAN_LIMIT_MAX), block_last, 0},
+    {"21 x 50: a column of zeros, lifted", 21, 50, 8, LIFT(0.5, MISUKTAAN_LIMIT_MAX), zero_last, 0},
     {"21 x 21: a sum that overflows", 21, 21, 8, FAIL, great, 0},
     {"21 x 60: marks", 21, 60, 21, FAIL, long_tail, 0},
     {"6: a not-a-number", 40, 60, 16, FAIL, not_finite, 6},
@@ -153,9 +154,9 @@ static const struct call calls[] = {
 
 enum { CALLS = sizeof calls / sizeof calls[0] };
 
-enum { PANEL, D, SUB, BLOCKS, LIFTED, AMOUNTS, ORDER, MARKS, WORK, BUFFERS };
+enum { PANEL, D, SUB, BLOCKS, LIFTED, AMOUNTS, TESTS, ORDER, MARKS, WORK, BUFFERS };
 
-static const size_t width[BUFFERS] = {8, 8, 8, 1, 1, 8, sizeof(size_t), 1, 8};
+static const size_t width[BUFFERS] = {8, 8, 8, 1, 1, 8, 1, sizeof(size_t), 1, 8};
 
 /* A call's buffers, and what it left. */
 struct made {
@@ -178,7 +179,7 @@ static void *memory(size_t n, size_t size)
 /* The buffers of a call. Its lower positions are written, and nothing else. */
 static struct made lent(const struct call *c)
 {
-    const size_t len[BUFFERS] = {c->nrow * c->ncol, c->ncol, c->ncol, c->ncol, c->ncol, c->ncol, c->nrow,
+    const size_t len[BUFFERS] = {c->nrow * c->ncol, c->ncol, c->ncol, c->ncol, c->ncol, c->ncol, c->ncol, c->nrow,
                                  c->nrow - c->ncol, misuktaan_work_len(c->nrow, c->nb)};
     struct made m = {.input = memory(c->nrow * c->ncol, 8)};
     for (int b = 0; b < BUFFERS; b++) {
@@ -209,8 +210,8 @@ static void make(const struct call *c, struct made *m)
     feclearexcept(FE_ALL_EXCEPT);
     m->outcome = misuktaan_factor(c->ncol, c->nrow, c->nb, c->lift_mode, c->floor, c->limit, m->input, len[PANEL],
                                   at[PANEL], len[PANEL], at[D], len[D], at[SUB], len[SUB], at[BLOCKS], len[BLOCKS],
-                                  at[LIFTED], len[LIFTED], at[AMOUNTS], len[AMOUNTS], at[ORDER], len[ORDER],
-                                  at[MARKS], len[MARKS], at[WORK], len[WORK]);
+                                  at[LIFTED], len[LIFTED], at[AMOUNTS], len[AMOUNTS], at[TESTS], len[TESTS],
+                                  at[ORDER], len[ORDER], at[MARKS], len[MARKS], at[WORK], len[WORK]);
     m->flags = fetestexcept(FE_ALL_EXCEPT);
 }
 
@@ -291,6 +292,9 @@ static bool same(const struct call *c, const struct made *m, const struct made *
 static bool blocks, lifts, marks, exchanges, panels, inexact;
 static bool solved_blocks, solved_exchanges, solved_ones;
 
+/* By whether the call had lifts: which bytes stood among its test numbers. */
+static bool decided[2][UINT8_MAX + 1];
+
 static bool holds(const void *at, size_t n)
 {
     const uint8_t *bytes = at;
@@ -305,6 +309,7 @@ static bool holds(const void *at, size_t n)
 static void noted(const struct call *c, const struct made *m)
 {
     const size_t *order = m->at[ORDER];
+    const uint8_t *tests = m->at[TESTS];
     blocks |= holds(m->at[BLOCKS], m->len[BLOCKS]);
     lifts |= holds(m->at[LIFTED], m->len[LIFTED]);
     marks |= holds(m->at[MARKS], m->len[MARKS]);
@@ -313,6 +318,21 @@ static void noted(const struct call *c, const struct made *m)
     for (size_t i = 0; i < c->nrow; i++) {
         exchanges |= order[i] != i;
     }
+    for (size_t k = 0; k < c->ncol; k++) {
+        decided[c->lift_mode][tests[k]] = true;
+    }
+}
+
+/* Whether the test numbers of the accepted calls are all that there are, and no other: that of a zero column stands with
+ * lifts alone, the four others without them too. */
+static bool every_test(void)
+{
+    bool all = decided[true][MISUKTAAN_TEST_ZERO_COLUMN] && !decided[false][MISUKTAAN_TEST_ZERO_COLUMN];
+    for (size_t test = MISUKTAAN_TEST_OWN_DIAGONAL; test <= UINT8_MAX; test++) {
+        const bool is_test = test <= MISUKTAAN_TEST_BLOCK;
+        all = all && decided[false][test] == is_test && (is_test || !decided[true][test]);
+    }
+    return all;
 }
 
 /* ---- the solve of a root node that was factored */
@@ -452,6 +472,7 @@ static void compare_all(void)
         compare(&calls[i]);
     }
     check(blocks && lifts && marks && exchanges && panels && inexact, "the accepted calls", "every kind");
+    check(every_test(), "the accepted calls", "every test number");
     check(solved_blocks && solved_exchanges && solved_ones, "the solves", "every kind");
 }
 

@@ -63,8 +63,8 @@ struct Call {
     root: Range<usize>,
     panel: Range<usize>,
     work: Range<usize>,
-    /// d, sub, blocks, lifted, amounts, order.
-    record: [Range<usize>; 6],
+    /// d, sub, blocks, lifted, amounts, tests, order.
+    record: [Range<usize>; 7],
     layer: Layer,
     /// Where the panel ends that is worked.
     ke: usize,
@@ -83,7 +83,7 @@ struct Call {
 impl Call {
     /// From the numbers of the driver's line.
     fn new(words: &[usize], root: Range<usize>) -> Call {
-        let &[ncol, nrow, nb, entry, panel, work, d, sub, blocks, lifted, amounts, order] = words else {
+        let &[ncol, nrow, nb, entry, panel, work, d, sub, blocks, lifted, amounts, tests, order] = words else {
             panic!("the driver's line has {} numbers", words.len());
         };
         let numbers = |from: usize, n: usize| from..from + 8 * n;
@@ -103,6 +103,7 @@ impl Call {
                 bytes(blocks),
                 bytes(lifted),
                 numbers(amounts, ncol),
+                bytes(tests),
                 numbers(order, nrow),
             ],
             layer: Layer::Before,

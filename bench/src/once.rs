@@ -40,6 +40,7 @@ fn factor(shape: &Shape, panel: &[f64]) {
         f.blocks.as_ptr().addr(),
         f.lifted.as_ptr().addr(),
         f.amounts.as_ptr().addr(),
+        f.tests.as_ptr().addr(),
         f.order.as_ptr().addr(),
     ];
     say(format!("call {ncol} {nrow} {nb} {}\n", addresses.map(|at| at.to_string()).join(" ")));

@@ -87,14 +87,15 @@ int main(void)
                                        0.0, 0.0, 8.0, -4.0, 2.0, 0.0, 0.0, 0.0, 2.0, -6.0};
     double panel[NROW * NCOL], d[NCOL], sub[NCOL], amounts[NCOL], work[3 * NROW * (NB + 1) + NB * NB];
     double factored[NROW * NCOL], d_back[NCOL], sub_back[NCOL];
-    uint8_t blocks[NCOL], lifted[NCOL], marks[NROW - NCOL], blocks_back[NCOL];
+    uint8_t blocks[NCOL], lifted[NCOL], tests[NCOL], marks[NROW - NCOL], blocks_back[NCOL];
     size_t order[NROW], order_back[NCOL];
     int32_t list[NCOL];
 
     /* the head's order is the first NCOL places of the node's */
     if (!accepted(misuktaan_factor(
             NCOL, NROW, NB, false, 0.0, 0, input, NROW * NCOL, panel, NROW * NCOL, d, NCOL, sub, NCOL, blocks, NCOL,
-            lifted, NCOL, amounts, NCOL, order, NROW, marks, NROW - NCOL, work, misuktaan_work_len(NROW, NB)))
+            lifted, NCOL, amounts, NCOL, tests, NCOL, order, NROW, marks, NROW - NCOL, work,
+            misuktaan_work_len(NROW, NB)))
         || !accepted(misuktaan_to_lapack(NCOL, order, NCOL, blocks, NCOL, list, NCOL))
         || !accepted(misuktaan_from_lapack(NCOL, list, NCOL, order_back, NCOL, blocks_back, NCOL))) {
         return 1;

@@ -31,14 +31,14 @@ static bool accepted(struct misuktaan_outcome o)
 /* Factors the root without lifts. A root has no tail rows, and so no marks, but still no pointer may be null. */
 static bool factor(const double *input, struct factors *f)
 {
-    uint8_t lifted[COLUMNS];
+    uint8_t lifted[COLUMNS], tests[COLUMNS];
     uint8_t no_marks[1];
     double amounts[COLUMNS];
     double work[3 * COLUMNS * (WIDTH + 1) + WIDTH * WIDTH];
     return accepted(misuktaan_factor(
         COLUMNS, COLUMNS, WIDTH, false, 0.0, 0, input, COLUMNS * COLUMNS, f->panel, COLUMNS * COLUMNS, f->d, COLUMNS,
-        f->sub, COLUMNS, f->blocks, COLUMNS, lifted, COLUMNS, amounts, COLUMNS, f->order, COLUMNS, no_marks, 0, work,
-        misuktaan_work_len(COLUMNS, WIDTH)));
+        f->sub, COLUMNS, f->blocks, COLUMNS, lifted, COLUMNS, amounts, COLUMNS, tests, COLUMNS, f->order, COLUMNS,
+        no_marks, 0, work, misuktaan_work_len(COLUMNS, WIDTH)));
 }
 
 /* Solves the root's system, and prints the vector: the solution, or after a refusal the right side as it was. */

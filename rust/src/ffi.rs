@@ -47,6 +47,8 @@ unsafe extern "C" {
         lifted_len: usize,
         amounts: *mut f64,
         amounts_len: usize,
+        tests: *mut u8,
+        tests_len: usize,
         order: *mut usize,
         order_len: usize,
         marks: *mut u8,
@@ -140,7 +142,7 @@ unsafe extern "C" {
 #[rustfmt::skip]
 pub fn factor(s: &Settings, input: &[f64], lent: Buffers<'_>) -> Outcome {
     let (lift, floor) = s.mode.flag_and_floor();
-    let Buffers { panel, d, sub, blocks, lifted, amounts, order, marks, work } = lent;
+    let Buffers { panel, d, sub, blocks, lifted, amounts, tests, order, marks, work } = lent;
     // SAFETY: each pointer comes with the length of its own slice. The slices are live for the call, and no `&mut`
     // of them overlaps another slice. The call reads and writes within the lengths, whatever they are, and keeps no
     // pointer.
@@ -154,6 +156,7 @@ pub fn factor(s: &Settings, input: &[f64], lent: Buffers<'_>) -> Outcome {
             blocks.as_mut_ptr(), blocks.len(),
             lifted.as_mut_ptr(), lifted.len(),
             amounts.as_mut_ptr(), amounts.len(),
+            tests.as_mut_ptr(), tests.len(),
             order.as_mut_ptr(), order.len(),
             marks.as_mut_ptr(), marks.len(),
             work.as_mut_ptr(), work.len(),

@@ -167,6 +167,80 @@ impl Mode {
     }
 }
 
+/// Which of the pivot tests decided on a pivot. A factor call leaves its number at the pivot's position, in
+/// [`Buffers::tests`].
+///
+/// The tests compare numbers of the head as it stands when the position has its turn, from the position on up to the
+/// end of its panel. colmax is the greatest magnitude in the position's column, its diagonal left out, and imax the row
+/// that has it; rowmax is the greatest in row imax of the symmetric matrix, its diagonal left out; alpha is (1 + √17)/8,
+/// some 0.64. The greatest is found by squares: what vanishes when squared counts as zero. The first test that holds
+/// decides, in the order of the numbers. A lift changes none.
+///
+/// Later versions may have more tests, so that a `match` needs an arm for those too. What to tell a caller who asks why
+/// a pivot won: `docs/GUIDE.md` of the repository.
+///
+/// ```
+/// use misuktaan::{factor, Factors, Mode, PivotTest, Settings};
+///
+/// // [1, 2; 8]: 1 is small beside 2, and 8 is not
+/// let settings = Settings { ncol: 2, nrow: 2, nb: 2, mode: Mode::Fail, limit: 1 };
+/// let mut f = Factors::zeros(2, 2, 2);
+/// factor(&settings, &[1.0, 2.0, 0.0, 8.0], f.lend())?;
+/// assert_eq!(f.tests, [3, 1]);
+/// let test = PivotTest::from_number(f.tests[0]);
+/// assert_eq!(test, Some(PivotTest::ExchangedDiagonal));
+/// assert_eq!(test.map_or("?".to_string(), |test| test.to_string()), "exchanged diagonal");
+/// # Ok::<(), misuktaan::Refusal>(())
+/// ```
+#[derive(Clone, Copy, Debug, PartialEq, Eq, Hash)]
+#[non_exhaustive]
+#[repr(u8)]
+pub enum PivotTest {
+    /// The diagonal and colmax are zero. A 1x1, in [`Mode::Lift`] alone: [`Mode::Fail`] refuses with 7.
+    ZeroColumn = 0,
+    /// |diagonal| ≥ alpha·colmax. A 1x1, nothing exchanged.
+    OwnDiagonal = 1,
+    /// |diagonal| ≥ (alpha·colmax)·(colmax/rowmax). A 1x1, nothing exchanged.
+    RowTest = 2,
+    /// |diagonal of imax| ≥ alpha·rowmax. A 1x1 from row imax, which is exchanged with the position's.
+    ExchangedDiagonal = 3,
+    /// None of the others holds. A block of the position's row and imax; both of its positions have the number.
+    Block = 4,
+}
+
+impl PivotTest {
+    /// The test of a number, as [`Buffers::tests`] has it; `None` of a byte that is no test's number. What a refused call
+    /// left there are no test numbers, though the zeros of a run refusal look like those of [`PivotTest::ZeroColumn`].
+    pub const fn from_number(number: u8) -> Option<PivotTest> {
+        match number {
+            0 => Some(PivotTest::ZeroColumn),
+            1 => Some(PivotTest::OwnDiagonal),
+            2 => Some(PivotTest::RowTest),
+            3 => Some(PivotTest::ExchangedDiagonal),
+            4 => Some(PivotTest::Block),
+            _ => None,
+        }
+    }
+
+    /// Its number.
+    pub const fn number(self) -> u8 {
+        self as u8
+    }
+}
+
+/// The test in words, as one would read it out.
+impl fmt::Display for PivotTest {
+    fn fmt(&self, f: &mut fmt::Formatter<'_>) -> fmt::Result {
+        f.pad(match self {
+            PivotTest::ZeroColumn => "zero column",
+            PivotTest::OwnDiagonal => "own diagonal",
+            PivotTest::RowTest => "row test",
+            PivotTest::ExchangedDiagonal => "exchanged diagonal",
+            PivotTest::Block => "block",
+        })
+    }
+}
+
 /// The settings of a factor call.
 #[derive(Clone, Copy, Debug, PartialEq)]
 pub struct Settings {
@@ -208,6 +282,8 @@ pub struct Buffers<'a> {
     pub lifted: &'a mut [u8],
     /// `ncol`: what the lift added, else +0.0.
     pub amounts: &'a mut [f64],
+    /// `ncol`: the number of the test that decided on the pivot ([`PivotTest`]), of a block at both positions.
+    pub tests: &'a mut [u8],
     /// `nrow`: the input row that each row of the output stands for.
     pub order: &'a mut [usize],
     /// `nrow - ncol`: 1 if the tail row holds a number that is not finite, else 0.
@@ -232,6 +308,8 @@ pub struct Factors {
     /// As in [`Buffers`].
     pub amounts: Vec<f64>,
     /// As in [`Buffers`].
+    pub tests: Vec<u8>,
+    /// As in [`Buffers`].
     pub order: Vec<usize>,
     /// As in [`Buffers`].
     pub marks: Vec<u8>,
@@ -249,6 +327,7 @@ impl Factors {
             blocks: vec![0; ncol],
             lifted: vec![0; ncol],
             amounts: vec![0.0; ncol],
+            tests: vec![0; ncol],
             order: vec![0; nrow],
             marks: vec![0; nrow.saturating_sub(ncol)],
             work: vec![0.0; work_len(nrow, nb)],
@@ -264,6 +343,7 @@ impl Factors {
             blocks: &mut self.blocks,
             lifted: &mut self.lifted,
             amounts: &mut self.amounts,
+            tests: &mut self.tests,
             order: &mut self.order,
             marks: &mut self.marks,
             work: &mut self.work,

@@ -46,7 +46,7 @@ const CALLS: [Call; 7] = [
         name: "factor",
         settings: &["ncol", "nrow", "nb", "lift", "limit"],
         buffers: "panel:f64:written d:f64:written sub:f64:written blocks:u8:written lifted:u8:written \
-                  amounts:f64:written order:usize:written marks:u8:written work:f64:work input:f64",
+                  amounts:f64:written tests:u8:written order:usize:written marks:u8:written work:f64:work input:f64",
         make: factor_call,
     },
     Call { name: "inertia", settings: &[], buffers: "d:f64 sub:f64 blocks:u8", make: inertia_call },
@@ -91,6 +91,7 @@ fn factor_call(c: &Case) -> (Result<Report, Refusal>, Buffers<'static>) {
         blocks: c.list("blocks", |x| x as u8),
         lifted: c.list("lifted", |x| x as u8),
         amounts: c.numbers("amounts"),
+        tests: c.list("tests", |x| x as u8),
         order: c.list("order", |x| x as usize),
         marks: c.list("marks", |x| x as u8),
         work: c.numbers("work"),

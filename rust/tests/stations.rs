@@ -20,7 +20,7 @@ fn the_program_s_example() {
     assert_eq!(f.order, [1, 0]);
     assert_eq!(bits(&f.d), [0x4020_0000_0000_0000, 0x3FE0_0000_0000_0000]);
     assert_eq!((bits(&f.sub), bits(&f.amounts)), (vec![0; 2], vec![0; 2]));
-    assert_eq!((&f.blocks[..], &f.lifted[..]), (&[0, 0][..], &[0, 0][..]));
+    assert_eq!((&f.blocks[..], &f.lifted[..], &f.tests[..]), (&[0, 0][..], &[0, 0][..], &[3, 1][..]));
     assert_eq!((f.panel[0], f.panel[1], f.panel[3]), (8.0, 0.25, 0.5));
     assert_eq!(bits(&f.work), vec![0; f.work.len()]);
 }
@@ -31,6 +31,7 @@ fn no_columns() {
     assert_eq!(call.run().unwrap().inertia, counts(0, 0, 0));
     assert_eq!(call.factors.order, [0, 1, 2]);
     assert_eq!(call.factors.marks, [0, 0, 0]);
+    assert_eq!(call.factors.tests, []);
 }
 
 #[test]
@@ -38,18 +39,19 @@ fn one_column_over_a_tail() {
     let mut call = Call::new(1, 2, &[4.0, 6.0]);
     assert_eq!(call.run().unwrap().inertia, counts(1, 0, 0));
     assert_eq!((&call.factors.d[..], &call.factors.panel[..]), (&[4.0][..], &[4.0, 1.5][..]));
-    assert_eq!(call.factors.marks, [0]);
+    assert_eq!((&call.factors.marks[..], &call.factors.tests[..]), (&[0][..], &[1][..]));
 }
 
 #[test]
 fn lifts_of_one_column() {
-    for (d, floor, lifted, amount, byte) in
-        [(0.0, 0.5, 0.5, 0.5, 1), (-0.25, 0.5, -0.5, -0.25, 1), (-0.5, 0.5, -0.5, 0.0, 0)]
+    for (d, floor, lifted, amount, byte, test) in
+        [(0.0, 0.5, 0.5, 0.5, 1, 0), (-0.25, 0.5, -0.5, -0.25, 1, 1), (-0.5, 0.5, -0.5, 0.0, 0, 1)]
     {
         let mut call = Call::new(1, 1, &[d]).lifting(floor, 1);
         call.run().unwrap();
         let f = &call.factors;
         assert_eq!((f.d[0], f.panel[0], f.amounts[0], f.lifted[0]), (lifted, lifted, amount, byte));
+        assert_eq!(f.tests, [test]);
     }
 }
 
@@ -59,10 +61,12 @@ fn a_block_and_its_panels() {
     let mut block = Call::new(2, 2, &lower);
     assert_eq!(block.run().unwrap().inertia, counts(1, 1, 0));
     assert_eq!((&block.factors.blocks[..], &block.factors.sub[..]), (&[1, 0][..], &[1.0, 0.0][..]));
+    assert_eq!(block.factors.tests, [4, 4]);
     Call::wide(2, 2, 1, &lower).given_up(7, 0);
     let mut narrow = Call::wide(2, 2, 1, &lower).lifting(0.5, 1);
     narrow.run().unwrap();
     assert_eq!((&narrow.factors.d[..], narrow.factors.panel[1]), (&[0.5, -2.0][..], 2.0));
+    assert_eq!(narrow.factors.tests, [0, 1]);
 }
 
 #[test]
@@ -73,6 +77,41 @@ fn rounds_of_a_block() {
     assert_eq!((report.rounds, report.inertia), (2, counts(2, 0, 0)));
     assert_eq!(call.factors.d, [4.0, 4.0]);
     assert_eq!((&call.factors.amounts[..], &call.factors.lifted[..]), (&[4.0, 4.0][..], &[1, 1][..]));
+    assert_eq!(call.factors.tests, [4, 4]);
+}
+
+#[test]
+fn tests_that_decided() {
+    let cases: [(&[f64], &[u8]); 4] = [
+        (&[1.0, 2.0, 8.0], &[3, 1]),
+        (&[0.0, 1.0, 0.0], &[4, 4]),
+        (&[0.5, 1.0, 0.0, 0.0, 8.0, 0.0], &[2, 4, 4]),
+        (&[1e-200, 1e-200, 1.0], &[1, 1]),
+    ];
+    for (lower, tests) in cases {
+        let mut call = Call::new(tests.len(), tests.len(), lower);
+        call.run().unwrap();
+        assert_eq!(call.factors.tests, tests);
+    }
+}
+
+/// Without lifts the same node is refused with 23: the row test takes a 1x1 of zero.
+#[test]
+fn a_lift_changes_no_test_number() {
+    let lower = [0.0, 1e-160, 0.0, 0.0, 1e150, 0.0];
+    Call::new(3, 3, &lower).given_up(23, 0);
+    let mut call = Call::new(3, 3, &lower).lifting(0.5, 1);
+    call.run().unwrap();
+    let f = &call.factors;
+    assert_eq!((f.d[0], f.amounts[0], f.lifted[0], f.tests[0]), (0.5, 0.5, 1, 2));
+}
+
+/// The head of the program's example over tail rows far greater than it.
+#[test]
+fn tail_rows_have_no_part_in_test_numbers() {
+    let mut call = Call::new(2, 4, &[1.0, 2.0, 1e9, 5.0, 8.0, -1e9, 0.0]);
+    call.run().unwrap();
+    assert_eq!((&call.factors.tests[..], &call.factors.order[..]), (&[3, 1][..], &[1, 0, 2, 3][..]));
 }
 
 #[test]

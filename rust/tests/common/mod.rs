@@ -44,7 +44,8 @@ impl Call {
         let mut factors = Factors::zeros(ncol, nrow, nb);
         let numbers = [&mut factors.panel, &mut factors.d, &mut factors.sub, &mut factors.amounts, &mut factors.work];
         numbers.into_iter().for_each(|list| *list = patterns(list.len()));
-        [&mut factors.blocks, &mut factors.lifted, &mut factors.marks].into_iter().for_each(|list| list.fill(0xA5));
+        let bytes = [&mut factors.blocks, &mut factors.lifted, &mut factors.tests, &mut factors.marks];
+        bytes.into_iter().for_each(|list| list.fill(0xA5));
         factors.order.fill(usize::MAX);
         Call { settings, input, factors }
     }
@@ -71,6 +72,7 @@ impl Call {
             wide(&f.blocks),
             wide(&f.lifted),
             bits(&f.amounts),
+            wide(&f.tests),
             f.order.iter().map(|&x| x as u64).collect(),
             wide(&f.marks),
             bits(&f.work),
