@@ -1,7 +1,8 @@
 /*
- * A whole use of the library: a node is factored and its inertia counted; then a target is assembled, updated by a
- * factored descendant, and factored; then an update is refused. `run` beside this file compiles it and compares what it
- * prints with example.stdout. Numbers of a factor are printed by their bits, as the program node prints them.
+ * A whole use of the library: a node is factored, the tests that decided on its pivots are named, and its inertia is
+ * counted; then a target is assembled, updated by a factored descendant, and factored; then an update is refused. `run`
+ * beside this file compiles it and compares what it prints with example.stdout. Numbers of a factor are printed by their
+ * bits, as the program node prints them.
  */
 #include "misuktaan.h"
 
@@ -20,6 +21,7 @@ struct factors {
     uint8_t blocks[COLUMNS];
     uint8_t lifted[COLUMNS];
     double amounts[COLUMNS];
+    uint8_t tests[COLUMNS];
     size_t order[ROWS];
     uint8_t marks[ROWS];
     double work[3 * ROWS * (WIDTH + 1) + WIDTH * WIDTH];
@@ -33,6 +35,25 @@ static uint64_t bits(double x)
         memcpy(&u, &x, sizeof u);
     }
     return u;
+}
+
+/* Which of the pivot tests has this number. */
+static const char *test_named(uint8_t test)
+{
+    switch (test) {
+    case MISUKTAAN_TEST_ZERO_COLUMN:
+        return "zero column";
+    case MISUKTAAN_TEST_OWN_DIAGONAL:
+        return "own diagonal";
+    case MISUKTAAN_TEST_ROW:
+        return "row test";
+    case MISUKTAAN_TEST_EXCHANGED_DIAGONAL:
+        return "exchanged diagonal";
+    case MISUKTAAN_TEST_BLOCK:
+        return "block";
+    default:
+        return "a test that this program does not know";
+    }
 }
 
 /* Whether the call was accepted; a refusal is printed. */
@@ -52,8 +73,8 @@ static void print_factors(size_t ncol, size_t nrow, const struct factors *f, str
     }
     printf("\n");
     for (size_t k = 0; k < ncol; k++) {
-        printf("pivot %zu %u %016" PRIX64 " %016" PRIX64 " %u %016" PRIX64 "\n", k, f->blocks[k], bits(f->d[k]),
-               bits(f->sub[k]), f->lifted[k], bits(f->amounts[k]));
+        printf("pivot %zu %u %016" PRIX64 " %016" PRIX64 " %u %016" PRIX64 " %u\n", k, f->blocks[k], bits(f->d[k]),
+               bits(f->sub[k]), f->lifted[k], bits(f->amounts[k]), f->tests[k]);
     }
     printf("inertia %zu %zu %zu\n", o.positive, o.negative, o.zero);
     for (size_t i = 0; i < nrow; i++) {
@@ -73,8 +94,8 @@ static struct misuktaan_outcome factor(size_t ncol, size_t nrow, const double *i
 {
     struct misuktaan_outcome o = misuktaan_factor(
         ncol, nrow, WIDTH, false, 0.0, 0, input, nrow * ncol, f->panel, nrow * ncol, f->d, ncol, f->sub, ncol,
-        f->blocks, ncol, f->lifted, ncol, f->amounts, ncol, f->order, nrow, f->marks, nrow - ncol, f->work,
-        misuktaan_work_len(nrow, WIDTH));
+        f->blocks, ncol, f->lifted, ncol, f->amounts, ncol, f->tests, ncol, f->order, nrow, f->marks, nrow - ncol,
+        f->work, misuktaan_work_len(nrow, WIDTH));
     if (accepted(o)) {
         print_factors(ncol, nrow, f, o);
     }
@@ -97,6 +118,11 @@ static void factor_square(void)
     struct factors f;
     printf("-- a node of two columns\n");
     factor(2, 2, square, &f);
+
+    printf("-- which tests decided on its pivots\n");
+    for (size_t k = 0; k < 2; k++) {
+        printf("position %zu, row %zu: %s\n", k, f.order[k], test_named(f.tests[k]));
+    }
 
     printf("-- its inertia, from D alone\n");
     struct misuktaan_outcome o = misuktaan_inertia(f.d, 2, f.sub, 2, f.blocks, 2);
