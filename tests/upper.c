@@ -323,8 +323,8 @@ static void noted(const struct call *c, const struct made *m)
     }
 }
 
-/* Whether the test numbers of the accepted calls are all that there are, and no other: that of a zero column stands with
- * lifts alone, the four others without them too. */
+/* Whether the accepted calls had every test number and no other byte: that of a zero column with lifts alone, the four
+ * others without lifts too. */
 static bool every_test(void)
 {
     bool all = decided[true][MISUKTAAN_TEST_ZERO_COLUMN] && !decided[false][MISUKTAAN_TEST_ZERO_COLUMN];

@@ -3,8 +3,8 @@
  * LIBRARY.., each a shared object; where one has no solve, none is timed, and one whose factor call has no test numbers
  * is called without them. On a node the builds take turns, over and over, at each of several depths of the stack, since
  * where a call's own numbers lie moves its time; the best time at each depth counts. Prints a line for each call and
- * shape: the call's name, the node's columns, rows and panel width, then the mean ticks of the processor's clock of each
- * build.
+ * shape: the call's name, the node's columns, rows and panel width, then the mean ticks of the processor's clock of
+ * each build.
  */
 #include "misuktaan.h"
 

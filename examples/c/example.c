@@ -1,8 +1,8 @@
 /*
  * A whole use of the library: a node is factored, the tests that decided on its pivots are named, and its inertia is
  * counted; then a target is assembled, updated by a factored descendant, and factored; then an update is refused. `run`
- * beside this file compiles it and compares what it prints with example.stdout. Numbers of a factor are printed by their
- * bits, as the program node prints them.
+ * beside this file compiles it and compares what it prints with example.stdout. Numbers of a factor are printed by
+ * their bits, as the program node prints them.
  */
 #include "misuktaan.h"
 

@@ -172,8 +172,8 @@ impl Mode {
 ///
 /// The tests compare numbers of the head as it stands when the position has its turn, from the position on up to the
 /// end of its panel. colmax is the greatest magnitude in the position's column, its diagonal left out, and imax the row
-/// that has it; rowmax is the greatest in row imax of the symmetric matrix, its diagonal left out; alpha is (1 + √17)/8,
-/// some 0.64. The greatest is found by squares: what vanishes when squared counts as zero. The first test that holds
+/// that has it; rowmax is the greatest in row imax of the symmetric matrix, its diagonal left out; alpha is some 0.64,
+/// (1 + √17)/8. The greatest is found by squares: what vanishes when squared counts as zero. The first test that holds
 /// decides, in the order of the numbers. A lift changes none.
 ///
 /// Later versions may have more tests, so that a `match` needs an arm for those too. What to tell a caller who asks why
@@ -187,14 +187,15 @@ impl Mode {
 /// let mut f = Factors::zeros(2, 2, 2);
 /// factor(&settings, &[1.0, 2.0, 0.0, 8.0], f.lend())?;
 /// assert_eq!(f.tests, [3, 1]);
-/// let test = PivotTest::from_number(f.tests[0]);
-/// assert_eq!(test, Some(PivotTest::ExchangedDiagonal));
-/// assert_eq!(test.map_or("?".to_string(), |test| test.to_string()), "exchanged diagonal");
+///
+/// let test = PivotTest::from_number(f.tests[0]).expect("a test of this version");
+/// assert_eq!(test, PivotTest::ExchangedDiagonal);
+/// assert_eq!(format!("position 0, row {}: {test}", f.order[0]), "position 0, row 1: exchanged diagonal");
+/// assert_eq!(PivotTest::from_number(0xA5), None);
 /// # Ok::<(), misuktaan::Refusal>(())
 /// ```
 #[derive(Clone, Copy, Debug, PartialEq, Eq, Hash)]
 #[non_exhaustive]
-#[repr(u8)]
 pub enum PivotTest {
     /// The diagonal and colmax are zero. A 1x1, in [`Mode::Lift`] alone: [`Mode::Fail`] refuses with 7.
     ZeroColumn = 0,
@@ -209,8 +210,8 @@ pub enum PivotTest {
 }
 
 impl PivotTest {
-    /// The test of a number, as [`Buffers::tests`] has it; `None` of a byte that is no test's number. What a refused call
-    /// left there are no test numbers, though the zeros of a run refusal look like those of [`PivotTest::ZeroColumn`].
+    /// The test of a number, as [`Buffers::tests`] has it; `None` of a byte that is no test's number. What a refused
+    /// call left there are no test numbers, though a run refusal's zeros look like those of [`PivotTest::ZeroColumn`].
     pub const fn from_number(number: u8) -> Option<PivotTest> {
         match number {
             0 => Some(PivotTest::ZeroColumn),
