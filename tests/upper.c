@@ -435,12 +435,13 @@ static struct made made_with(const struct call *c, int fill)
 
 /*
  * The flag by which a read of an upper position would show: that of an operation on a signalling not-a-number; where the
- * call looks at a not-a-number of its own, which may raise that flag (the compiler picks the comparison), that of a sum
- * of the greatest numbers.
+ * call may raise that flag itself, that of a sum of the greatest numbers. It may where it looks at a not-a-number of its
+ * own (the compiler picks the comparison), and where it lifts a zero (the compiler works out the quotient by it, too).
  */
 static int left_to_raise(const struct call *c)
 {
-    return c->lower == not_finite ? FE_OVERFLOW : FE_INVALID;
+    const bool by_itself = c->lower == not_finite || (c->lower == zero_last && c->lift_mode);
+    return by_itself ? FE_OVERFLOW : FE_INVALID;
 }
 
 static void compare(const struct call *c)
