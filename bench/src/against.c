@@ -1,10 +1,9 @@
 /*
  * The factor and solve calls of several builds of the library beside each other in one process. usage: against
- * LIBRARY.., each a shared object; where one has no solve, none is timed, and one whose factor call has no test numbers
- * is called without them. On a node the builds take turns, over and over, at each of several depths of the stack, since
- * where a call's own numbers lie moves its time; the best time at each depth counts. Prints a line for each call and
- * shape: the call's name, the node's columns, rows and panel width, then the mean ticks of the processor's clock of
- * each build.
+ * LIBRARY.., each a shared object; where one has no solve, none is timed. On a node the builds take turns, over and
+ * over, at each of several depths of the stack, since where a call's own numbers lie moves its time; the best time at
+ * each depth counts. Prints a line for each call and shape: the call's name, the node's columns, rows and panel width,
+ * then the mean ticks of the processor's clock of each build.
  */
 #include "misuktaan.h"
 
@@ -17,17 +16,8 @@
 
 enum { BUILDS = 8, NODES = 3, DEPTHS = 8, DEEPER = 528 };
 
-/* The factor call as it was before it had test numbers. */
-typedef struct misuktaan_outcome without_tests(
-    size_t ncol, size_t nrow, size_t nb, bool lift, double floor, size_t limit, const double *input, size_t input_len,
-    double *panel, size_t panel_len, double *d, size_t d_len, double *sub, size_t sub_len, uint8_t *blocks,
-    size_t blocks_len, uint8_t *lifted, size_t lifted_len, double *amounts, size_t amounts_len, size_t *order,
-    size_t order_len, uint8_t *marks, size_t marks_len, double *work, size_t work_len);
-
-/* A build; the older factor call is null where it is not the build's. */
 struct build {
     __typeof__(&misuktaan_factor) factor;
-    without_tests *older;
     __typeof__(&misuktaan_solve) solve;
 };
 
@@ -89,30 +79,14 @@ __attribute__((noinline)) static unsigned long long factor(const struct build *o
 {
     volatile char *below = alloca(deeper + 1);
     below[0] = 0;
-    size_t n = s->ncol, nrow = s->nrow, size = nrow * n, tail = nrow - n, len = misuktaan_work_len(nrow, s->nb);
-    struct misuktaan_outcome o;
+    size_t size = s->nrow * s->ncol;
     unsigned long long from = __rdtsc();
-    if (of->older == NULL) {
-        o = of->factor(n, nrow, s->nb, true, 1e-8, 64, input, size, panel, size, d, n, sub, n, blocks, n, lifted, n,
-            amounts, n, tests, n, order, nrow, marks, tail, work, len);
-    } else {
-        o = of->older(n, nrow, s->nb, true, 1e-8, 64, input, size, panel, size, d, n, sub, n, blocks, n, lifted, n,
-            amounts, n, order, nrow, marks, tail, work, len);
-    }
+    struct misuktaan_outcome o = of->factor(s->ncol, s->nrow, s->nb, true, 1e-8, 64, input, size, panel, size, d,
+        s->ncol, sub, s->ncol, blocks, s->ncol, lifted, s->ncol, amounts, s->ncol, tests, s->ncol, order, s->nrow,
+        marks, s->nrow - s->ncol, work, misuktaan_work_len(s->nrow, s->nb));
     unsigned long long taken = __rdtsc() - from;
     accept(o);
     return taken;
-}
-
-/*
- * Whether the build's factor call has test numbers. One without them is called with a buffer too many here, and with
- * marks of a wrong length in its place: it refuses that with 3, and writes nothing.
- */
-static bool has_tests(const struct build *of)
-{
-    struct misuktaan_outcome o = of->factor(1, 1, 1, true, 1.0, 1, input, 1, panel, 1, d, 1, sub, 1, blocks, 1, lifted,
-        1, amounts, 1, tests, 1, order, 1, marks, 0, work, misuktaan_work_len(1, 1));
-    return o.number == 0;
 }
 
 /* Of what the last factor call left. */
@@ -172,7 +146,6 @@ int main(int count, char **names)
             return 2;
         }
         *(void **)&builds[b].factor = dlsym(library, "misuktaan_factor");
-        *(void **)&builds[b].older = has_tests(&builds[b]) ? NULL : dlsym(library, "misuktaan_factor");
         *(void **)&builds[b].solve = dlsym(library, "misuktaan_solve");
         solves = solves && builds[b].solve != NULL;
     }
