@@ -179,10 +179,11 @@ pub enum Answer {
 }
 
 /// The names of a factor call's lent buffers, in the order of their lengths.
-pub const BUFFERS: [&str; 9] = ["panel", "d", "sub", "blocks", "lifts", "amounts", "order", "marks", "work"];
+pub const BUFFERS: [&str; 10] = ["panel", "d", "sub", "blocks", "lifts", "amounts", "tests", "order", "marks", "work"];
 
 /// The lent buffers' lengths by docs/SCOPE.md, "Sizes and buffers"; for a shape that is held.
 pub fn stated_lengths(s: &Settings) -> Vec<usize> {
     let (ncol, nrow, nb) = (s.ncol, s.nrow, s.nb);
-    vec![nrow * ncol, ncol, ncol, ncol, ncol, ncol, nrow, nrow.saturating_sub(ncol), 3 * nrow * (nb + 1) + nb * nb]
+    let work = 3 * nrow * (nb + 1) + nb * nb;
+    [&[nrow * ncol][..], &[ncol; 6], &[nrow, nrow.saturating_sub(ncol), work]].concat()
 }

@@ -2,6 +2,7 @@
 //! cases and the telling ones. The reference itself is `rslab::reach`.
 
 pub mod case;
+pub mod elimination;
 pub mod lines;
 pub mod magnitude;
 pub mod pivot_cases;
@@ -13,3 +14,4 @@ pub mod rules;
 pub mod solve;
 pub mod systems;
 pub mod telling;
+pub mod test_numbers;

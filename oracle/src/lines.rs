@@ -5,6 +5,7 @@
 //! commas, a descendant's parts by slashes. README.md has the fields of each word.
 
 use crate::case::*;
+use rslab::reach::Factored;
 use std::collections::HashMap;
 use std::fmt::Write;
 
@@ -259,6 +260,14 @@ pub fn case_text(case: &Case) -> String {
     }
 }
 
+fn accepted_text(rounds: usize, f: &Factored, marks: &[bool]) -> String {
+    let pivots = format!("d={} sub={} blocks={}", numbers(&f.d), numbers(&f.sub), bytes(&f.blocks));
+    let notes = format!("lifts={} amounts={} tests={}", bytes(&f.lifts), numbers(&f.amounts), counts(&f.tests));
+    let (inertia, order) = (counts(&f.inertia), counts(&f.order));
+    let (panel, marks) = (numbers(&f.panel), bytes(marks));
+    format!("accepted rounds={rounds} inertia={inertia} order={order} {pivots} {notes} panel={panel} marks={marks}")
+}
+
 /// The line of an answer.
 pub fn answer_text(answer: &Answer) -> String {
     match answer {
@@ -266,18 +275,7 @@ pub fn answer_text(answer: &Answer) -> String {
             let outputs = if r.of_the_run() { "zeros" } else { "kept" };
             format!("refused {} {} {} outputs={outputs}", r.number, r.a, r.b)
         }
-        Answer::Accepted { rounds, factored: f, marks } => format!(
-            "accepted rounds={rounds} inertia={} order={} d={} sub={} blocks={} lifts={} amounts={} panel={} marks={}",
-            counts(&f.inertia),
-            counts(&f.order),
-            numbers(&f.d),
-            numbers(&f.sub),
-            bytes(&f.blocks),
-            bytes(&f.lifts),
-            numbers(&f.amounts),
-            numbers(&f.panel),
-            bytes(marks)
-        ),
+        Answer::Accepted { rounds, factored, marks } => accepted_text(*rounds, factored, marks),
         Answer::Panel(panel) => format!("panel={}", numbers(panel)),
         Answer::Vector(vector) => format!("vector={}", numbers(vector)),
         Answer::List(list) => format!("list={}", counts(list)),

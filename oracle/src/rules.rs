@@ -1,10 +1,11 @@
 //! What docs/SCOPE.md adds to the reference, restated apart from the port: the
-//! refusals that the Rust does not know, the rounds, the marks; solve and the pivot
-//! lists are in files of their own. `answer` asks the Rust for everything else.
+//! refusals that the Rust does not know, the rounds, the marks; solve, the pivot
+//! lists and the test numbers are in files of their own. `answer` asks the Rust for
+//! everything else.
 
 use crate::case::*;
-use crate::{magnitude, pivots, solve};
-use rslab::reach::{self, Factored, Ran, Stop};
+use crate::{magnitude, pivots, solve, test_numbers};
+use rslab::reach::{self, Factored, Ran, Step, Stop};
 
 pub const MAX_COL: usize = 128;
 const MAX_ROW: usize = 1024;
@@ -46,7 +47,7 @@ pub fn answer(case: &Case) -> Answer {
 fn factor(f: &Factor) -> Result<Answer, Refusal> {
     let s = &f.settings;
     entry(f)?;
-    judge(s, reach::factor(s.ncol, s.nrow, s.nb, s.mode.floor(), &f.panel))
+    judge(f, reach::factor(s.ncol, s.nrow, s.nb, s.mode.floor(), &f.panel))
 }
 
 pub fn bad_shape(ncol: usize, nrow: usize) -> bool {
@@ -72,24 +73,58 @@ fn entry(f: &Factor) -> Checked {
     Ok(())
 }
 
-/// Refusals 7 to 9, 23, 24 and acceptance, from a run of the Rust.
-fn judge(s: &Settings, ran: Ran) -> Result<Answer, Refusal> {
+/// Refusals 7 to 9, 23, 24 and acceptance, from a run of the Rust on this call.
+fn judge(f: &Factor, ran: Ran) -> Result<Answer, Refusal> {
+    let s = &f.settings;
     match ran {
-        Ran::Stopped { at, on, panel } => {
+        Ran::Stopped { at, on, panel, steps } => {
             assert!(s.mode.floor().is_none(), "a run with lifts stopped");
             assert_eq!(stopped_on(s, &panel, at), Some(on), "the tests and the trace differ");
+            assert_eq!(numbered(f, &steps, at).last(), Some(&stop_test(on)), "it stops on another test");
             Err(Refusal { number: stop_number(on), a: at, b: 0 })
         }
-        Ran::Unended { at, rounds } => Err(Refusal { number: 8, a: beyond(s.limit, &rounds).unwrap_or(at), b: 0 }),
-        Ran::Ended(f) => {
-            let rounds = s.mode.floor().map_or(Vec::new(), |floor| replayed(s, floor, &f));
-            assert_eq!(rounds, f.rounds, "the replay and the trace differ");
-            assert_eq!(counts(&f.d, &f.sub, &f.blocks), f.inertia, "the counting rule and the Rust differ");
-            refuse_at(beyond(s.limit, &rounds), 8)?;
-            refuse_at((0..s.ncol).find(|&k| !column_sound(s, &f, k)), 9)?;
-            let marks = (s.ncol..s.nrow).map(|i| (0..s.ncol).any(|j| !f.panel[i + j * s.nrow].is_finite())).collect();
-            Ok(Answer::Accepted { rounds: rounds.iter().map(|r| r.1).sum(), factored: f, marks })
+        Ran::Unended { at, rounds, steps } => {
+            numbered(f, &steps, at);
+            Err(Refusal { number: 8, a: beyond(s.limit, &rounds).unwrap_or(at), b: 0 })
         }
+        Ran::Ended(of) => {
+            let rounds = s.mode.floor().map_or(Vec::new(), |floor| replayed(s, floor, &of));
+            assert_eq!(rounds, of.rounds, "the replay and the trace differ");
+            assert_eq!(counts(&of.d, &of.sub, &of.blocks), of.inertia, "the counting rule and the Rust differ");
+            assert_eq!(numbered(f, &of.steps, s.ncol), of.tests, "the test numbers are not those of the steps");
+            assert_eq!(blocks_by_tests(&of.steps), of.blocks, "a block's test number is 4, and no other's");
+            refuse_at(beyond(s.limit, &rounds), 8)?;
+            refuse_at((0..s.ncol).find(|&k| !column_sound(s, &of, k)), 9)?;
+            let marks = (s.ncol..s.nrow).map(|i| (0..s.ncol).any(|j| !of.panel[i + j * s.nrow].is_finite())).collect();
+            Ok(Answer::Accepted { rounds: rounds.iter().map(|r| r.1).sum(), factored: of, marks })
+        }
+    }
+}
+
+/// The test numbers by position of a run's steps up to a position, by what they looked at. How far they looked and the
+/// node as it stands say the same.
+fn numbered(f: &Factor, steps: &[Step], until: usize) -> Vec<u8> {
+    let by_numbers: Vec<_> = steps.iter().map(|step| (step.at, test_numbers::of_step(step))).collect();
+    let by_shape: Vec<_> = steps.iter().map(|step| (step.at, step.number())).collect();
+    assert_eq!(by_numbers, by_shape, "what a step looked at and how far it looked differ");
+    assert_eq!(by_numbers, test_numbers::steps(&f.settings, &f.panel, until), "the text and the trace differ");
+    let columns = |number: u8| if number == 4 { 2 } else { 1 };
+    by_numbers.into_iter().flat_map(|(_, number)| vec![number; columns(number)]).collect()
+}
+
+/// The block bytes that these steps leave.
+fn blocks_by_tests(steps: &[Step]) -> Vec<bool> {
+    let bytes = |step: &Step| if step.number() == 4 { &[true, false][..] } else { &[false] };
+    steps.iter().flat_map(bytes).copied().collect()
+}
+
+/// The test number of the step that stops so. A 1x1 of zero passes the row test alone: over a column of zeros the first
+/// decides, and the candidate's test asks for more than zero.
+fn stop_test(on: Stop) -> u8 {
+    match on {
+        Stop::Column => 0,
+        Stop::Single => 2,
+        Stop::Block => 4,
     }
 }
 
@@ -158,7 +193,7 @@ fn replayed(s: &Settings, floor: f64, f: &Factored) -> Vec<(usize, usize)> {
 }
 
 /// How many rounds a block needs, and their sum.
-fn lift_rounds(floor: f64, d11: f64, d21: f64, d22: f64) -> (usize, f64) {
+pub fn lift_rounds(floor: f64, d11: f64, d21: f64, d22: f64) -> (usize, f64) {
     let bar = (floor * floor).max(growth_floor(d11, d21, d22));
     let below = |sum: f64| ((d11 + sum) * (d22 + sum) - d21 * d21).abs() < bar;
     let (mut rounds, mut sum) = (0, 0.0);
@@ -323,6 +358,7 @@ fn whole(w: &Whole) -> Result<Answer, Refusal> {
         update_entry(a.ncol, a.nrow, &w.place, a.panel.len(), k)?;
     }
     let node = node(a, &w.place.rows, &w.descendants);
-    entry(&Factor { settings: *s, panel: reach::updated(&node), lengths: None })?;
-    judge(s, reach::whole(&node, s.nb, s.mode.floor()))
+    let f = Factor { settings: *s, panel: reach::updated(&node), lengths: None };
+    entry(&f)?;
+    judge(&f, reach::whole(&node, s.nb, s.mode.floor()))
 }

@@ -4,8 +4,8 @@
 use super::bunch_kaufman::{bk_alpha, ll_cdiv_emit, BkPools};
 use super::factor::LlEmitLdlt;
 use super::node::ll_factor_node;
-use super::traced::{self, Traced};
-pub use super::traced::Stop;
+use super::traced::{self, Panels, Traced};
+pub use super::traced::{Step, Stop};
 use crate::numeric::gemm_tuning::KernelTuning;
 use crate::numeric::supernodal::panel::{slot_sizes, PanelArena};
 use crate::numeric::supernodal::{
@@ -42,8 +42,9 @@ pub struct Node {
     pub descendants: Vec<Descendant>,
 }
 
-/// What a factored supernode holds. `order` has a place for every row.
-/// `rounds` has `(position, rounds)` of each lifted block, as traced.
+/// What a factored supernode holds. `order` has a place for every row. As traced:
+/// `rounds` has `(position, rounds)` of each lifted block, `tests` the test number of
+/// each position, by how far the steps looked, `steps` what they looked at.
 #[derive(Clone, Debug)]
 pub struct Factored {
     pub panel: Vec<f64>,
@@ -52,20 +53,22 @@ pub struct Factored {
     pub blocks: Vec<bool>,
     pub lifts: Vec<bool>,
     pub amounts: Vec<f64>,
+    pub tests: Vec<u8>,
     pub order: Vec<usize>,
     pub inertia: [usize; 3],
     pub rounds: Vec<(usize, usize)>,
+    pub steps: Vec<Step>,
 }
 
 /// How a run of the reference went: it ended; it stopped at a position, on one
 /// of its three tests, with the panel as it stood; or a block's lift at a
 /// position took more than [`traced::ROUNDS_WATCHED`] rounds and was cut off;
-/// `rounds` as in [`Factored`].
+/// `rounds` and `steps` as in [`Factored`], the last step the one at the position.
 #[derive(Clone, Debug)]
 pub enum Ran {
     Ended(Factored),
-    Stopped { at: usize, on: Stop, panel: Vec<f64> },
-    Unended { at: usize, rounds: Vec<(usize, usize)> },
+    Stopped { at: usize, on: Stop, panel: Vec<f64>, steps: Vec<Step> },
+    Unended { at: usize, rounds: Vec<(usize, usize)>, steps: Vec<Step> },
 }
 
 /// How far a run goes in.
@@ -136,25 +139,32 @@ fn settings(nb: usize) -> KernelTuning<'static> {
     KernelTuning { k, pivot_threshold: 0.0, interrupt: None }
 }
 
-/// A run in f64, and a traced one beside it for what the reference does not
-/// say: the position of a stop and what it stopped on, the rounds of a lift.
+/// A run in f64, and a traced one beside it for what the reference does not say:
+/// the test that decided on a pivot, the position of a stop and what it stopped on,
+/// the rounds of a lift.
 fn ran(node: &Node, way: Way, nb: usize, floor: Option<f64>) -> Ran {
     let (watched, trace) = traced::watch(|| run::<Traced>(node, way, nb, floor));
+    let steps = trace.steps();
     let Some((traced_panel, traced_end)) = watched else {
-        return Ran::Unended { at: trace.at, rounds: trace.rounds };
+        return Ran::Unended { at: trace.at, rounds: trace.rounds, steps };
     };
     let (panel, end) = run::<f64>(node, way, nb, floor);
     assert!(same(&panel, &traced_panel) && end.is_some() == traced_end.is_some(), "the trace went another way");
     match end {
-        None => Ran::Stopped { at: trace.at, on: trace.stop(), panel },
-        Some(end) => Ran::Ended(Factored { panel, rounds: trace.rounds, ..end }),
+        None => Ran::Stopped { at: trace.at, on: trace.stop(), panel, steps },
+        Some(end) => Ran::Ended(Factored { panel, tests: tests(&steps), rounds: trace.rounds, steps, ..end }),
     }
+}
+
+/// The test number of each position: a block has its own at both.
+fn tests(steps: &[Step]) -> Vec<u8> {
+    steps.iter().flat_map(|step| vec![step.number(); if step.block { 2 } else { 1 }]).collect()
 }
 
 /// The panel as a run leaves it, and the rest of the answer if it ended.
 fn run<T: Scalar>(node: &Node, way: Way, nb: usize, floor: Option<f64>) -> (Vec<f64>, Option<Factored>) {
     let site = Site::<T>::new(node);
-    traced::begin();
+    traced::begin(Panels { ncol: node.ncol, width: nb.min(node.ncol.max(1)), lifts: floor.is_some() });
     let ended = site.call(way, &BkPools::new(), nb, floor);
     (site.panel(), ended.then(|| site.factored(node)))
 }
@@ -255,9 +265,11 @@ impl<T: Scalar> Site<T> {
             blocks: blocks.to_vec(),
             lifts,
             amounts,
+            tests: Vec::new(),
             order: head.iter().map(|g| g - first).chain(ncol..node.rows.len()).collect(),
             inertia: [&self.emit.inertia_pos, &self.emit.inertia_neg, &self.emit.inertia_zero].map(|n| n.load(Relaxed)),
             rounds: Vec::new(),
+            steps: Vec::new(),
         }
     }
 }

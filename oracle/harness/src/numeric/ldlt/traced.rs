@@ -1,14 +1,19 @@
-//! An f64 that counts what the panel step asks of it. The reference is generic
-//! over its scalar, so the unchanged code runs on this one too, and the counts
-//! say what its answer leaves out: the position of a stop and what it stopped
-//! on, and the rounds of a block's lift.
+//! An f64 that notes what the panel step asks of it. The reference is generic
+//! over its scalar, so the unchanged code runs on this one too, and what it asked
+//! says what its answer leaves out: which of the pivot tests decided, the position
+//! of a stop and what it stopped on, and the rounds of a block's lift.
 //!
 //! A step takes one reciprocal, at its end. Before it, a 1x1 step asks for at
 //! most four magnitudes (the diagonal, the candidate's, and two in a lift), a
 //! block's for at least six (the diagonal, the candidate's, the block's three
 //! numbers, its determinant). The replay on the rows below takes reciprocals
-//! with no magnitude before them. A block's lift makes two numbers of the sum
-//! in each round and four at its end.
+//! with no magnitude before them. A 1x1's lift makes one number; a block's makes
+//! two of the sum in each round and four at its end.
+//!
+//! The search takes the squares of the column and, if it goes on, as many of row
+//! imax. It asks for the candidate's magnitude last. What a 1x1 step asks for after
+//! that, in a run with lifts, is the chosen diagonal's: once, and once more if it
+//! lifts it.
 //!
 //! Without a lift a step stops before its reciprocal, on one of three tests. The
 //! column's compares no two numbers of the panel, a 1x1's compares the pivot with
@@ -34,26 +39,104 @@ pub enum Stop {
     Block,
 }
 
-/// What a run showed: the position reached, and `(position, rounds)` of each
-/// lifted block. The other counts are those of the step at that position;
-/// `compared` is whether it compared two numbers.
+/// What a step of the reference looked at before it had its pivot: the magnitude
+/// of its diagonal, the squares of its column, those of row imax and the magnitude
+/// of the candidate, a(imax, imax), if it went so far; and whether it took a block.
+#[derive(Clone, Debug)]
+pub struct Step {
+    pub at: usize,
+    pub own: f64,
+    pub column: Vec<f64>,
+    pub row: Option<Vec<f64>>,
+    pub candidate: Option<f64>,
+    pub block: bool,
+}
+
+impl Step {
+    /// The test number by how far the step looked. The first two tests ask for
+    /// nothing more; what they have found tells them apart.
+    pub fn number(&self) -> u8 {
+        let nothing = self.column.iter().fold(self.own, |most, &square| most.max(square)).max(0.0) == 0.0;
+        match (&self.row, self.candidate, self.block) {
+            (None, None, false) => u8::from(!nothing),
+            (Some(_), None, false) => 2,
+            (Some(_), Some(_), false) => 3,
+            (Some(_), Some(_), true) => 4,
+            _ => panic!("no step looks so: {self:?}"),
+        }
+    }
+}
+
+/// What a run's steps go by: the columns, the panel width used, and whether pivots
+/// are lifted.
+#[derive(Clone, Default)]
+pub struct Panels {
+    pub ncol: usize,
+    pub width: usize,
+    pub lifts: bool,
+}
+
+/// What a run showed: the position reached, `(position, rounds)` of each lifted
+/// block, the steps that were taken, and what the next one has asked.
 #[derive(Clone, Default)]
 pub struct Trace {
     pub at: usize,
     pub rounds: Vec<(usize, usize)>,
-    magnitudes: usize,
+    panels: Panels,
+    taken: Vec<Step>,
+    asked: Asked,
+}
+
+/// What a step has asked so far, in its own order: magnitudes, squares, how many
+/// numbers to make, whether two numbers are equal.
+#[derive(Clone, Default)]
+struct Asked {
+    magnitudes: Vec<f64>,
+    squares: Vec<f64>,
     reals: usize,
     compared: bool,
+}
+
+impl Asked {
+    fn is_block(&self) -> bool {
+        self.magnitudes.len() >= 6
+    }
+
+    /// The step at a position, which has had its pivot.
+    fn step(&self, at: usize, of: &Panels) -> Step {
+        let ke = of.ncol.min((at / of.width + 1) * of.width);
+        let (column, row) = self.squares.split_at(ke - 1 - at);
+        assert!(row.is_empty() || row.len() == column.len(), "a search that stops within the row");
+        let (own, others) = (self.magnitudes[0], &self.magnitudes[1..]);
+        let after = match self.is_block() {
+            true => others.len() - 1,
+            false if of.lifts => 1 + self.reals,
+            false => 0,
+        };
+        let (candidate, chosen) = others.split_at(others.len() - after);
+        assert!(candidate.len() <= 1, "more than one candidate");
+        let (row, candidate) = ((!row.is_empty()).then(|| row.to_vec()), candidate.first().copied());
+        let chosen_is = candidate.unwrap_or(own).to_bits();
+        assert!(self.is_block() || chosen.iter().all(|x| x.to_bits() == chosen_is), "another diagonal than the chosen");
+        Step { at, own, column: column.to_vec(), row, candidate, block: self.is_block() }
+    }
 }
 
 impl Trace {
     /// What the step at the position reached stopped on, if it did.
     pub fn stop(&self) -> Stop {
-        match (self.magnitudes, self.compared) {
-            (6.., _) => Stop::Block,
+        match (self.asked.is_block(), self.asked.compared) {
+            (true, _) => Stop::Block,
             (_, true) => Stop::Single,
             (_, false) => Stop::Column,
         }
+    }
+
+    /// The steps, with one that was begun and did not end as the last.
+    pub fn steps(&self) -> Vec<Step> {
+        let begun = !self.asked.magnitudes.is_empty();
+        let last = begun.then(|| self.asked.step(self.at, &self.panels));
+        self.taken.iter().cloned().chain(last).collect()
     }
 }
 
@@ -68,9 +151,9 @@ fn note<R>(f: impl FnOnce(&mut Trace) -> R) -> R {
     TRACE.with(|t| f(&mut t.borrow_mut()))
 }
 
-/// Forget what was counted so far on this thread.
-pub fn begin() {
-    note(|t| *t = Trace::default());
+/// Forget what was noted so far on this thread: a run in these panels begins.
+pub fn begin(panels: Panels) {
+    note(|t| *t = Trace { panels, ..Trace::default() });
 }
 
 /// `f`'s answer, None if it was cut off, and its trace.
@@ -88,7 +171,7 @@ pub struct Traced(f64);
 
 impl PartialEq for Traced {
     fn eq(&self, other: &Self) -> bool {
-        note(|t| t.compared = true);
+        note(|t| t.asked.compared = true);
         self.0 == other.0
     }
 }
@@ -99,16 +182,21 @@ impl Scalar for Traced {
     fn magnitude(self) -> f64 {
         note(|t| {
             // a step begins with the magnitude of its diagonal; multipliers were compared before
-            t.compared &= t.magnitudes > 0;
-            t.magnitudes += 1;
+            t.asked.compared &= !t.asked.magnitudes.is_empty();
+            t.asked.magnitudes.push(self.0.magnitude());
         });
         self.0.magnitude()
     }
 
+    fn magnitude_sq(self) -> f64 {
+        note(|t| t.asked.squares.push(self.0.magnitude_sq()));
+        self.0.magnitude_sq()
+    }
+
     fn from_real(r: f64) -> Self {
         let cut = note(|t| {
-            t.reals += 1;
-            t.magnitudes >= 6 && t.reals > 2 * ROUNDS_WATCHED
+            t.asked.reals += 1;
+            t.asked.is_block() && t.asked.reals > 2 * ROUNDS_WATCHED
         });
         if cut {
             resume_unwind(Box::new(CutOff));
@@ -118,23 +206,19 @@ impl Scalar for Traced {
 
     fn recip(self) -> Self {
         note(|t| {
-            let (at, two) = (t.at, t.magnitudes >= 6);
-            if two && t.reals > 0 {
-                t.rounds.push((at, (t.reals - 4) / 2));
+            if t.asked.magnitudes.is_empty() {
+                return;
             }
-            t.at += match t.magnitudes {
-                0 => 0,
-                _ if two => 2,
-                _ => 1,
-            };
-            (t.magnitudes, t.reals) = (0, 0);
+            let (step, asked) = (t.asked.step(t.at, &t.panels), std::mem::take(&mut t.asked));
+            if step.block && asked.reals > 0 {
+                t.rounds.push((t.at, (asked.reals - 4) / 2));
+            }
+            t.at += if step.block { 2 } else { 1 };
+            t.taken.push(step);
         });
         Traced(self.0.recip())
     }
 
-    fn magnitude_sq(self) -> f64 {
-        self.0.magnitude_sq()
-    }
     fn zero() -> Self {
         Traced(f64::zero())
     }
