@@ -25,13 +25,21 @@ impl Choice {
     pub fn is_block(&self) -> bool {
         self.number == 4
     }
+
+    /// The position that is moved at k and its partner, if rows are exchanged.
+    pub fn exchange(&self, k: usize) -> Option<(usize, usize)> {
+        let moved = if self.is_block() { k + 1 } else { k };
+        (self.number > 2 && self.imax != moved).then_some((moved, self.imax))
+    }
 }
 
-/// Position k of the panel kb..ke, and the node as it stands there; the input too.
+/// Position k of the panel kb..ke, which step comes there, and the node as it stands; the input too.
+#[derive(Clone, Copy)]
 pub struct At<'a> {
     pub node: &'a Node,
     pub input: &'a Node,
     pub floor: Option<f64>,
+    pub step: usize,
     pub kb: usize,
     pub k: usize,
     pub ke: usize,
@@ -61,6 +69,12 @@ impl Node {
 
     fn place(&self, i: usize, j: usize) -> usize {
         i.max(j) + i.min(j) * self.nrow
+    }
+
+    /// Its rows and columns in an order that exchanges of columns have made.
+    pub fn ordered(&self, order: &[usize]) -> Node {
+        let lower = |j: usize| (0..self.nrow).map(move |i| if i < j { 0.0 } else { self.at(order[i], order[j]) });
+        Node { panel: (0..self.ncol).flat_map(lower).collect(), order: order.to_vec(), ..*self }
     }
 
     /// a(i, j) of the symmetric matrix; one of the two is a column.
@@ -141,8 +155,7 @@ impl Node {
     /// The step at a position: the exchange, the lift, the elimination in the panel.
     fn take(&mut self, at: &At, choice: Choice, each: &mut impl FnMut(&Taken)) -> Pivot {
         let (k, columns) = (at.k, if choice.is_block() { 2 } else { 1 });
-        let (moved, partner) = (k + columns - 1, if choice.number < 3 { k } else { choice.imax });
-        if partner != moved {
+        if let Some((moved, partner)) = choice.exchange(k) {
             self.exchange(moved, partner);
         }
         let pivot = self.pivot(k, choice);
@@ -181,7 +194,7 @@ pub fn walk(
         let (ke, mut k, mut pivots) = (s.ncol.min(kb + width), kb, Vec::new());
         while k < ke {
             let before = node.clone();
-            let at = At { node: &before, input, floor: s.mode.floor(), kb, k, ke };
+            let at = At { node: &before, input, floor: s.mode.floor(), step: choices.len(), kb, k, ke };
             let choice = choose(&at);
             choices.push((k, choice));
             if k == until {

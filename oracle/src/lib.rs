@@ -14,4 +14,6 @@ pub mod rules;
 pub mod solve;
 pub mod systems;
 pub mod telling;
+pub mod test_cases;
 pub mod test_numbers;
+pub mod test_readings;

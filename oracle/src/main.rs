@@ -1,7 +1,9 @@
 //! The oracle's program. README.md says how to run it and what its lines hold.
 
 use oracle::random::{self, Bounds, Rng};
-use oracle::{lines, magnitude, pivot_cases, pivot_readings, readings, rules, systems, telling};
+use oracle::{
+    lines, magnitude, pivot_cases, pivot_readings, readings, rules, systems, telling, test_cases, test_readings,
+};
 use std::io::{BufRead, BufWriter, Write};
 
 const USAGE: &str = "usage: oracle answer < CASES
@@ -88,14 +90,17 @@ fn named(all: Vec<(String, oracle::case::Case)>) -> Done {
     Ok(())
 }
 
-/// How many of the telling cases each wrong reading of solve, of the magnitude and of the pivot lists answers
-/// otherwise: not one is told by none.
+/// How many of the telling cases each wrong reading of solve, of the magnitude, of the pivot lists and of the test
+/// numbers answers otherwise: not one is told by none.
 fn readings() -> Done {
+    test_cases::as_stated()?;
     let systems: Vec<_> = systems::telling().into_iter().map(|(_, case)| case).collect();
     let lists: Vec<_> = pivot_cases::telling().into_iter().map(|(_, case)| case).collect();
     let others = [readings::told(&systems), magnitude::told()].concat();
-    let others = others.into_iter().map(|(name, cases)| (name.to_string(), cases));
-    let (told, mut to) = (others.chain(pivot_readings::told(&lists)).collect::<Vec<_>>(), out());
+    let mut told: Vec<_> = others.into_iter().map(|(name, cases)| (name.to_string(), cases)).collect();
+    told.extend(pivot_readings::told(&lists));
+    told.extend(test_readings::told(&test_cases::calls()));
+    let mut to = out();
     for (name, cases) in &told {
         write_line(&mut to, &format!("{cases:3} {name}"))?;
     }

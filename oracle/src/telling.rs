@@ -1,12 +1,12 @@
 //! Hand-made cases: the stations and corner cases of docs/SCOPE.md, "Stations",
 //! and cases that tell the reference from a wrong port of it. Those of solve are in
 //! `systems.rs`, those of the pivot lists in `pivot_cases.rs`, those of the
-//! magnitude in `magnitude.rs`.
+//! magnitude in `magnitude.rs`, those of the test numbers in `test_cases.rs`.
 
 use crate::case::*;
-use crate::{magnitude, pivot_cases, systems};
+use crate::{magnitude, pivot_cases, systems, test_cases};
 
-type Named = (String, Case);
+pub type Named = (String, Case);
 
 fn called(name: &str, settings: Settings, panel: Vec<f64>) -> Named {
     (name.to_string(), Case::Factor(Factor { settings, panel, lengths: None }))
@@ -23,11 +23,11 @@ fn factor(name: &str, nrow: usize, nb: usize, mode: Mode, limit: usize, columns:
     called(name, Settings { ncol, nrow, nb, mode, limit }, panel)
 }
 
-fn fail(name: &str, nrow: usize, nb: usize, columns: &[&[f64]]) -> Named {
+pub fn fail(name: &str, nrow: usize, nb: usize, columns: &[&[f64]]) -> Named {
     factor(name, nrow, nb, Mode::Fail, 1, columns)
 }
 
-fn lift(name: &str, nrow: usize, nb: usize, floor: f64, limit: usize, columns: &[&[f64]]) -> Named {
+pub fn lift(name: &str, nrow: usize, nb: usize, floor: f64, limit: usize, columns: &[&[f64]]) -> Named {
     factor(name, nrow, nb, Mode::Lift(floor), limit, columns)
 }
 
@@ -60,7 +60,8 @@ fn counted(name: &str, d: &[f64], blocks: &[u8]) -> Named {
 pub fn stations() -> Vec<Named> {
     let solves = systems::stations().into_iter().map(|of| (format!("solve: {}", of.name), Case::Solve(of.case)));
     let lists = pivot_cases::stations().into_iter().map(|of| (of_list(of.name, &of.case), of.case));
-    other_stations().into_iter().chain(solves).chain(lists).collect()
+    let numbered = test_cases::stations().into_iter().map(|of| of.named);
+    other_stations().into_iter().chain(numbered).chain(solves).chain(lists).collect()
 }
 
 /// The name of a case of a pivot list, with its call.
@@ -75,12 +76,8 @@ fn other_stations() -> Vec<Named> {
         settings("no column, three rows: order 0 1 2, counts 0 0 0", 0, 3, 1, Mode::Fail, 1),
         fail("[4], tail 6: d 4, L 1.5, mark 0", 2, 1, &[&[4.0, 6.0]]),
         fail("[0]: 7 at 0", 1, 1, &[&[0.0]]),
-        lift("[0], Lift 0.5: d 0.5, amount 0.5", 1, 1, 0.5, 1, &[&[0.0]]),
-        lift("[-0.25], Lift 0.5: -0.5, amount -0.25", 1, 1, 0.5, 1, &[&[-0.25]]),
         lift("[-0.5], Lift 0.5: unlifted", 1, 1, 0.5, 1, &[&[-0.5]]),
-        fail("[0,1; 0]: one block, counts 1 1 0", 2, 2, &[&[0.0, 1.0], &[0.0]]),
         fail("[0,1; 0], nb 1: 7 at 0", 2, 1, &[&[0.0, 1.0], &[0.0]]),
-        lift("[0,1; 0], nb 1, Lift 0.5: d 0.5 -2, L 2", 2, 1, 0.5, 1, &[&[0.0, 1.0], &[0.0]]),
         lift("[0,1; 0], Lift 2, limit 1: 8 at 0", 2, 2, 2.0, 1, &[&[0.0, 1.0], &[0.0]]),
         lift("[0,1; 0], Lift 2, limit 2: d 4 4, rounds 2", 2, 2, 2.0, 2, &[&[0.0, 1.0], &[0.0]]),
         counted("a block 0, 0, 0: counts 1 0 1", &[0.0, 0.0], &[1, 0]),
@@ -95,7 +92,6 @@ fn other_stations() -> Vec<Named> {
         settings("ncol 129: 1", 129, 129, 64, Mode::Lift(0.5), 64),
         settings("nb 65: 2", 2, 2, 65, Mode::Lift(0.5), 64),
         settings("limit 65: 5", 2, 2, 2, Mode::Lift(0.5), 65),
-        panel("1 2 0 8: order 1 0", 2, 2, &[1.0, 2.0, 0.0, 8.0]),
         lift("a block with an infinite determinant in Lift: 9 at 0", 2, 2, 0.5, 1, &[&[0.0, 1e200], &[0.0]]),
         fail("the determinant overflows, its floor does not: 9 at 0", 2, 2, &[&[0.0, 1e160], &[0.0]]),
         lift("-0 lifts to +floor", 1, 1, 0.5, 1, &[&[-0.0]]),
@@ -142,7 +138,8 @@ pub const STOPS: [Stop; 16] = [
     stop(24, 1, "a low block that was rows 0 and 2", &[&[0.5, 2.0, 1.0, 0.0], &[8.0, 0.0, 0.0], &[1e8, 1e9], &[0.0]]),
 ];
 
-const LEAST: f64 = f64::from_bits(1);
+/// 2^-1074.
+pub const LEAST: f64 = f64::from_bits(1);
 
 impl Stop {
     /// Columns of the unit matrix before and after the head, over tail rows of
@@ -181,7 +178,9 @@ pub fn telling() -> Vec<Named> {
     let solves = systems::telling().into_iter().map(|(name, s)| (format!("solve: {name}"), Case::Solve(s)));
     let magnitudes = magnitude::TELLING.map(|(name, bits)| (format!("magnitude: {name}"), Case::Magnitude(bits)));
     let lists = pivot_cases::telling().into_iter().map(|(name, case)| (of_list(name, &case), case));
-    STOPS.iter().flat_map(Stop::named).chain(wrong_ports()).chain(magnitudes).chain(solves).chain(lists).collect()
+    let tests = test_cases::telling().into_iter().map(|(name, case)| (format!("test numbers: {name}"), case));
+    let heads = STOPS.iter().flat_map(Stop::named).chain(wrong_ports()).chain(tests);
+    heads.chain(magnitudes).chain(solves).chain(lists).collect()
 }
 
 fn wrong_ports() -> Vec<Named> {

@@ -110,7 +110,7 @@ pub fn of_step(step: &Step) -> u8 {
 }
 
 impl Reading {
-    fn looked(&self, at: &At) -> (Looked, usize) {
+    pub fn looked(&self, at: &At) -> (Looked, usize) {
         let (colmax, imax) = (self.colmax)(at);
         let (rowmax, candidate) = ((self.rowmax)(at, imax), (self.candidate)(at, imax));
         (Looked { own: (self.own)(at), colmax, rowmax, candidate }, imax)
