@@ -1,5 +1,5 @@
-//! A node's elimination, restated from docs/SCOPE.md, "The exchange" to "The later columns", for what the reference does
-//! not show: the node as it stands at each step. Head and tail rows go through every step together.
+//! A node's elimination, restated from docs/SCOPE.md, "The exchange" to "The later columns", for what the reference
+//! does not show: the node as it stands at each step. Head and tail rows go through every step together.
 
 use crate::case::Settings;
 use crate::rules::lift_rounds;
@@ -52,8 +52,8 @@ struct Pivot {
     d: [f64; 3],
 }
 
-/// A step that is being taken: where, what was chosen, the node after the exchange, the pivot before a lift (d, or d11, d21
-/// and d22) and after it, if it is lifted.
+/// A step that is being taken: where, what was chosen, the node after the exchange, the pivot before a lift (d, or d11,
+/// d21 and d22) and after it, if it is lifted.
 pub struct Taken<'a> {
     pub at: &'a At<'a>,
     pub choice: Choice,

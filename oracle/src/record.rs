@@ -30,8 +30,9 @@ const CALLS: [&str; KINDS] =
 /// What is counted of each. Each has to be met.
 const OUTCOMES: [&str; KINDS] = [
     "accepted in Fail/accepted in Lift/with blocks/with an exchange/with lifts/with rounds/with two rounds or more/\
-     with marks/with several panels/with tail rows/refused 1/refused 2/refused 3/refused 4/refused 5/refused 6/\
-     refused 7/refused 8/refused 9/refused 23/refused 24",
+     with marks/with several panels/with tail rows/with test number 0/with test number 1/with test number 2/\
+     with test number 3/with test number 4/refused 1/refused 2/refused 3/refused 4/refused 5/refused 6/refused 7/\
+     refused 8/refused 9/refused 23/refused 24",
     "counts/refused 16/refused 19",
     "done/refused 10/refused 11/refused 12",
     "done/done, no landing/refused 13/refused 14/refused 15/refused 16/refused 17/refused 18",
@@ -48,8 +49,8 @@ const TITLE: &str =
 recorded by";
 
 const LEGEND: &str = "\
-Of each call the stations, the telling cases of oracle/src/telling.rs, systems.rs and pivot_cases.rs and cases at the
-bounds come first, of the magnitude the bits of magnitude.rs beside them; then random ones, the larger last.
+Of each call the stations, the telling cases of oracle/src/telling.rs, test_cases.rs, systems.rs and pivot_cases.rs and
+cases at the bounds come first, of the magnitude the bits of magnitude.rs beside them; then random ones, the larger last.
 `oracle/record SEED COUNT CALL NUMBER` prints one case, counted from 0, as a line of the oracle's with its answer.
 
 Little-endian. A count is a u16, a number the u64 of its bits (every not-a-number 7FF8000000000000), bits a u64 as they
@@ -60,9 +61,10 @@ file      'replay 1'; the Adler-32 of what follows, a u32; the counts of cases o
           solve, magnitude, to_lapack and from_lapack; the cases in that order
 answer    counts: the refusal's number (0: none), its place A, B, rounds, positive, negative, zero
 factor    answer; counts ncol nrow nb limit; count 1 for Lift, 0 for Fail; the floor, a number; the lengths of input,
-          panel, d, subdiagonal, block bytes, lift bytes, amounts, order, marks, working buffer; the input. If it is
-          accepted: panel, d, subdiagonal, block bytes, lift bytes, amounts, order, marks; the working buffer then
-          holds +0.0. What a refused call leaves is not recorded: zeros after 7, 8, 9, 23 and 24, else what the buffers held
+          panel, d, subdiagonal, block bytes, lift bytes, amounts, test numbers, order, marks, working buffer; the
+          input. If it is accepted: panel, d, subdiagonal, block bytes, lift bytes, amounts, test numbers (a byte each),
+          order, marks; the working buffer then holds +0.0. What a refused call leaves is not recorded: zeros after 7,
+          8, 9, 23 and 24, else what the buffers held
 inertia   answer; the lengths of d, subdiagonal, block bytes; the three lists
 assembly  answer; counts ncol nrow; the lengths of rows, columns, numbers, panel; the four lists; the panel as it
           is left
@@ -436,9 +438,9 @@ fn factor(to: &mut Bytes, f: &Factor, of: &Answer) {
     to.counts(&[s.ncol, s.nrow, s.nb, s.limit, usize::from(s.mode.floor().is_some())]);
     to.numbers(&[s.mode.floor().unwrap_or(0.0)]);
     let lengths = f.lengths.clone().unwrap_or_else(|| stated_lengths(s));
-    let [panel, d, sub, blocks, lifts, amounts, order, marks, work] = lengths[..] else { unreachable!() };
+    let [panel, d, sub, blocks, lifts, amounts, tests, order, marks, work] = lengths[..] else { unreachable!() };
     assert!([f.panel.len(), panel, work].into_iter().all(|n| n <= ROOM) && order.max(marks) <= ROOM_ROWS);
-    assert!([d, sub, blocks, lifts, amounts].into_iter().all(|n| n <= ROOM_COLUMNS));
+    assert!([d, sub, blocks, lifts, amounts, tests].into_iter().all(|n| n <= ROOM_COLUMNS));
     to.counts(&[f.panel.len()]);
     to.counts(&lengths);
     to.numbers(&f.panel);
@@ -449,6 +451,7 @@ fn factor(to: &mut Bytes, f: &Factor, of: &Answer) {
         to.flags(&f.blocks);
         to.flags(&f.lifts);
         to.numbers(&f.amounts);
+        to.bytes(&f.tests);
         to.counts(&f.order);
         to.flags(marks);
     }
@@ -646,7 +649,9 @@ fn outcome(case: &Case, of: &Answer) -> Vec<String> {
                 (s.ncol < s.nrow, "with tail rows"),
                 (!factored.order.is_sorted(), "with an exchange"),
             ];
-            names(&met)
+            let has = |number: &u8| factored.tests.contains(number);
+            let tests = (0..=4).filter(has).map(|number| format!("with test number {number}"));
+            names(&met).into_iter().chain(tests).collect()
         }
         (Case::Solve(s), Answer::Vector(vector)) => {
             let met = [

@@ -1,5 +1,5 @@
-//! Hand-made factor calls for the test numbers of docs/SCOPE.md, "The pivot tests": the stations that state them, each with
-//! its numbers worked out by hand, and cases that tell the text from a wrong reading of it (`test_readings.rs`).
+//! Hand-made factor calls for the test numbers of docs/SCOPE.md, "The pivot tests": the stations that state them, each
+//! with its numbers worked out by hand, and cases that tell the text from a wrong reading of it (`test_readings.rs`).
 
 use crate::case::*;
 use crate::rules;

@@ -1,6 +1,7 @@
 //! The test numbers of docs/SCOPE.md, "The pivot tests", restated: from the numbers that a step of the reference looked
-//! at, and from the node as it stands at each step (`elimination.rs`). The reference names no test; `rules.rs` holds the
-//! two to one another and to how far the reference looked. A reading's parts can be put otherwise (`test_readings.rs`).
+//! at, and from the node as it stands at each step (`elimination.rs`). The reference names no test; `rules.rs` holds
+//! the two to one another and to how far the reference looked. A reading's parts can be put otherwise
+//! (`test_readings.rs`).
 
 use crate::case::*;
 use crate::elimination::{walk, At, Choice, Taken};
@@ -44,7 +45,7 @@ fn own(at: &At) -> f64 {
     at.node.at(at.k, at.k).abs()
 }
 
-/// The root of the greatest of some squares, and where it stands; the first of equal ones, `from` if none is above zero.
+/// The root of the greatest of some squares, and where it stands: the first of equal ones, `from` if none is above 0.
 pub fn greatest(from: usize, squares: impl Iterator<Item = (usize, f64)>) -> (f64, usize) {
     let (i, square) = squares.fold((from, 0.0), |best, next| if next.1 > best.1 { next } else { best });
     (square.sqrt(), i)

@@ -1,5 +1,5 @@
-//! Readings of docs/SCOPE.md, "The pivot tests", that name a pivot's test and are wrong, each in one thing: the pivot is
-//! the right one, the number beside it is not. And how many cases tell each of them from the right one.
+//! Readings of docs/SCOPE.md, "The pivot tests", that look right and are wrong, each in one thing: the pivot is the
+//! right one, the test number beside it is not. And how many cases tell each of them from the right one.
 
 use crate::case::*;
 use crate::elimination::{At, Taken};

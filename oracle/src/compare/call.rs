@@ -34,9 +34,10 @@ fn filled(lengths: &[usize], x: f64, byte: u8, place: usize) -> Factors {
         blocks: vec![byte; lengths[3]],
         lifted: vec![byte; lengths[4]],
         amounts: vec![x; lengths[5]],
-        order: vec![place; lengths[6]],
-        marks: vec![byte; lengths[7]],
-        work: vec![x; lengths[8]],
+        tests: vec![byte; lengths[6]],
+        order: vec![place; lengths[7]],
+        marks: vec![byte; lengths[8]],
+        work: vec![x; lengths[9]],
     }
 }
 
@@ -51,13 +52,13 @@ fn lent(f: &Factor) -> Factors {
 }
 
 /// Every cell by its bits, buffer by buffer.
-fn cells(of: &Factors) -> [Vec<u64>; 9] {
+fn cells(of: &Factors) -> [Vec<u64>; BUFFERS.len()] {
     let numbers = |xs: &[f64]| xs.iter().map(|x| x.to_bits()).collect();
     let bytes = |xs: &[u8]| xs.iter().map(|&b| b.into()).collect();
     let order = of.order.iter().map(|&i| i as u64).collect();
     let (panel, d, sub) = (numbers(&of.panel), numbers(&of.d), numbers(&of.sub));
-    let (amounts, work) = (numbers(&of.amounts), numbers(&of.work));
-    [panel, d, sub, bytes(&of.blocks), bytes(&of.lifted), amounts, order, bytes(&of.marks), work]
+    let (blocks, lifted, tests, marks) = (bytes(&of.blocks), bytes(&of.lifted), bytes(&of.tests), bytes(&of.marks));
+    [panel, d, sub, blocks, lifted, numbers(&of.amounts), tests, order, marks, numbers(&of.work)]
 }
 
 // ---- the call
@@ -99,9 +100,10 @@ pub fn answered(f: &Factor, answer: Answer) -> Left {
                 blocks: bytes(of.blocks),
                 lifted: bytes(of.lifts),
                 amounts: of.amounts,
+                tests: of.tests,
                 order: of.order,
                 marks: bytes(marks),
-                work: vec![0.0; lengths(f)[8]],
+                work: vec![0.0; lengths(f)[9]],
             };
             Left { outcome: Ok(Report { rounds, inertia: counted(of.inertia) }), buffers }
         }
@@ -173,7 +175,7 @@ pub fn notices() {
     let accepted = Factor { settings, panel, lengths: None };
     let zero = Factor { panel: vec![0.0; 6], ..accepted.clone() };
     let refused = Factor { settings: Settings { nb: 65, ..settings }, ..accepted.clone() };
-    let wrong: [fn(&mut Factors); 10] = [
+    let wrong: [fn(&mut Factors); 12] = [
         |b| flip(&mut b.panel[2]),
         // the upper position
         |b| flip(&mut b.panel[3]),
@@ -182,6 +184,8 @@ pub fn notices() {
         |b| b.blocks[1] ^= 1,
         |b| b.lifted[1] ^= 1,
         |b| flip(&mut b.amounts[1]),
+        |b| b.tests[0] ^= 1,
+        |b| b.tests[1] ^= 4,
         |b| b.order[2] ^= 1,
         |b| b.marks[0] ^= 1,
         |b| flip(&mut b.work[7]),

@@ -9,7 +9,7 @@ use call::{difference, left, must, number, Left};
 use counts::{Counts, Words};
 use oracle::case::*;
 use oracle::random::{self, Rng};
-use oracle::{lines, rules, telling};
+use oracle::{lines, rules, telling, test_cases, test_readings};
 use std::collections::BTreeMap;
 
 /// What the compared nodes met, so that a reader sees what a run has tried.
@@ -23,6 +23,8 @@ struct Met {
     marks: u64,
     panels: u64,
     pairs: u64,
+    /// Accepted calls by the test numbers that they have, in Fail and in Lift.
+    tests: [[u64; 5]; 2],
 }
 
 impl Met {
@@ -35,14 +37,26 @@ impl Met {
             self.rounds += u64::from(report.rounds > 1);
             self.marks += u64::from(b.marks.contains(&1));
             self.panels += u64::from(s.nb < s.ncol);
+            let tests = &mut self.tests[usize::from(s.mode.floor().is_some())];
+            tests.iter_mut().zip(0..).for_each(|(calls, test)| *calls += u64::from(b.tests.contains(&test)));
         }
     }
 
     fn print(&self) {
-        let Met { answers, blocks, lifts, rounds, marks, panels, pairs } = self;
+        let Met { answers, blocks, lifts, rounds, marks, panels, pairs, tests: [fail, lift] } = self;
         let answered: Vec<String> = answers.iter().map(|(number, n)| format!("{number}: {n}")).collect();
         println!("accepted (0) and refused, by number: {}; pairs: {pairs}", answered.join(", "));
         println!("with blocks {blocks}, lifts {lifts}, more rounds than one {rounds}, marks {marks}, panels {panels}");
+        println!("accepted with the test numbers 0 to 4: in Fail {fail:?}, in Lift {lift:?}");
+    }
+
+    /// Each refusal was met, and each test number in either mode; but 0 in Lift alone.
+    fn hold(&self) {
+        let unmet: Vec<usize> = REFUSALS.into_iter().filter(|number| !self.answers.contains_key(number)).collect();
+        assert!(unmet.is_empty(), "no node met {unmet:?}");
+        let [fail, lift] = self.tests;
+        let all = fail[0] == 0 && !fail[1..].contains(&0) && !lift.contains(&0);
+        assert!(all, "a test number was met nowhere, or 0 in Fail: {fail:?}, {lift:?}");
     }
 }
 
@@ -81,14 +95,14 @@ fn seeded(run: &mut Run, seed: u64, small: usize, large: usize) {
 fn main() {
     let (words, seed) = Words::read();
     call::notices();
-    notices_rows();
+    notices_pairs();
     stops_as_stated();
+    tests_as_stated();
     let mut run = Run::default();
     each_once(&mut run);
     seeded(&mut run, seed, words.count(1, 1_000_000), words.count(2, 300));
     run.met.print();
-    let unmet: Vec<usize> = REFUSALS.into_iter().filter(|number| !run.met.answers.contains_key(number)).collect();
-    assert!(unmet.is_empty(), "no node met {unmet:?}");
+    run.met.hold();
     run.counts.end("compared", "differ")
 }
 
@@ -128,18 +142,27 @@ fn stops_as_stated() {
     }
 }
 
+/// The stations have the test numbers that are stated of them by hand, and every wrong reading of them is told.
+fn tests_as_stated() {
+    test_cases::as_stated().unwrap();
+    let told = test_readings::told(&test_cases::calls());
+    let untold: Vec<_> = told.iter().filter(|of| of.1 == 0).collect();
+    assert!(untold.is_empty(), "no case tells {untold:?}");
+}
+
 // ---- what a pair is compared by
 
 fn bits(xs: &[f64]) -> Vec<u64> {
     xs.iter().map(|x| if x.is_nan() { u64::MAX } else { x.to_bits() }).collect()
 }
 
-/// Pivots, lifts, the order's first places, the head's lower rows.
+/// Pivots, test numbers, lifts, the order's first places, the head's lower rows.
 fn head(f: &Factor, l: &Left) -> Vec<Vec<u64>> {
     let (ncol, b) = (f.settings.ncol, &l.buffers);
     let bytes = |xs: &[u8]| xs.iter().map(|&x| x.into()).collect();
     let order = b.order[..ncol].iter().map(|&i| i as u64).collect();
-    let mut all = vec![bits(&b.d), bits(&b.sub), bytes(&b.blocks), bytes(&b.lifted), bits(&b.amounts), order];
+    let notes = [bytes(&b.tests), bytes(&b.lifted), bits(&b.amounts), order];
+    let mut all = [&[bits(&b.d), bits(&b.sub), bytes(&b.blocks)][..], &notes].concat();
     all.extend((0..ncol).map(|i| bits(&nodes::row(f, &b.panel, i)[..=i])));
     all
 }
@@ -157,8 +180,13 @@ fn tails_agree(all: &[(Vec<u64>, Vec<u64>, u8)]) -> bool {
     all.iter().all(|p| all.iter().all(|q| p.0 != q.0 || (p.1 == q.1 && p.2 == q.2)))
 }
 
-/// A tail row with another factor row or mark than its equal is noticed.
-fn notices_rows() {
+/// A head with another test number is noticed, and a tail row with another factor row or mark than its equal.
+fn notices_pairs() {
+    let settings = Settings { ncol: 1, nrow: 2, nb: 1, mode: Mode::Fail, limit: 1 };
+    let f = Factor { settings, panel: vec![4.0, 6.0], lengths: None };
+    let (right, mut wrong) = (must(&f), must(&f));
+    wrong.buffers.tests[0] ^= 1;
+    assert!(right.outcome.is_ok() && head(&f, &right) != head(&f, &wrong));
     let row = |l: u64, mark: u8| (vec![1], vec![l], mark);
     assert!(tails_agree(&[row(2, 0), row(2, 0)]));
     assert!(!tails_agree(&[row(2, 0), row(3, 0)]) && !tails_agree(&[row(2, 0), row(2, 1)]));

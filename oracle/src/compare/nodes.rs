@@ -15,7 +15,7 @@ pub const BOUNDS: Bounds = Bounds { max_col: 12, max_row: 20 };
 fn identity(ncol: usize, nrow: usize, nb: usize, mode: Mode, limit: usize) -> Factor {
     let settings = Settings { ncol, nrow, nb, mode, limit };
     if ncol > 128 || nrow > 1024 || nrow < ncol || nb > 65 {
-        return Factor { settings, panel: Vec::new(), lengths: Some(vec![0; 9]) };
+        return Factor { settings, panel: Vec::new(), lengths: Some(vec![0; BUFFERS.len()]) };
     }
     let mut panel = vec![0.0; ncol * nrow];
     (0..ncol).for_each(|k| panel[k + k * nrow] = 1.0);

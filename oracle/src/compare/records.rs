@@ -103,9 +103,9 @@ fn accepted(s: &Settings, answer: &Answer) -> String {
     f.order.iter().for_each(|i| write!(text, " {i}").unwrap());
     text.push('\n');
     for k in 0..s.ncol {
-        let (block, lift) = (u8::from(f.blocks[k]), u8::from(f.lifts[k]));
+        let (block, lift, test) = (u8::from(f.blocks[k]), u8::from(f.lifts[k]), f.tests[k]);
         let (d, sub, amount) = (bits(f.d[k]), bits(f.sub[k]), bits(f.amounts[k]));
-        writeln!(text, "pivot {k} {block} {d} {sub} {lift} {amount}").unwrap();
+        writeln!(text, "pivot {k} {block} {d} {sub} {lift} {amount} {test}").unwrap();
     }
     let [positive, negative, zero] = f.inertia;
     writeln!(text, "inertia {positive} {negative} {zero}").unwrap();
@@ -131,8 +131,8 @@ pub fn example() -> Vec<u8> {
 /// What it prints.
 pub const EXAMPLE: &str = "accepted rounds 0
 order 1 0
-pivot 0 0 4020000000000000 0000000000000000 0 0000000000000000
-pivot 1 0 3FE0000000000000 0000000000000000 0 0000000000000000
+pivot 0 0 4020000000000000 0000000000000000 0 0000000000000000 3
+pivot 1 0 3FE0000000000000 0000000000000000 0 0000000000000000 1
 inertia 2 0 0
 row 0 4020000000000000 0000000000000000
 row 1 3FD0000000000000 3FE0000000000000
