@@ -45,8 +45,8 @@ const OUTCOMES: [&str; KINDS] = [
 ];
 
 const TITLE: &str =
-    "Answers of the reference, and of solve and the pivot lists as oracle/src/solve.rs and pivots.rs restate them,
-recorded by";
+    "Answers of the reference, with the test numbers that oracle/src/test_numbers.rs works out of its steps, and of solve
+and the pivot lists as oracle/src/solve.rs and pivots.rs restate them, recorded by";
 
 const LEGEND: &str = "\
 Of each call the stations, the telling cases of oracle/src/telling.rs, test_cases.rs, systems.rs and pivot_cases.rs and
