@@ -180,14 +180,15 @@ fn lift(floor: f64, choice: Choice, [d11, d21, d22]: [f64; 3]) -> Option<[f64; 3
 }
 
 /// Takes a node's steps up to a position, each as `choose` says, and shows them to `each`. The choices with their
-/// positions; that at the last position too, which is not taken. What is refused on the way is the caller's to know.
+/// positions, that at the last position too, which is not taken; and the node as it is left. What is refused on the way
+/// is the caller's to know.
 pub fn walk(
     s: &Settings,
     panel: &[f64],
     until: usize,
     choose: impl Fn(&At) -> Choice,
     mut each: impl FnMut(&Taken),
-) -> Vec<(usize, Choice)> {
+) -> (Vec<(usize, Choice)>, Node) {
     let input = &Node::new(s.ncol, s.nrow, panel);
     let (mut node, mut choices, width) = (input.clone(), Vec::new(), s.nb.min(s.ncol.max(1)));
     for kb in (0..s.ncol).step_by(width) {
@@ -198,7 +199,7 @@ pub fn walk(
             let choice = choose(&at);
             choices.push((k, choice));
             if k == until {
-                return choices;
+                return (choices, before);
             }
             let pivot = node.take(&at, choice, &mut each);
             k += pivot.columns;
@@ -206,5 +207,5 @@ pub fn walk(
         }
         node.later(ke, &pivots);
     }
-    choices
+    (choices, node)
 }

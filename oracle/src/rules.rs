@@ -4,6 +4,7 @@
 //! everything else.
 
 use crate::case::*;
+use crate::elimination::Node;
 use crate::{magnitude, pivots, solve, test_numbers};
 use rslab::reach::{self, Factored, Ran, Step, Stop};
 
@@ -80,7 +81,7 @@ fn judge(f: &Factor, ran: Ran) -> Result<Answer, Refusal> {
         Ran::Stopped { at, on, panel, steps } => {
             assert!(s.mode.floor().is_none(), "a run with lifts stopped");
             assert_eq!(stopped_on(s, &panel, at), Some(on), "the tests and the trace differ");
-            assert_eq!(numbered(f, &steps, at).last(), Some(&stop_test(on)), "it stops on another test");
+            assert_eq!(numbered(f, &steps, at).0.last(), Some(&stop_test(on)), "it stops on another test");
             Err(Refusal { number: stop_number(on), a: at, b: 0 })
         }
         Ran::Unended { at, rounds, steps } => {
@@ -91,8 +92,10 @@ fn judge(f: &Factor, ran: Ran) -> Result<Answer, Refusal> {
             let rounds = s.mode.floor().map_or(Vec::new(), |floor| replayed(s, floor, &of));
             assert_eq!(rounds, of.rounds, "the replay and the trace differ");
             assert_eq!(counts(&of.d, &of.sub, &of.blocks), of.inertia, "the counting rule and the Rust differ");
-            assert_eq!(numbered(f, &of.steps, s.ncol), of.tests, "the test numbers are not those of the steps");
+            let (tests, head) = numbered(f, &of.steps, s.ncol);
+            assert_eq!(tests, of.tests, "the test numbers are not those of the steps");
             assert_eq!(blocks_by_tests(&of.steps), of.blocks, "a block's test number is 4, and no other's");
+            assert!(same_head(s, &head, &of), "the elimination by the text and the Rust differ");
             refuse_at(beyond(s.limit, &rounds), 8)?;
             refuse_at((0..s.ncol).find(|&k| !column_sound(s, &of, k)), 9)?;
             let marks = (s.ncol..s.nrow).map(|i| (0..s.ncol).any(|j| !of.panel[i + j * s.nrow].is_finite())).collect();
@@ -102,14 +105,22 @@ fn judge(f: &Factor, ran: Ran) -> Result<Answer, Refusal> {
 }
 
 /// The test numbers by position of a run's steps up to a position, by what they looked at. How far they looked and the
-/// node as it stands say the same.
-fn numbered(f: &Factor, steps: &[Step], until: usize) -> Vec<u8> {
+/// head as it stands say the same; what is left of it, too.
+fn numbered(f: &Factor, steps: &[Step], until: usize) -> (Vec<u8>, Node) {
     let by_numbers: Vec<_> = steps.iter().map(|step| (step.at, test_numbers::of_step(step))).collect();
     let by_shape: Vec<_> = steps.iter().map(|step| (step.at, step.number())).collect();
     assert_eq!(by_numbers, by_shape, "what a step looked at and how far it looked differ");
-    assert_eq!(by_numbers, test_numbers::steps(&f.settings, &f.panel, until), "the text and the trace differ");
+    let (by_text, head) = test_numbers::steps(&f.settings, &f.panel, until);
+    assert_eq!(by_numbers, by_text, "the text and the trace differ");
     let columns = |number: u8| if number == 4 { 2 } else { 1 };
-    by_numbers.into_iter().flat_map(|(_, number)| vec![number; columns(number)]).collect()
+    (by_numbers.into_iter().flat_map(|(_, number)| vec![number; columns(number)]).collect(), head)
+}
+
+/// Whether the head is left so: its order, and its lower numbers by bits, any two not-a-numbers alike.
+fn same_head(s: &Settings, head: &Node, of: &Factored) -> bool {
+    let alike = |x: f64, y: f64| x.to_bits() == y.to_bits() || (x.is_nan() && y.is_nan());
+    let column = |j: usize| (j..s.ncol).all(|i| alike(head.at(i, j), of.panel[i + j * s.nrow]));
+    head.order[..] == of.order[..s.ncol] && (0..s.ncol).all(column)
 }
 
 /// The block bytes that these steps leave.

@@ -4,7 +4,7 @@
 //! (`test_readings.rs`).
 
 use crate::case::*;
-use crate::elimination::{walk, At, Choice, Taken};
+use crate::elimination::{walk, At, Choice, Node, Taken};
 use crate::rules;
 use rslab::reach::Step;
 
@@ -142,9 +142,9 @@ impl Reading {
 }
 
 /// The positions and test numbers of a run's steps up to a position, by the text alone, from the head: the tail steers
-/// nothing.
-pub fn steps(s: &Settings, panel: &[f64], until: usize) -> Vec<(usize, u8)> {
+/// nothing. The head as it is left, too.
+pub fn steps(s: &Settings, panel: &[f64], until: usize) -> (Vec<(usize, u8)>, Node) {
     let head: Vec<f64> = (0..s.ncol).flat_map(|j| &panel[j * s.nrow..j * s.nrow + s.ncol]).copied().collect();
-    let choices = walk(&Settings { nrow: s.ncol, ..*s }, &head, until, |at| AS_WRITTEN.choice(at), |_| ());
-    choices.into_iter().map(|(k, choice)| (k, choice.number)).collect()
+    let (choices, left) = walk(&Settings { nrow: s.ncol, ..*s }, &head, until, |at| AS_WRITTEN.choice(at), |_| ());
+    (choices.into_iter().map(|(k, choice)| (k, choice.number)).collect(), left)
 }
