@@ -106,15 +106,16 @@ extern "C" {
  * position has its turn, from the position on up to the end of its panel. colmax is the greatest magnitude in the
  * position's column, its diagonal left out, and imax the row that has it; rowmax is the greatest in row imax of the
  * symmetric matrix, its diagonal left out; alpha is (1 + the root of 17) / 8, some 0.64. The greatest is found by
- * squares: what vanishes when squared counts as zero. The first test that holds decides:
+ * squares: what vanishes when squared counts as zero, and what overflows as infinite. The first test that holds
+ * decides:
  *
  *   ZERO_COLUMN          |diagonal| and colmax are zero: a 1x1, with lifts alone; without, refusal 7.
  *   OWN_DIAGONAL         |diagonal| >= alpha * colmax: a 1x1, nothing exchanged.
  *   ROW                  |diagonal| >= (alpha * colmax) * (colmax / rowmax): a 1x1, nothing exchanged.
- *   EXCHANGED_DIAGONAL   |diagonal of imax| >= alpha * rowmax: a 1x1 from row imax, which is exchanged with this one.
- *   BLOCK                none of these: a block of this row and imax; both of its positions have the number.
+ *   EXCHANGED_DIAGONAL   |diagonal of imax| >= alpha * rowmax: a 1x1 from row imax, exchanged with the position's row.
+ *   BLOCK                none of these: a block of the position's row and imax; both of its positions have the number.
  *
- * A lift changes none. Later versions may have more numbers.
+ * A lift changes no number. Later versions may have more of them.
  */
 #define MISUKTAAN_TEST_ZERO_COLUMN 0
 #define MISUKTAAN_TEST_OWN_DIAGONAL 1

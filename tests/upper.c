@@ -324,7 +324,7 @@ static void noted(const struct call *c, const struct made *m)
 }
 
 /* Whether the accepted calls had every test number and no other byte: that of a zero column with lifts alone, the four
- * others without lifts too. */
+ * others without lifts. */
 static bool every_test(void)
 {
     bool all = decided[true][MISUKTAAN_TEST_ZERO_COLUMN] && !decided[false][MISUKTAAN_TEST_ZERO_COLUMN];
@@ -434,9 +434,10 @@ static struct made made_with(const struct call *c, int fill)
 }
 
 /*
- * The flag by which a read of an upper position would show: that of an operation on a signalling not-a-number; where the
- * call may raise that flag itself, that of a sum of the greatest numbers. It may where it looks at a not-a-number of its
- * own (the compiler picks the comparison), and where it lifts a zero (the compiler works out the quotient by it, too).
+ * The flag by which a read of an upper position would show: that of an operation on a signalling not-a-number; where
+ * the call may raise that flag itself, that of a sum of the greatest numbers. It may where it looks at a not-a-number
+ * of its own (the compiler picks the comparison), and where it lifts a zero (the compiler works out the quotient by it,
+ * too).
  */
 static int left_to_raise(const struct call *c)
 {

@@ -173,8 +173,8 @@ impl Mode {
 /// The tests compare numbers of the head as it stands when the position has its turn, from the position on up to the
 /// end of its panel. colmax is the greatest magnitude in the position's column, its diagonal left out, and imax the row
 /// that has it; rowmax is the greatest in row imax of the symmetric matrix, its diagonal left out; alpha is some 0.64,
-/// (1 + √17)/8. The greatest is found by squares: what vanishes when squared counts as zero. The first test that holds
-/// decides, in the order of the numbers. A lift changes none.
+/// (1 + √17)/8. The greatest is found by squares: what vanishes when squared counts as zero, and what overflows as
+/// infinite. The first test that holds decides, in the order of the numbers. A lift changes no number.
 ///
 /// Later versions may have more tests, so that a `match` needs an arm for those too. What to tell a caller who asks why
 /// a pivot won: `docs/GUIDE.md` of the repository.

@@ -11,7 +11,6 @@ use Rattle.model.specs.Matrix.{Mat}
 use Rattle.model.specs.Step.{Pivots, SameRecord, is_block}
 use Rattle.model.specs.Head.{State, Tried, refused_by, took, try_of, last_of, noted, Progress, going, after, panel_of}
 use Rattle.model.specs.Kept.{Starts, Recorded}
-use Rattle.model.specs.declared.Mode.{Mode}
 use Rattle.model.specs.declared.Pivoting.{Pivoting}
 use Rattle.model.specs.declared.Pivot.{Pivot}
 use Rattle.model.specs.declared.Refusal.{Refusal}
@@ -90,7 +89,7 @@ took_in ke k T v g e = subst (λ (u : Taken). TakenIn ke k u) e g
 
 pub note-pre : (ke k e : ℕ) (T : Taken) (v : Pivot) (x y : PivotRecord)
     → TakenIn ke k T → T ≡ Ok v → e ≡ last_of k (is_block v.diagonal) → ke ≤ most_columns → NotesPre ke x → SameRecord x y
-    → NotePre k e v.p.0 v.kp.0 y
+    → NotePre k e v.chosen.p.0 v.chosen.kp.0 y
 note-pre ke k e T v x y g z l few h s =
     let w = took_in ke k T v g z in
     let m = last-ge k (is_block v.diagonal) in
@@ -135,11 +134,11 @@ record From (kb k : ℕ) (p : Pivots) : Type 0 where
   recorded : Recorded k p.diagonals.blocks p.partners
   start : Starts p.diagonals.blocks kb
 
-from_step : (mode : Mode) (kb ke limit k : ℕ) (p : Pivots) (v : Pivot) → GoodPivot mode ke limit k v → From kb k p
+from_step : (how : Pivoting) (kb ke k : ℕ) (p : Pivots) (v : Pivot) → GoodPivot how ke k v → From kb k p
     → From kb (last_of k (is_block v.diagonal) + 1) (noted p k (last_of k (is_block v.diagonal)) v)
-from_step mode kb ke limit k p v g w = record {
+from_step how kb ke k p v g w = record {
   at = omega (arith, w.at, last-ge k (is_block v.diagonal));
-  recorded = noted-recorded mode ke limit k p v g w.recorded;
+  recorded = noted-recorded how ke k p v g w.recorded;
   start = noted-starts kb k (last_of k (is_block v.diagonal)) p v w.at (last-ge k (is_block v.diagonal)) w.start;
 }
 
@@ -153,6 +152,6 @@ notes-end ke how kb k before s u h a e l m r =
     let f = sym (rw q at e) in
     let w = subst (Went (λ t. PivotsInside ke t.pivots)) f
     (panel-inside ke how (ke - kb) kb s (record { partner = h.partner; pair = h.pair })) in
-    let v = subst (Reached (From kb) ke) f (panel-reached ke how (From kb) (from_step how.mode kb ke how.limit) (ke - kb) kb s a (omega arith)
+    let v = subst (Reached (From kb) ke) f (panel-reached ke how (From kb) (from_step how kb ke) (ke - kb) kb s a (omega arith)
     (record { at = omega arith; recorded = h.recorded; start = end-starts kb _ _ h.recorded })) in
     record { noted = record { few = omega arith; pair = w.pair; partner = w.partner; recorded = v.1.recorded }; start = v.1.start }

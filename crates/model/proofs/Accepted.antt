@@ -46,33 +46,43 @@ pub record Kept (mode : Mode) (ncol k : ℕ) (p : Pivots) : Type 0 where
   pub walked : Walked ncol k p.notes.order p.diagonals.blocks
   pub told : Told mode k p.diagonals.blocks p.notes.tests
 
+-- after the pivot v at k
+abbrev pub KeptPast : Mode → ℕ → ℕ → Pivots → Pivot → Type 0
+KeptPast mode ncol k p v = let e = last_of k (is_block v.diagonal) in Kept mode ncol (e + 1) (noted p k e v)
+
 -- the first exchange is with the pivot's own row, and so none
-walked-noted : (mode : Mode) (ncol ke limit k : ℕ) (p : Pivots) (v : Pivot) → ke ≤ ncol → GoodPivot mode ke limit k v → Walked ncol k p.notes.order p.diagonals.blocks
+walked-noted : (how : Pivoting) (ncol ke k : ℕ) (p : Pivots) (v : Pivot) → ke ≤ ncol → GoodPivot how ke k v
+    → Walked ncol k p.notes.order p.diagonals.blocks
     → let e = last_of k (is_block v.diagonal) in
     Walked ncol (e + 1) (noted p k e v).notes.order (noted p k e v).diagonals.blocks
 unfolding noted step_bytes
-walked-noted mode ncol ke limit k p v h g w =
-    let none : swapped p.notes.order k v.p.0 ≡ p.notes.order = sym (swapped_same p.notes.order k v.p.0 (sym g.own)) in
-    rw none (step-walked ncol k p.notes.order p.diagonals.blocks (is_block v.diagonal) v.kp.0 (omega (arith, g.last)) g.from (omega (arith, g.row)) w)
+walked-noted how ncol ke k p v h g w =
+    let none : swapped p.notes.order k v.chosen.p.0 ≡ p.notes.order = sym (swapped_same p.notes.order k v.chosen.p.0 (sym g.own)) in
+    rw none (step-walked ncol k p.notes.order p.diagonals.blocks (is_block v.diagonal) v.chosen.kp.0 (omega (arith, g.last)) g.from
+    (omega (arith, g.row)) w)
 
 -- a step keeps all four
-pub noted-kept : (mode : Mode) (ncol ke limit k : ℕ) (p : Pivots) (v : Pivot) → ke ≤ ncol → GoodPivot mode ke limit k v → Kept mode ncol k p
-    → Kept mode ncol (last_of k (is_block v.diagonal) + 1) (noted p k (last_of k (is_block v.diagonal)) v)
+pub noted-kept : (how : Pivoting) (ncol ke k : ℕ) (p : Pivots) (v : Pivot) → ke ≤ ncol → GoodPivot how ke k v → Kept how.mode ncol k p
+    → KeptPast how.mode ncol k p v
 unfolding noted step_bytes step_puts
-noted-kept mode ncol ke limit k p v h g w = record {
-  order =
-      swapped-permutes ncol (swapped p.notes.order k v.p.0) (last_of k (is_block v.diagonal)) v.kp.0 (omega (arith, g.last)) (omega (arith, g.row))
-      (swapped-permutes ncol p.notes.order k v.p.0 (omega (arith, g.last, last-from k (is_block v.diagonal))) (omega (arith, g.first)) w.order);
-  recorded = noted-recorded mode ke limit k p v g w.recorded;
-  walked = walked-noted mode ncol ke limit k p v h g w.walked;
-  told = step-told mode k p.diagonals.blocks p.notes.tests v.test g.zero (is_block v.diagonal) w.recorded.paired g.block w.told;
-}
+noted-kept how ncol ke k p v h g w =
+    let block = is_block v.diagonal in
+    let e = last_of k block in
+    record {
+      order =
+          swapped-permutes ncol (swapped p.notes.order k v.chosen.p.0) e v.chosen.kp.0 (omega (arith, g.last)) (omega (arith, g.row))
+          (swapped-permutes ncol p.notes.order k v.chosen.p.0 (omega (arith, g.last, last-from k block)) (omega (arith, g.own, g.last, last-from k block))
+          w.order);
+      recorded = noted-recorded how ke k p v g w.recorded;
+      walked = walked-noted how ncol ke k p v h g w.walked;
+      told = step-told how.mode k p.diagonals.blocks p.notes.tests v.chosen.test g.allowed block w.recorded.paired g.kind w.told;
+    }
 
 -- a panel keeps them
 pub panel-kept : (ncol ke : ℕ) (how : Pivoting) (n k : ℕ) (s : State) → k ≤ ke → ke ≤ ncol → ke - k ≤ n → Kept how.mode ncol k s.pivots
     → Reached (Kept how.mode ncol) ke (panel_of ke how n k s)
 panel-kept ncol ke how n k s h l f w =
-    panel-reached ke how (Kept how.mode ncol) (λ j p v g x. noted-kept how.mode ncol ke how.limit j p v l g x) n k s h f w
+    panel-reached ke how (Kept how.mode ncol) (λ j p v g x. noted-kept how ncol ke j p v l g x) n k s h f w
 
 -- where a run was done, they hold at its end
 abbrev pub AtEnd : Mode → ℕ → Run → Type 0
@@ -120,7 +130,7 @@ head-kept how ncol nb a b =
       order = own-places ncol;
       recorded = none-recorded _ _;
       walked = none-walked ncol;
-      told = none-told how.mode _ _;
+      told = none-told how.mode (λ i. 0) (λ i. 0);
     })
 
 -- ---- an accepted call

@@ -6,7 +6,7 @@ use mathlib.Core.Bool.{Bool, true, false, cond, ◌&&◌, ◌||◌}
 use Prim.Native.Nat.{ℕ, zero, suc, ◌+◌, ◌-◌, ◌*◌, ◌≤◌, ◌<◌}
 use native.Mathlib.Omega.{arith}
 use native.Mathlib.Nat.{zero-mul}
-use borrow.Author.Tests.{eq-eqb, eqb-true, ltb-false}
+use borrow.Author.Tests.{eq-eqb, ltb-false}
 use lib.Dec.{ltb, eqb}
 use lib.Count.{count_trailing_zeros}
 use lib.Ieee.{Float, nan, inf, fin, up, lt, le, eq, is_nan, of_bits, of_fields, odd, add, mul, div, sum, round, units, size, span, climb}
@@ -14,7 +14,7 @@ use Rattle.std.specs.Prelude.{Option, Some, None, Result, Ok, Err}
 use Rattle.model.specs.Scalar.{◌⊕◌, ◌⊗◌, ◌⊘◌, zero_f, square_of, magnitude_of, maximum_of}
 use Rattle.model.specs.Root.{sqrt_of, alpha, round_root, isqrt, whole_root}
 use Rattle.model.specs.Matrix.{Row, Mat, exchanged}
-use Rattle.model.specs.Choice.{greatest, none_yet, column_greatest, row_greatest, test_number, choose_of}
+use Rattle.model.specs.Choice.{greatest, none_yet, column_greatest, row_greatest, with_row, choose_of}
 use Rattle.model.specs.Head.{settled_one, raised_from, unlifted, settled_two, bar_of, lift_step_of, growth_floor_of, Tried, refused_by, took, after_one, after_two, try_block}
 use Rattle.model.specs.Head.{try_by, try_of, last_of}
 use Rattle.model.specs.Step.{block_of, is_block}
@@ -26,6 +26,7 @@ use Rattle.model.specs.declared.LocalRow.{LocalRow}
 use Rattle.model.specs.declared.Greatest.{Greatest}
 use Rattle.model.specs.declared.Choice.{Choice}
 use Rattle.model.specs.declared.Choice.TheVariants as choice
+use Rattle.model.specs.declared.Chosen.{Chosen}
 use Rattle.model.specs.declared.PivotTest.{PivotTest}
 use Rattle.model.specs.declared.PivotTest.TheVariants as by
 use Rattle.model.specs.declared.OneSettled.{OneSettled}
@@ -33,7 +34,7 @@ use Rattle.model.specs.declared.TwoSettled.{TwoSettled}
 use Rattle.model.specs.declared.Unfit.{Unfit}
 use Rattle.model.specs.declared.Unfit.TheVariants.{Low, OutOfRounds}
 use Rattle.model.specs.declared.Pivot.{Pivot}
-use Rattle.model.specs.Tests.{block_number, Lifts}
+use Rattle.model.specs.Tests.{chooses_block, AllowedIn}
 use Rattle.model.proofs.Cases.{test}
 
 -- ---- the greatest square
@@ -60,13 +61,22 @@ greatest-where f lo (suc n) best =
 
 -- ---- the choice
 
--- what a choice may name: the rows, and the tests that can have chosen a 1x1, and a block
-abbrev pub Chosen : ℕ → ℕ → Choice → Type 0
-Chosen k ke choice.ZeroColumn = Unit {0}
-Chosen k ke (choice.Single t kp) = (k ≤ kp.0) × (kp.0 < ke) × (block_number (test_number t) ≡ false) × (test_number t ≡ 0 → ⊥)
-Chosen k ke (choice.Block t p kp) = (k < kp.0) × (kp.0 < ke) × (k ≤ p.0) × (p.0 < ke) × (p.0 ≡ k) × (block_number (test_number t) ≡ true)
+-- what was chosen at k: its rows stand in the panel, none before k, the first exchange is none, as the tests stand; by a test that chooses such a pivot in
+-- either mode
+pub record ChosenIn (k ke : ℕ) (block : Bool) (c : Chosen) : Type 0 where
+  pub from : last_of k block ≤ c.kp.0
+  pub row : c.kp.0 < ke
+  pub own : c.p.0 ≡ k
+  pub kind : chooses_block c.test ≡ block
+  pub allowed : (mode : Mode) → AllowedIn mode c.test
 
-either-chosen : (k ke : ℕ) (t : Bool) (a b : Choice) → Chosen k ke a → Chosen k ke b → Chosen k ke (cond t a b)
+-- what a choice may name
+abbrev pub ChoiceIn : ℕ → ℕ → Choice → Type 0
+ChoiceIn k ke choice.ZeroColumn = Unit {0}
+ChoiceIn k ke (choice.Single c) = ChosenIn k ke false c
+ChoiceIn k ke (choice.Block c) = ChosenIn k ke true c
+
+either-chosen : (k ke : ℕ) (t : Bool) (a b : Choice) → ChoiceIn k ke a → ChoiceIn k ke b → ChoiceIn k ke (cond t a b)
 either-chosen k ke true a b p q = p
 either-chosen k ke false a b p q = q
 
@@ -103,30 +113,47 @@ column-in a k ke h =
 abbrev row : ℕ → LocalRow
 row i = record { 0 = i }
 
-none-chosen : (k ke : ℕ) (x : Float) (rest : Choice) → k < ke
-    → Chosen k ke (cond (eq (maximum_of (magnitude_of x) zero_f) zero_f) choice.ZeroColumn
-    (cond (le zero_f (magnitude_of x)) (choice.Single by.OwnDiagonal (row k)) rest))
-none-chosen k ke x rest h =
-    ⊎_elim (λ t. rw t (either-chosen k ke (eq (maximum_of (magnitude_of x) zero_f) zero_f) choice.ZeroColumn (choice.Single by.OwnDiagonal (row k)) tt
-    (omega arith, h, refl, λ e. omega arith)))
+-- a test that chooses a 1x1 in either mode; one that chooses a block
+record Alone (t : PivotTest) : Type 0 where
+  kind : chooses_block t ≡ false
+  allowed : (mode : Mode) → AllowedIn mode t
+
+record Together (t : PivotTest) : Type 0 where
+  kind : chooses_block t ≡ true
+  allowed : (mode : Mode) → AllowedIn mode t
+
+single-in : {t : PivotTest} (k ke : ℕ) (at : LocalRow) → k ≤ at.0 → at.0 < ke → Alone t → ChosenIn k ke false (with_row t k at)
+unfolding last_of
+single-in k ke at l h w = record { from = l; row = h; own = refl; kind = w.kind; allowed = w.allowed }
+
+block-in : {t : PivotTest} (k ke : ℕ) (at : LocalRow) → k < at.0 → at.0 < ke → Together t → ChosenIn k ke true (with_row t k at)
+unfolding last_of
+block-in k ke at l h w = record { from = omega arith; row = h; own = refl; kind = w.kind; allowed = w.allowed }
+
+none-chosen : {t : PivotTest} (k ke : ℕ) (x : Float) (rest : Choice) → k < ke → Alone t
+    → ChoiceIn k ke (cond (eq (maximum_of (magnitude_of x) zero_f) zero_f) choice.ZeroColumn
+    (cond (le zero_f (magnitude_of x)) (choice.Single (with_row t k (row k))) rest))
+none-chosen k ke x rest h w =
+    ⊎_elim
+    (λ t. rw t (either-chosen k ke (eq (maximum_of (magnitude_of x) zero_f) zero_f) choice.ZeroColumn _ tt (single-in k ke (row k) (omega arith) h w)))
     (λ t. rw t tt) (own-or-zero x)
 
-some-chosen : (k ke : ℕ) (at : LocalRow) (zero own by_row other : Bool) → k < at.0 → at.0 < ke
-    → Chosen k ke (cond zero choice.ZeroColumn (cond own (choice.Single by.OwnDiagonal (row k))
-    (cond by_row (choice.Single by.RowTest (row k)) (cond other (choice.Single by.ExchangedDiagonal at) (choice.Block by.Block (row k) at)))))
-some-chosen k ke at true own by_row other l r = tt
-some-chosen k ke at false true by_row other l r = (omega arith, omega arith, refl, λ e. omega arith)
-some-chosen k ke at false false true other l r = (omega arith, omega arith, refl, λ e. omega arith)
-some-chosen k ke at false false false true l r = (omega arith, omega arith, refl, λ e. omega arith)
-some-chosen k ke at false false false false l r = (l, r, omega arith, omega arith, refl, refl)
+some-chosen : {t u v w : PivotTest} (k ke : ℕ) (at : LocalRow) (zero own by_row other : Bool) → k < at.0 → at.0 < ke → Alone t → Alone u → Alone v → Together w
+    → ChoiceIn k ke (cond zero choice.ZeroColumn (cond own (choice.Single (with_row t k (row k)))
+    (cond by_row (choice.Single (with_row u k (row k))) (cond other (choice.Single (with_row v k at)) (choice.Block (with_row w k at))))))
+some-chosen k ke at true own by_row other l r a b c d = tt
+some-chosen k ke at false true by_row other l r a b c d = single-in k ke (row k) (omega arith) (omega arith) a
+some-chosen k ke at false false true other l r a b c d = single-in k ke (row k) (omega arith) (omega arith) b
+some-chosen k ke at false false false true l r a b c d = single-in k ke at (omega arith) r c
+some-chosen k ke at false false false false l r a b c d = block-in k ke at l r d
 
 -- a block's two rows are different rows of the panel, so it never crosses ke
-pub choose-in : (a : Mat) (k ke : ℕ) → k < ke → Chosen k ke (choose_of a k ke)
+pub choose-in : (a : Mat) (k ke : ℕ) → k < ke → ChoiceIn k ke (choose_of a k ke)
 unfolding choose_of
 choose-in a k ke h =
     ⊎_elim
     (λ e. let colmax : sqrt_of (column_greatest a k ke).square ≡ zero_f = ap (λ (g : Greatest). sqrt_of g.square) e ∙ colmax-zero in
-    rw (colmax, bar-zero) (none-chosen k ke (a k k) _ h))
+    rw (colmax, bar-zero) (none-chosen k ke (a k k) _ h (record { kind = refl; allowed = λ mode. tt })))
     (λ p. let l = p.0 in
     let r = p.1 in
     let own = magnitude_of (a k k) in
@@ -134,26 +161,25 @@ choose-in a k ke h =
     let colmax = sqrt_of (column_greatest a k ke).square in
     let rowmax = sqrt_of (row_greatest a k ke at.0).square in
     some-chosen k ke at (eq (maximum_of own colmax) zero_f) (le (alpha ⊗ colmax) own) (le (alpha ⊗ colmax ⊗ (colmax ⊘ rowmax)) own)
-    (le (alpha ⊗ rowmax) (magnitude_of (a at.0 at.0))) (omega arith) (omega arith)) (column-where a k ke)
+    (le (alpha ⊗ rowmax) (magnitude_of (a at.0 at.0))) (omega arith) (omega arith) (record { kind = refl; allowed = λ mode. tt })
+    (record { kind = refl; allowed = λ mode. tt }) (record { kind = refl; allowed = λ mode. tt }) (record { kind = refl; allowed = λ mode. tt }))
+    (column-where a k ke)
 
 -- ---- a step
 
--- the pivot's last column and its rows stand within the panel, no row before the column that it is exchanged with; its first exchange is none, as the tests
--- stand; its rounds keep to the limit; its test is a block's if it is one, and the zero column's in Lift alone
-pub record GoodPivot (mode : Mode) (ke limit k : ℕ) (v : Pivot) : Type 0 where
+-- the pivot stands within the panel, as it was chosen; its test is allowed in the mode; its rounds keep to the limit
+pub record GoodPivot (how : Pivoting) (ke k : ℕ) (v : Pivot) : Type 0 where
   pub last : last_of k (is_block v.diagonal) < ke
-  pub from : last_of k (is_block v.diagonal) ≤ v.kp.0
-  pub row : v.kp.0 < ke
-  pub ahead : k ≤ v.p.0
-  pub first : v.p.0 < ke
-  pub own : v.p.0 ≡ k
-  pub few : v.rounds ≤ limit
-  pub block : block_number (test_number v.test) ≡ is_block v.diagonal
-  pub zero : test_number v.test ≡ 0 → Lifts mode
+  pub from : last_of k (is_block v.diagonal) ≤ v.chosen.kp.0
+  pub row : v.chosen.kp.0 < ke
+  pub own : v.chosen.p.0 ≡ k
+  pub few : v.rounds ≤ how.limit
+  pub kind : chooses_block v.chosen.test ≡ is_block v.diagonal
+  pub allowed : AllowedIn how.mode v.chosen.test
 
-abbrev pub Good : Mode → ℕ → ℕ → ℕ → Tried → Type 0
-Good mode ke limit k (refused_by r) = Unit {0}
-Good mode ke limit k (took v a m) = GoodPivot mode ke limit k v
+abbrev pub Good : Pivoting → ℕ → ℕ → Tried → Type 0
+Good how ke k (refused_by r) = Unit {0}
+Good how ke k (took v a m) = GoodPivot how ke k v
 
 -- a block's rounds
 abbrev pub FewRounds : ℕ → Result TwoSettled Unfit → Type 0
@@ -180,52 +206,47 @@ settled-few (Lift floor) limit b =
     (Ok (unlifted b))
     (raised-few limit b (bar_of floor b) (lift_step_of floor b) limit 1 (lift_step_of floor b) (omega arith)) (omega arith)
 
--- a block's test is not the zero column's
-block-nonzero : (n : ℕ) → block_number n ≡ true → n ≡ 0 → ⊥
-block-nonzero n h e = omega (arith, eqb-true n 4 h)
-
-module _ (mode : Mode) (ke : ℕ) (a m : Mat) (limit k : ℕ) where
-  one-good : (t : PivotTest) (kp : ℕ) (s : Option OneSettled) → k ≤ kp → kp < ke → block_number (test_number t) ≡ false → (test_number t ≡ 0 → Lifts mode)
-      → Good mode ke limit k (after_one ke a m t k kp s)
+module _ (how : Pivoting) (ke : ℕ) (a m : Mat) (k : ℕ) (c : Chosen) where
+  one-good : (s : Option OneSettled) → k ≤ c.kp.0 → c.kp.0 < ke → c.p.0 ≡ k → chooses_block c.test ≡ false → AllowedIn how.mode c.test
+      → Good how ke k (after_one ke a m k c s)
   unfolding last_of
-  one-good t kp None l r b z = tt
-  one-good t kp (Some s) l r b z =
-      record { last = omega arith; from = l; row = r; ahead = omega arith; first = omega arith; own = refl; few = omega arith; block = b; zero = z }
+  one-good None l r o b w = tt
+  one-good (Some s) l r o b w = record { last = omega arith; from = l; row = r; own = o; few = omega arith; kind = b; allowed = w }
 
-  two_good : (t : PivotTest) (p kp : ℕ) (s : Result TwoSettled Unfit) → FewRounds limit s → k < kp → kp < ke → k ≤ p → p < ke → p ≡ k
-      → block_number (test_number t) ≡ true → Good mode ke limit k (after_two ke a m t k p kp s)
+  two_good : (s : Result TwoSettled Unfit) → FewRounds how.limit s → ChosenIn k ke true c → Good how ke k (after_two ke a m k c s)
   unfolding last_of
-  two_good t p kp (Err Low) f l r g h o b = tt
-  two_good t p kp (Err OutOfRounds) f l r g h o b = tt
-  two_good t p kp (Ok s) f l r g h o b = record {
-    last = omega arith;
-    from = omega arith;
-    row = r;
-    ahead = g;
-    first = h;
-    own = o;
+  two_good (Err Low) f w = tt
+  two_good (Err OutOfRounds) f w = tt
+  two_good (Ok s) f w = record {
+    last = omega (arith, w.from, w.row);
+    from = w.from;
+    row = w.row;
+    own = w.own;
     few = f;
-    block = b;
-    zero = λ e. absurd (block-nonzero (test_number t) b e);
+    kind = w.kind;
+    allowed = w.allowed how.mode;
   }
 
-  block-good : (t : PivotTest) (p kp : ℕ) → k < kp → kp < ke → k ≤ p → p < ke → p ≡ k → block_number (test_number t) ≡ true
-      → Good mode ke limit k (try_block ke a m mode limit t k p kp)
-  block-good t p kp = two_good t p kp (settled_two mode limit _) (settled-few mode limit _)
+  block-good : ChosenIn k ke true c → Good how ke k (try_block ke a m how.mode how.limit k c)
+  block-good = two_good (settled_two how.mode how.limit _) (settled-few how.mode how.limit _)
 
 module _ (ke : ℕ) (a m : Mat) (limit k : ℕ) where
-  by-good : (mode : Mode) (c : Choice) → k < ke → Chosen k ke c → Good mode ke limit k (try_by ke a m mode limit k c)
-  by-good Fail choice.ZeroColumn h p = tt
-  by-good (Lift floor) choice.ZeroColumn h p =
-      one-good (Lift floor) ke a m limit k by.ZeroColumn k (settled_one (Lift floor) (a k k)) (omega arith) h refl (λ e. tt)
-  by-good Fail (choice.Single t kp) h p =
-      one-good Fail ke a m limit k t kp.0 (settled_one Fail (a kp.0 kp.0)) p.0 p.1 p.2 (λ e. p.3 e)
-  by-good (Lift floor) (choice.Single t kp) h p =
-      one-good (Lift floor) ke a m limit k t kp.0 (settled_one (Lift floor) (a kp.0 kp.0)) p.0 p.1 p.2 (λ e. tt)
-  by-good Fail (choice.Block t q kp) h p = block-good Fail ke (exchanged k q.0 ke a) m limit k t q.0 kp.0 p.0 p.1 p.2 p.3 p.4 p.5
-  by-good (Lift floor) (choice.Block t q kp) h p =
-      block-good (Lift floor) ke (exchanged k q.0 ke a) m limit k t q.0 kp.0 p.0 p.1 p.2 p.3 p.4 p.5
+  -- a 1x1 that a test chose
+  single-good : (mode : Mode) (c : Chosen) (s : Option OneSettled) → ChosenIn k ke false c
+      → Good (record { mode = mode; limit = limit }) ke k (after_one ke a m k c s)
+  unfolding last_of
+  single-good mode c s w = one-good (record { mode = mode; limit = limit }) ke a m k c s w.from w.row w.own w.kind (w.allowed mode)
 
-pub try-good : (ke : ℕ) (a m : Mat) (how : Pivoting) (k : ℕ) → k < ke → Good how.mode ke how.limit k (try_of ke a m how k)
+  by-good : (mode : Mode) (o : Choice) → k < ke → ChoiceIn k ke o → Good (record { mode = mode; limit = limit }) ke k (try_by ke a m mode limit k o)
+  by-good Fail choice.ZeroColumn h w = tt
+  by-good (Lift floor) choice.ZeroColumn h w =
+      one-good (record { mode = Lift floor; limit = limit }) ke a m k (with_row by.ZeroColumn k (row k)) (settled_one (Lift floor) (a k k))
+      (omega arith) h refl refl tt
+  by-good Fail (choice.Single c) h w = single-good Fail c (settled_one Fail (a c.kp.0 c.kp.0)) w
+  by-good (Lift floor) (choice.Single c) h w = single-good (Lift floor) c (settled_one (Lift floor) (a c.kp.0 c.kp.0)) w
+  by-good Fail (choice.Block c) h w = block-good (record { mode = Fail; limit = limit }) ke (exchanged k c.p.0 ke a) m k c w
+  by-good (Lift floor) (choice.Block c) h w = block-good (record { mode = Lift floor; limit = limit }) ke (exchanged k c.p.0 ke a) m k c w
+
+pub try-good : (ke : ℕ) (a m : Mat) (how : Pivoting) (k : ℕ) → k < ke → Good how ke k (try_of ke a m how k)
 unfolding try_of
 try-good ke a m how k h = by-good ke a m how.limit k how.mode (choose_of a k ke) h (choose-in a k ke h)

@@ -10,7 +10,7 @@ use lib.Ieee.{Float, lt, le}
 use Rattle.std.specs.Prelude.{Option, Some, None, Result, Ok, Err}
 use Rattle.model.specs.Scalar.{◌⊕◌, magnitude_of}
 use Rattle.model.specs.Matrix.{Mat, view, head_of, exchanged}
-use Rattle.model.specs.Choice.{choose_of}
+use Rattle.model.specs.Choice.{with_row, choose_of}
 use Rattle.model.specs.Step.{Diagonals, block_of}
 use Rattle.model.specs.Panel.{Panel}
 use Rattle.model.specs.Head as head
@@ -26,7 +26,7 @@ use Rattle.model.specs.declared.Pivoting.{Pivoting}
 use Rattle.model.specs.declared.Block.{Block}
 use Rattle.model.specs.declared.Choice.{Choice}
 use Rattle.model.specs.declared.Choice.TheVariants as choice
-use Rattle.model.specs.declared.PivotTest.{PivotTest}
+use Rattle.model.specs.declared.Chosen.{Chosen}
 use Rattle.model.specs.declared.PivotTest.TheVariants as by
 use Rattle.model.specs.declared.OneSettled.{OneSettled}
 use Rattle.model.specs.declared.TwoSettled.{TwoSettled}
@@ -82,35 +82,35 @@ module _ (ncol : ℕ) where
   TriedEnds mode (took v a m) = Unit {0}
 
   module _ (ke : ℕ) (a m : Mat) (k : ℕ) (h : k < ncol) where
-    after_one_lem : (mode : Mode) (t : PivotTest) (kp : ℕ) (s : Option OneSettled) → OneEnds mode s → TriedEnds mode (after_one ke a m t k kp s)
+    after_one_lem : (mode : Mode) (c : Chosen) (s : Option OneSettled) → OneEnds mode s → TriedEnds mode (after_one ke a m k c s)
     unfolding among
-    after_one_lem Fail t kp None w = record { listed = refl; column = h; alone = refl }
-    after_one_lem (Lift floor) t kp None w = absurd w
-    after_one_lem mode t kp (Some s) w = tt
+    after_one_lem Fail c None w = record { listed = refl; column = h; alone = refl }
+    after_one_lem (Lift floor) c None w = absurd w
+    after_one_lem mode c (Some s) w = tt
 
-    try_one : (mode : Mode) (t : PivotTest) (kp : ℕ) (d : Float) → TriedEnds mode (after_one ke a m t k kp (settled_one mode d))
-    try_one mode t kp d = after_one_lem mode t kp (settled_one mode d) (one-ends mode d)
+    try_one : (mode : Mode) (c : Chosen) (d : Float) → TriedEnds mode (after_one ke a m k c (settled_one mode d))
+    try_one mode c d = after_one_lem mode c (settled_one mode d) (one-ends mode d)
 
-    after_two_lem : (mode : Mode) (t : PivotTest) (p kp : ℕ) (s : Result TwoSettled Unfit) → TwoEnds mode s → TriedEnds mode (after_two ke a m t k p kp s)
+    after_two_lem : (mode : Mode) (c : Chosen) (s : Result TwoSettled Unfit) → TwoEnds mode s → TriedEnds mode (after_two ke a m k c s)
     unfolding among
-    after_two_lem Fail t p kp (Err Low) w = record { listed = refl; column = h; alone = refl }
-    after_two_lem (Lift floor) t p kp (Err Low) w = absurd w
-    after_two_lem Fail t p kp (Err OutOfRounds) w = absurd w
-    after_two_lem (Lift floor) t p kp (Err OutOfRounds) w = record { listed = refl; column = h; alone = refl }
-    after_two_lem mode t p kp (Ok s) w = tt
+    after_two_lem Fail c (Err Low) w = record { listed = refl; column = h; alone = refl }
+    after_two_lem (Lift floor) c (Err Low) w = absurd w
+    after_two_lem Fail c (Err OutOfRounds) w = absurd w
+    after_two_lem (Lift floor) c (Err OutOfRounds) w = record { listed = refl; column = h; alone = refl }
+    after_two_lem mode c (Ok s) w = tt
 
-    try-block : (mode : Mode) (limit : ℕ) (t : PivotTest) (p kp : ℕ) → TriedEnds mode (try_block ke a m mode limit t k p kp)
-    try-block mode limit t p kp = after_two_lem mode t p kp (settled_two mode limit _) (two_ends mode limit _)
+    try-block : (mode : Mode) (limit : ℕ) (c : Chosen) → TriedEnds mode (try_block ke a m mode limit k c)
+    try-block mode limit c = after_two_lem mode c (settled_two mode limit _) (two_ends mode limit _)
 
   module _ (ke : ℕ) (a m : Mat) (k : ℕ) (h : k < ncol) where
-    try-by : (mode : Mode) (limit : ℕ) (c : Choice) → TriedEnds mode (try_by ke a m mode limit k c)
+    try-by : (mode : Mode) (limit : ℕ) (o : Choice) → TriedEnds mode (try_by ke a m mode limit k o)
     unfolding among
     try-by Fail limit choice.ZeroColumn = record { listed = refl; column = h; alone = refl }
-    try-by (Lift floor) limit choice.ZeroColumn = try_one ke a m k h (Lift floor) by.ZeroColumn k (a k k)
-    try-by Fail limit (choice.Single t kp) = try_one ke a m k h Fail t kp.0 (a kp.0 kp.0)
-    try-by (Lift floor) limit (choice.Single t kp) = try_one ke a m k h (Lift floor) t kp.0 (a kp.0 kp.0)
-    try-by Fail limit (choice.Block t p kp) = try-block ke (exchanged k p.0 ke a) m k h Fail limit t p.0 kp.0
-    try-by (Lift floor) limit (choice.Block t p kp) = try-block ke (exchanged k p.0 ke a) m k h (Lift floor) limit t p.0 kp.0
+    try-by (Lift floor) limit choice.ZeroColumn = try_one ke a m k h (Lift floor) (with_row by.ZeroColumn k (record { 0 = k })) (a k k)
+    try-by Fail limit (choice.Single c) = try_one ke a m k h Fail c (a c.kp.0 c.kp.0)
+    try-by (Lift floor) limit (choice.Single c) = try_one ke a m k h (Lift floor) c (a c.kp.0 c.kp.0)
+    try-by Fail limit (choice.Block c) = try-block ke (exchanged k c.p.0 ke a) m k h Fail limit c
+    try-by (Lift floor) limit (choice.Block c) = try-block ke (exchanged k c.p.0 ke a) m k h (Lift floor) limit c
 
   try-ends : (ke : ℕ) (a m : Mat) (how : Pivoting) (k : ℕ) → k < ncol → TriedEnds how.mode (try_of ke a m how k)
   unfolding try_of

@@ -9,7 +9,6 @@ use Rattle.model.specs.Matrix.{put}
 use Rattle.model.specs.Step.{Pivots, past_of, first_of, is_block}
 use Rattle.model.specs.Head.{State, Tried, refused_by, took, try_of, last_of, byte_of, noted, Progress, stopped, going, after, panel_of}
 use Rattle.model.specs.Kept.{Paired, Starts, Ahead, Recorded}
-use Rattle.model.specs.declared.Mode.{Mode}
 use Rattle.model.specs.declared.Pivoting.{Pivoting}
 use Rattle.model.specs.declared.Pivot.{Pivot}
 use Rattle.model.proofs.Cases.{test, cmp}
@@ -81,7 +80,7 @@ step-paired f k false w = record {
 
 -- ---- what a step puts at a pivot's columns
 
--- y at its last column, then x at k: so partners, and test numbers
+-- y at its last column, then x at k: both the partners and the test numbers are put so
 unfoldable pub step_puts : (ℕ → ℕ) → ℕ → Bool → ℕ → ℕ → ℕ → ℕ
 step_puts f k two y x = put (put f (last_of k two) y) k x
 
@@ -150,12 +149,13 @@ step-ahead f q k two p kp w hp hk c h s =
 -- ---- a step
 
 -- the record after a step keeps to both
-pub noted-recorded : (mode : Mode) (ke limit k : ℕ) (p : Pivots) (v : Pivot) → GoodPivot mode ke limit k v → Recorded k p.diagonals.blocks p.partners
+pub noted-recorded : (how : Pivoting) (ke k : ℕ) (p : Pivots) (v : Pivot) → GoodPivot how ke k v → Recorded k p.diagonals.blocks p.partners
     → Recorded (last_of k (is_block v.diagonal) + 1) (noted p k (last_of k (is_block v.diagonal)) v).diagonals.blocks (noted p k (last_of k (is_block v.diagonal)) v).partners
 unfolding noted step_bytes step_puts
-noted-recorded mode ke limit k p v g w = record {
+noted-recorded how ke k p v g w = record {
   paired = step-paired p.diagonals.blocks k (is_block v.diagonal) w.paired;
-  ahead = step-ahead p.diagonals.blocks p.partners k (is_block v.diagonal) v.p.0 v.kp.0 w g.ahead g.from;
+  ahead = step-ahead p.diagonals.blocks p.partners k (is_block v.diagonal) v.chosen.p.0 v.chosen.kp.0 w
+      (omega (arith, g.own)) g.from;
 }
 
 -- nothing is recorded yet
@@ -183,9 +183,9 @@ Reached P ke (stopped r) = Unit {0}
 Reached P ke (going k s) = (k ≡ ke) × P ke s.pivots
 
 module _ (ke : ℕ) (how : Pivoting) (P : ℕ → Pivots → Type 0)
-    (step : (k : ℕ) (p : Pivots) (v : Pivot) → GoodPivot how.mode ke how.limit k v → P k p → P (last_of k (is_block v.diagonal) + 1) (noted p k (last_of k (is_block v.diagonal)) v)) where
+    (step : (k : ℕ) (p : Pivots) (v : Pivot) → GoodPivot how ke k v → P k p → P (last_of k (is_block v.diagonal) + 1) (noted p k (last_of k (is_block v.diagonal)) v)) where
   -- through what a step leads to: a refusal, or the next column
-  pub after-reached : (k : ℕ) (s : State) (f : ℕ → State → Progress) (t : Tried) → Good how.mode ke how.limit k t → P k s.pivots
+  pub after-reached : (k : ℕ) (s : State) (f : ℕ → State → Progress) (t : Tried) → Good how ke k t → P k s.pivots
       → ((m : ℕ) (u : State) → k < m → m ≤ ke → P m u.pivots → Reached P ke (f m u)) → Reached P ke (after t s k f)
   after-reached k s f (refused_by r) g w next = tt
   after-reached k s f (took v a m) g w next =

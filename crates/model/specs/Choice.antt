@@ -9,6 +9,7 @@ use Rattle.model.specs.declared.LocalRow.{LocalRow}
 use Rattle.model.specs.declared.Greatest.{Greatest}
 use Rattle.model.specs.declared.Choice.{Choice}
 use Rattle.model.specs.declared.Choice.TheVariants.{ZeroColumn, Single, Block}
+use Rattle.model.specs.declared.Chosen.{Chosen}
 use Rattle.model.specs.declared.PivotTest.{PivotTest}
 use Rattle.model.specs.declared.PivotTest.TheVariants as by
 
@@ -41,8 +42,11 @@ test_number by.RowTest = 2
 test_number by.ExchangedDiagonal = 3
 test_number by.Block = 4
 
--- the five tests in their order, each naming itself in its choice; imax is the row of the column's greatest square, and the first row of a block is
--- k's own
+-- chosen at k by a test, with the row kp: nothing is exchanged before kp is
+abbrev pub with_row : PivotTest → ℕ → LocalRow → Chosen
+with_row t k kp = record { test = t; p = record { 0 = k }; kp = kp }
+
+-- the five tests in their order, each naming itself in its choice; imax is the row of the column's greatest square
 unfoldable pub choose_of : Mat → ℕ → ℕ → Choice
 choose_of a k ke =
     let here : LocalRow = record { 0 = k } in
@@ -52,8 +56,8 @@ choose_of a k ke =
     let colmax = sqrt_of c.square in
     let bar = alpha ⊗ colmax in
     let rowmax = sqrt_of (row_greatest a k ke imax.0).square in
-    let block = Block by.Block here imax in
-    let exchanged_diagonal = cond (le (alpha ⊗ rowmax) (magnitude_of (a imax.0 imax.0))) (Single by.ExchangedDiagonal imax) block in
-    let row_test = cond (le (bar ⊗ (colmax ⊘ rowmax)) own) (Single by.RowTest here) exchanged_diagonal in
-    let own_diagonal = cond (le bar own) (Single by.OwnDiagonal here) row_test in
+    let block = Block (with_row by.Block k imax) in
+    let exchanged_diagonal = cond (le (alpha ⊗ rowmax) (magnitude_of (a imax.0 imax.0))) (Single (with_row by.ExchangedDiagonal k imax)) block in
+    let row_test = cond (le (bar ⊗ (colmax ⊘ rowmax)) own) (Single (with_row by.RowTest k here)) exchanged_diagonal in
+    let own_diagonal = cond (le bar own) (Single (with_row by.OwnDiagonal k here)) row_test in
     cond (eq (maximum_of own colmax) zero_f) ZeroColumn own_diagonal

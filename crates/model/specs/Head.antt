@@ -5,7 +5,7 @@ use Rattle.std.specs.Float.Ieee.{lt, le, eq}
 use Rattle.model.specs.Scalar.{◌⊕◌, ◌⊖◌, ◌⊗◌, zero_f, reciprocal_of, magnitude_of, maximum_of, lift_of, growth_eps}
 use Rattle.model.specs.Root.{sqrt_of}
 use Rattle.model.specs.Matrix.{Mat, put, swapped, exchanged, with_column}
-use Rattle.model.specs.Choice.{choose_of, test_number}
+use Rattle.model.specs.Choice.{choose_of, test_number, with_row}
 use Rattle.model.specs.Step.{one, two, Diagonals, Notes, Pivots, block_of, block_in, is_block, first_number, last_number, under_number, first_multiplier}
 use Rattle.model.specs.Step.{second_multiplier, eliminated, row_after_steps}
 use Rattle.model.specs.Panel.{Panel, row_after_panel}
@@ -18,7 +18,7 @@ use Rattle.model.specs.declared.Diagonal.TheVariants.{One, Two}
 use Rattle.model.specs.declared.Pivot.{Pivot}
 use Rattle.model.specs.declared.Choice.{Choice}
 use Rattle.model.specs.declared.Choice.TheVariants as choice
-use Rattle.model.specs.declared.PivotTest.{PivotTest}
+use Rattle.model.specs.declared.Chosen.{Chosen}
 use Rattle.model.specs.declared.PivotTest.TheVariants as by
 use Rattle.model.specs.declared.OneSettled.{OneSettled}
 use Rattle.model.specs.declared.TwoSettled.{TwoSettled}
@@ -107,35 +107,34 @@ kept_two ke k b a mult =
     (λ j. second_multiplier b (a j k) (a j (k + 1)))
 
 module _ (ke : ℕ) (a₀ mult : Mat) where
-  -- a 1x1 at k by the test t, exchanged with row kp
-  abbrev pub after_one : PivotTest → ℕ → ℕ → Option OneSettled → Tried
-  after_one t k kp None = refused_by (refusal.ZeroPivot (record { 0 = k }))
-  after_one t k kp (Some s) =
-      let a = exchanged k kp ke a₀ in
-      took (record { test = t; p = record { 0 = k }; kp = record { 0 = kp }; diagonal = One s.d; lift = s.lift; rounds = 0 })
-      (head_one ke k s.d a) (kept_one ke k s.d a mult)
+  -- a 1x1 at k, as chosen: exchanged with its row kp
+  abbrev pub after_one : ℕ → Chosen → Option OneSettled → Tried
+  after_one k c None = refused_by (refusal.ZeroPivot (record { 0 = k }))
+  after_one k c (Some s) =
+      let a = exchanged k c.kp.0 ke a₀ in
+      took (record { chosen = c; diagonal = One s.d; lift = s.lift; rounds = 0 }) (head_one ke k s.d a) (kept_one ke k s.d a mult)
 
-  -- a block at k and k + 1 by the test t, k + 1 exchanged with row kp; k was exchanged with row p before
-  abbrev pub after_two : PivotTest → ℕ → ℕ → ℕ → Result TwoSettled Unfit → Tried
-  after_two t k p kp (Err Low) = refused_by (refusal.LowBlock (record { 0 = k }))
-  after_two t k p kp (Err OutOfRounds) = refused_by (refusal.Rounds (record { 0 = k }))
-  after_two t k p kp (Ok s) =
-      let a = exchanged (k + 1) kp ke a₀ in
-      took (record { test = t; p = record { 0 = p }; kp = record { 0 = kp }; diagonal = Two s.block; lift = s.lift; rounds = s.rounds })
-      (head_two ke k s.block a) (kept_two ke k s.block a mult)
+  -- a block at k and k + 1, as chosen: k + 1 exchanged with its row kp; k was exchanged with its row p before
+  abbrev pub after_two : ℕ → Chosen → Result TwoSettled Unfit → Tried
+  after_two k c (Err Low) = refused_by (refusal.LowBlock (record { 0 = k }))
+  after_two k c (Err OutOfRounds) = refused_by (refusal.Rounds (record { 0 = k }))
+  after_two k c (Ok s) =
+      let a = exchanged (k + 1) c.kp.0 ke a₀ in
+      took (record { chosen = c; diagonal = Two s.block; lift = s.lift; rounds = s.rounds }) (head_two ke k s.block a) (kept_two ke k s.block a mult)
 
   -- the block is read after the exchange
-  abbrev pub try_block : Mode → ℕ → PivotTest → ℕ → ℕ → ℕ → Tried
-  try_block mode limit t k p kp =
-      let a = exchanged (k + 1) kp ke a₀ in
-      after_two t k p kp (settled_two mode limit (block_in a k))
+  abbrev pub try_block : Mode → ℕ → ℕ → Chosen → Tried
+  try_block mode limit k c =
+      let a = exchanged (k + 1) c.kp.0 ke a₀ in
+      after_two k c (settled_two mode limit (block_in a k))
 
 -- the chosen 1x1 stands at row kp; a block's first exchange comes before all else; a zero column is refused in Fail and a 1x1 in Lift
 abbrev pub try_by : ℕ → Mat → Mat → Mode → ℕ → ℕ → Choice → Tried
 try_by ke a mult Fail limit k choice.ZeroColumn = refused_by (refusal.ZeroColumn (record { 0 = k }))
-try_by ke a mult (Lift floor) limit k choice.ZeroColumn = after_one ke a mult by.ZeroColumn k k (settled_one (Lift floor) (a k k))
-try_by ke a mult mode limit k (choice.Single t kp) = after_one ke a mult t k kp.0 (settled_one mode (a kp.0 kp.0))
-try_by ke a mult mode limit k (choice.Block t p kp) = try_block ke (exchanged k p.0 ke a) mult mode limit t k p.0 kp.0
+try_by ke a mult (Lift floor) limit k choice.ZeroColumn =
+    after_one ke a mult k (with_row by.ZeroColumn k (record { 0 = k })) (settled_one (Lift floor) (a k k))
+try_by ke a mult mode limit k (choice.Single c) = after_one ke a mult k c (settled_one mode (a c.kp.0 c.kp.0))
+try_by ke a mult mode limit k (choice.Block c) = try_block ke (exchanged k c.p.0 ke a) mult mode limit k c
 
 -- the step at k
 unfoldable pub try_of : ℕ → Mat → Mat → Pivoting → ℕ → Tried
@@ -173,15 +172,15 @@ with_notes n k e v =
     record {
       lifts = put (put n.lifts e (lift_byte v.lift)) k (lift_byte v.lift);
       amounts = put (put n.amounts e (lift_amount v.lift)) k (lift_amount v.lift);
-      tests = put (put n.tests e (test_number v.test)) k (test_number v.test);
-      order = swapped (swapped n.order k v.p.0) e v.kp.0;
+      tests = put (put n.tests e (test_number v.chosen.test)) k (test_number v.chosen.test);
+      order = swapped (swapped n.order k v.chosen.p.0) e v.chosen.kp.0;
     }
 
 unfoldable pub noted : Pivots → ℕ → ℕ → Pivot → Pivots
 noted p k e v =
     record {
       diagonals = with_diagonal p.diagonals k e v.diagonal;
-      partners = put (put p.partners e v.p.0) k v.kp.0;
+      partners = put (put p.partners e v.chosen.p.0) k v.chosen.kp.0;
       notes = with_notes p.notes k e v;
     }
 

@@ -100,8 +100,8 @@ pub struct Greatest {
     pub at: LocalRow,
 }
 
-// The pivot tests, in their order: which of them decided on a pivot. `test_number` of specs/Choice.antt gives the number
-// that a caller is told.
+// The pivot tests, in their order: which of them decided on a pivot. `test_number` of specs/Choice.antt gives the
+// number that a caller is told.
 #[derive(Clone, Copy)]
 pub enum PivotTest {
     ZeroColumn,
@@ -111,14 +111,21 @@ pub enum PivotTest {
     Block,
 }
 
-// What the pivot tests choose at k: nothing, since the column test finds zero; a 1x1 with the row that is exchanged
-// with k; a block with the row that is exchanged with k, which is k's own as the tests stand, and the row that is then
-// exchanged with k + 1. With a pivot goes the test that decided on it.
+// A chosen pivot at k: the test that decided on it; the row that is exchanged with k before anything else, which is k's
+// own but for a rook block; and the row that is then exchanged with the pivot's last column.
+#[derive(Clone, Copy)]
+pub struct Chosen {
+    pub test: PivotTest,
+    pub p: LocalRow,
+    pub kp: LocalRow,
+}
+
+// What the pivot tests choose at k: nothing, since the column test finds zero; a 1x1; a block.
 #[derive(Clone, Copy)]
 pub enum Choice {
     ZeroColumn,
-    Single(PivotTest, LocalRow),
-    Block(PivotTest, LocalRow, LocalRow),
+    Single(Chosen),
+    Block(Chosen),
 }
 
 // The chosen 1x1 as it is taken: its number, and where it was lifted by how much.
@@ -143,14 +150,11 @@ pub enum Unfit {
     OutOfRounds,
 }
 
-// What a step took: the test that decided on it, the row exchanged with its first column before anything else (its own
-// but for a rook block), the row exchanged with its last column, its numbers, where it was lifted by how much, the
-// rounds that its lift used.
+// What a step took: the pivot as it was chosen, its numbers, where it was lifted by how much, the rounds that its lift
+// used.
 #[derive(Clone, Copy)]
 pub struct Pivot {
-    pub test: PivotTest,
-    pub p: LocalRow,
-    pub kp: LocalRow,
+    pub chosen: Chosen,
     pub diagonal: Diagonal,
     pub lift: Option<f64>,
     pub rounds: usize,

@@ -37,11 +37,11 @@ pub noted-is : (s : Pivots) (d' sub' : Row) (bl' pa' li' : ℕ → ℕ) (am' : R
     → d' ≡ put (put s.diagonals.d e (last_number v.diagonal)) k (first_number v.diagonal)
     → sub' ≡ put (put s.diagonals.sub e zero_f) k (under_number v.diagonal)
     → bl' ≡ put (put s.diagonals.blocks e 0) k (byte_of (is_block v.diagonal))
-    → pa' ≡ put (put s.partners e v.p.0) k v.kp.0
+    → pa' ≡ put (put s.partners e v.chosen.p.0) k v.chosen.kp.0
     → li' ≡ put (put s.notes.lifts e (lift_byte v.lift)) k (lift_byte v.lift)
     → am' ≡ put (put s.notes.amounts e (lift_amount v.lift)) k (lift_amount v.lift)
-    → te' ≡ put (put s.notes.tests e (test_number v.test)) k (test_number v.test)
-    → or' ≡ swapped (swapped s.notes.order k v.p.0) e v.kp.0
+    → te' ≡ put (put s.notes.tests e (test_number v.chosen.test)) k (test_number v.chosen.test)
+    → or' ≡ swapped (swapped s.notes.order k v.chosen.p.0) e v.chosen.kp.0
     → record {
       diagonals = record { d = d'; sub = sub'; blocks = bl' };
       partners = pa';

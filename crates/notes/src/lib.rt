@@ -1,5 +1,5 @@
-// What is noted of a pivot in the record of pivots: its numbers and block byte, its lift, its test number, its exchanges.
-// `note` leaves exactly `noted` of crates/model/specs/Head.antt.
+// What is noted of a pivot in the record of pivots: its numbers and block byte, its lift, its test number, its
+// exchanges. `note` leaves exactly `noted` of crates/model/specs/Head.antt.
 // origin: src/numeric/ldlt/bunch_kaufman.rs, fn ll_bk_panel_step
 #![tactic(auto)]
 
@@ -57,7 +57,7 @@ pub fn last_column(k: Elim, x: Diagonal) -> Elim
 // Notes the pivot v in columns k to e: in D, in the partners, in what the caller is told. Its exchanges are k with p,
 // then e with kp.
 pub fn note(r: &mut PivotRecord, k: Elim, e: Elim, v: Pivot)
-    requires { NotePre k.0 e.0 v.p.0 v.kp.0 r.old }
+    requires { NotePre k.0 e.0 v.chosen.p.0 v.chosen.kp.0 r.old }
     ensures same { SameRecord r.old r.new }
     ensures value { recorded_in r.new ≡ noted (recorded_in r.old) k.0 e.0 v }
 {
@@ -73,14 +73,14 @@ pub fn note(r: &mut PivotRecord, k: Elim, e: Elim, v: Pivot)
     let block = u8::from(diagonal::is_block(x));
     let lifted = u8::from(v.lift.is_some());
     let amount = v.lift.unwrap_or(0.0);
-    let test = test_number(v.test);
+    let test = test_number(v.chosen.test);
     put_both(d, k, e, diagonal::first_number(x), diagonal::last_number(x));
     put_both(sub, k, e, diagonal::under_number(x), 0.0);
     put_both(blocks, k, e, block, 0);
-    put_both(partners, k, e, v.kp.0 as u16, v.p.0 as u16);
+    put_both(partners, k, e, v.chosen.kp.0 as u16, v.chosen.p.0 as u16);
     put_both(lifts, k, e, lifted, lifted);
     put_both(amounts, k, e, amount, amount);
     put_both(tests, k, e, test, test);
-    put_swap(order, k, v.p);
-    put_swap(order, e, v.kp);
+    put_swap(order, k, v.chosen.p);
+    put_swap(order, e, v.chosen.kp);
 }

@@ -8,7 +8,7 @@ use borrow.Author.Tests.{lt-ltb, le-leb, eq-eqb, ne_eqb, ltb-true, ltb-false, eq
 use lib.Dec.{ltb}
 use lib.Ieee.{Float}
 use Rattle.model.specs.Matrix.{Row, Mat, put, with_column, exchanged}
-use Rattle.model.specs.Choice.{choose_of}
+use Rattle.model.specs.Choice.{with_row, choose_of}
 use Rattle.model.specs.Step.{Diagonals, Pivots, begins, block_at, past_of, step_at, arrived, row_after_step, row_stepped, row_after_steps}
 use Rattle.model.specs.Head.{settled_one, settled_two, kept_one, kept_two, after_one, after_two}
 use Rattle.model.specs.Head.{State, Tried, try_by, try_of, last_of, noted, Progress, going, after, panel_of, blank}
@@ -19,7 +19,7 @@ use Rattle.model.specs.declared.Pivoting.{Pivoting}
 use Rattle.model.specs.declared.Mode.TheVariants.{Fail, Lift}
 use Rattle.model.specs.declared.Choice.{Choice}
 use Rattle.model.specs.declared.Choice.TheVariants as choice
-use Rattle.model.specs.declared.PivotTest.{PivotTest}
+use Rattle.model.specs.declared.Chosen.{Chosen}
 use Rattle.model.specs.declared.PivotTest.TheVariants as by
 use Rattle.model.specs.declared.OneSettled.{OneSettled}
 use Rattle.model.specs.declared.TwoSettled.{TwoSettled}
@@ -147,24 +147,24 @@ module _ (nrow ncol kb ke : ℕ) where
     abbrev Alike : Mat → Tried → Tried → Type 0
     Alike s t u = onward nrow ncol kb ke (after t (at s m p r) k f) ≡ onward nrow ncol kb ke (after u (at s n p r) k f)
 
-    one_alike : (s a : Mat) (t : PivotTest) (kp : ℕ) (d : Option OneSettled) → Alike s (after_one ke a m t k kp d) (after_one ke a n t k kp d)
+    one_alike : (s a : Mat) (c : Chosen) (d : Option OneSettled) → Alike s (after_one ke a m k c d) (after_one ke a n k c d)
     unfolding noted last_of
-    one_alike s a t kp None = refl
-    one_alike s a t kp (Some o) = more false _ _ _ _ _ (kept-one kb ke k p.diagonals.blocks m n (exchanged k kp ke a) kept o.d)
+    one_alike s a c None = refl
+    one_alike s a c (Some o) = more false _ _ _ _ _ (kept-one kb ke k p.diagonals.blocks m n (exchanged k c.kp.0 ke a) kept o.d)
 
-    two-alike : (s a : Mat) (t : PivotTest) (q kp : ℕ) (d : Result TwoSettled Unfit) → Alike s (after_two ke a m t k q kp d) (after_two ke a n t k q kp d)
+    two-alike : (s a : Mat) (c : Chosen) (d : Result TwoSettled Unfit) → Alike s (after_two ke a m k c d) (after_two ke a n k c d)
     unfolding noted last_of
-    two-alike s a t q kp (Err Low) = refl
-    two-alike s a t q kp (Err OutOfRounds) = refl
-    two-alike s a t q kp (Ok o) = more true _ _ _ _ _ (kept-two kb ke k p.diagonals.blocks m n (exchanged (k + 1) kp ke a) kept o.block)
+    two-alike s a c (Err Low) = refl
+    two-alike s a c (Err OutOfRounds) = refl
+    two-alike s a c (Ok o) = more true _ _ _ _ _ (kept-two kb ke k p.diagonals.blocks m n (exchanged (k + 1) c.kp.0 ke a) kept o.block)
 
     by_alike : (a : Mat) (mode : Mode) (limit : ℕ) (c : Choice) → Alike a (try_by ke a m mode limit k c) (try_by ke a n mode limit k c)
     by_alike a Fail limit choice.ZeroColumn = refl
-    by_alike a (Lift floor) limit choice.ZeroColumn = one_alike a a by.ZeroColumn k (settled_one (Lift floor) (a k k))
-    by_alike a Fail limit (choice.Single t kp) = one_alike a a t kp.0 (settled_one Fail (a kp.0 kp.0))
-    by_alike a (Lift floor) limit (choice.Single t kp) = one_alike a a t kp.0 (settled_one (Lift floor) (a kp.0 kp.0))
-    by_alike a Fail limit (choice.Block t q kp) = two-alike a (exchanged k q.0 ke a) t q.0 kp.0 (settled_two Fail limit _)
-    by_alike a (Lift floor) limit (choice.Block t q kp) = two-alike a (exchanged k q.0 ke a) t q.0 kp.0 (settled_two (Lift floor) limit _)
+    by_alike a (Lift floor) limit choice.ZeroColumn = one_alike a a (with_row by.ZeroColumn k (record { 0 = k })) (settled_one (Lift floor) (a k k))
+    by_alike a Fail limit (choice.Single c) = one_alike a a c (settled_one Fail (a c.kp.0 c.kp.0))
+    by_alike a (Lift floor) limit (choice.Single c) = one_alike a a c (settled_one (Lift floor) (a c.kp.0 c.kp.0))
+    by_alike a Fail limit (choice.Block c) = two-alike a (exchanged k c.p.0 ke a) c (settled_two Fail limit _)
+    by_alike a (Lift floor) limit (choice.Block c) = two-alike a (exchanged k c.p.0 ke a) c (settled_two (Lift floor) limit _)
 
   panel-any : (how : Pivoting) (l k : ℕ) (a m n : Mat) (p : Pivots) (r : ℕ) → ke - k ≤ l → Kept kb ke k p.diagonals.blocks m n
       → onward nrow ncol kb ke (panel_of ke how l k (at a m p r)) ≡ onward nrow ncol kb ke (panel_of ke how l k (at a n p r))

@@ -7,14 +7,15 @@ use lib.Ieee.{Float, nan, inf, fin, up, down, mul, le, eq, of_bits}
 use Rattle.model.specs.Scalar.{◌⊗◌, ◌⊘◌, zero_f, magnitude_of, square_of, maximum_of}
 use Rattle.model.specs.Root.{sqrt_of, alpha}
 use Rattle.model.specs.Matrix.{Mat}
-use Rattle.model.specs.Choice.{none_yet, column_greatest, row_greatest, choose_of}
+use Rattle.model.specs.Choice.{none_yet, column_greatest, row_greatest, with_row, choose_of}
+use Rattle.model.specs.Head.{last_of}
 use Rattle.model.specs.declared.LocalRow.{LocalRow}
 use Rattle.model.specs.declared.Greatest.{Greatest}
 use Rattle.model.specs.declared.Choice.{Choice}
 use Rattle.model.specs.declared.Choice.TheVariants.{ZeroColumn, Single, Block}
 use Rattle.model.specs.declared.PivotTest.{PivotTest}
 use Rattle.model.specs.declared.PivotTest.TheVariants as by
-use Rattle.model.proofs.Bounds.{Chosen, choose-in}
+use Rattle.model.proofs.Bounds.{ChoiceIn, choose-in}
 use Rattle.greatest.proofs.Squares.{greatest-keeps}
 use Rattle.rule.specs.Chosen.{by_row, ChosenWithin}
 use Rattle.rule.specs.Reach.{Reaches, ReachPre}
@@ -22,15 +23,16 @@ use Rattle.rule.proofs.Units.{ahead-unsigned, ahead-round}
 
 -- a choice stands within the panel, a block's second row below k
 pub chosen : (a : Mat) (k ke : ℕ) (c : Choice) → k < ke → c ≡ choose_of a k ke → (c ≡ choose_of a k ke) × ChosenWithin k ke c
-chosen a k ke c h e = (e, go c (subst (λ (x : Choice). Chosen k ke x) (sym e) (choose-in a k ke h)))
+unfolding last_of
+chosen a k ke c h e = (e, go c (subst (λ (x : Choice). ChoiceIn k ke x) (sym e) (choose-in a k ke h)))
   where
-    go : (c : Choice) → Chosen k ke c → ChosenWithin k ke c
+    go : (c : Choice) → ChoiceIn k ke c → ChosenWithin k ke c
     go ZeroColumn w = tt
-    go (Single t kp) w = record { low = w.0; high = w.1 }
-    go (Block t p kp) w = (record { low = w.2; high = w.3 }, record { low = omega (arith, w.0); high = w.1 })
+    go (Single c) w = record { low = w.from; high = w.row }
+    go (Block c) w = (record { low = omega (arith, w.own); high = omega (arith, w.own, w.from, w.row) }, record { low = w.from; high = w.row })
 
 abbrev here : PivotTest → ℕ → Choice
-here t k = Single t (record { 0 = k })
+here t k = Single (with_row t k (record { 0 = k }))
 
 -- ---- the first test without the root: neither the diagonal's magnitude nor the greatest square has a sign
 
@@ -98,10 +100,10 @@ module _ (a : Mat) (k ke : ℕ) (own colmax bar rowmax : Float) (imax : LocalRow
   -- y is the other diagonal and other its magnitude
   module _ (y other reach : Float) (ey : y ≡ a imax.0 imax.0) (eu : other ≡ magnitude_of y) (ef : reach ≡ alpha ⊗ rowmax)
       (q : le (bar ⊗ (colmax ⊘ rowmax)) own ≡ false) where
-    pub way-other : le reach other ≡ true → Single by.ExchangedDiagonal imax ≡ by_row a k ke own colmax imax
+    pub way-other : le reach other ≡ true → Single (with_row by.ExchangedDiagonal k imax) ≡ by_row a k ke own colmax imax
     unfolding by_row
     way-other w = rw (← er, ← ew, ← eb, ← ey, ← eu, ← ef, q, w)
 
-    pub way_block : le reach other ≡ false → Block by.Block (record { 0 = k }) imax ≡ by_row a k ke own colmax imax
+    pub way_block : le reach other ≡ false → Block (with_row by.Block k imax) ≡ by_row a k ke own colmax imax
     unfolding by_row
     way_block w = rw (← er, ← ew, ← eb, ← ey, ← eu, ← ef, q, w)

@@ -3,16 +3,16 @@
 #![tactic(auto)]
 
 ghost use Rattle.std.specs.Prelude.{◌≡◌, true, length};
-ghost use Rattle.model.specs.Scalar.{◌⊗◌};
+ghost use Rattle.model.specs.Scalar.{◌⊗◌, magnitude_of};
 ghost use Rattle.model.specs.Root.{sqrt_of, alpha};
 ghost use Rattle.model.specs.Matrix.{view};
-ghost use Rattle.model.specs.Choice.{choose_of};
+ghost use Rattle.model.specs.Choice.{with_row, choose_of, column_greatest};
 ghost use Rattle.model.specs.Head.{scale_of, growth_floor_of};
-ghost use Rattle.greatest.specs.Greatest.{ColumnPre, Within, SquareOf};
+ghost use Rattle.greatest.specs.Greatest.{ColumnPre, Within, SquareOf, FoundIn};
 ghost use Rattle.rule.specs.Chosen.{by_row, ChosenWithin};
 ghost use Rattle.rule.specs.Reach.{Reaches, ReachPre};
 
-use model::{Block, Choice, Elim, Frame, LocalRow, PivotTest};
+use model::{Block, Choice, Chosen, Elim, Frame, Greatest, LocalRow, PivotTest};
 
 // Bunch and Kaufman's rule: a name for its two constants and its tests.
 #[derive(Clone, Copy)]
@@ -24,6 +24,17 @@ pub fn scale(b: Block) -> f64
 {
     let diagonal = scalar::maximum(scalar::magnitude(b.d11), scalar::magnitude(b.d22));
     scalar::maximum(diagonal, scalar::magnitude(b.d21))
+}
+
+// Chosen at k by a test, with the row kp: nothing is exchanged before kp is.
+pub fn with_row(test: PivotTest, k: Elim, kp: LocalRow) -> Chosen
+    ensures { result ≡ with_row test k.0 kp }
+{
+    Chosen {
+        test,
+        p: LocalRow(k.0),
+        kp,
+    }
 }
 
 impl PivotRule {
@@ -87,15 +98,34 @@ impl PivotRule {
         let row = greatest::row_greatest(panel, at, k, imax);
         let rowmax = PivotRule::root_of(row.square, greatest::across(panel, at.nrow, imax, row.at));
         if own >= PivotRule::threshold(colmax) * (colmax / rowmax) {
-            return Choice::Single(PivotTest::RowTest, LocalRow(k.0));
+            return Choice::Single(with_row(PivotTest::RowTest, k, LocalRow(k.0)));
         }
         if scalar::magnitude(grid::get(panel, at.nrow, imax.0, imax.0))
             >= PivotRule::threshold(rowmax)
         {
-            Choice::Single(PivotTest::ExchangedDiagonal, imax)
+            Choice::Single(with_row(PivotTest::ExchangedDiagonal, k, imax))
         } else {
-            Choice::Block(PivotTest::Block, LocalRow(k.0), imax)
+            Choice::Block(with_row(PivotTest::Block, k, imax))
         }
+    }
+
+    // The tests at k, by the root of the greatest square of its column. own is the diagonal's magnitude.
+    // origin: src/numeric/ldlt/bunch_kaufman.rs, fn ll_bk_panel_step
+    fn choose_by_root(panel: &[f64], at: Frame, k: Elim, own: f64, column: Greatest) -> Choice
+        requires column_pre { ColumnPre at.nrow at.ncol k.0 at.ke (length panel.now) }
+        requires own { own ≡ magnitude_of (view at.nrow panel.now k.0 k.0) }
+        requires column { column ≡ column_greatest (view at.nrow panel.now) k.0 at.ke }
+        requires found_in { FoundIn k.0 at.ke column (view at.nrow panel.now column.at.0 k.0) }
+        ensures { result ≡ choose_of (view at.nrow panel.now) k.0 at.ke }
+    {
+        let colmax = PivotRule::root_of(column.square, grid::get(panel, at.nrow, column.at.0, k.0));
+        if scalar::maximum(own, colmax) == 0.0 {
+            return Choice::ZeroColumn;
+        }
+        if own >= PivotRule::threshold(colmax) {
+            return Choice::Single(with_row(PivotTest::OwnDiagonal, k, LocalRow(k.0)));
+        }
+        PivotRule::choose_by_row(panel, at, k, own, colmax, column.at)
     }
 
     // The pivot at k of a panel; the test that chooses names itself. Squares are compared: an entry whose square
@@ -106,20 +136,13 @@ impl PivotRule {
         ensures value { result ≡ choose_of (view at.nrow panel.now) k.0 at.ke }
         ensures chosen_within { ChosenWithin k.0 at.ke result }
     {
-        let own_diagonal = Choice::Single(PivotTest::OwnDiagonal, LocalRow(k.0));
         let own = scalar::magnitude(grid::get(panel, at.nrow, k.0, k.0));
         let column = greatest::column_greatest(panel, at, k);
         if PivotRule::reaches(own, column.square) {
-            return own_diagonal;
+            Choice::Single(with_row(PivotTest::OwnDiagonal, k, LocalRow(k.0)))
+        } else {
+            PivotRule::choose_by_root(panel, at, k, own, column)
         }
-        let colmax = PivotRule::root_of(column.square, grid::get(panel, at.nrow, column.at.0, k.0));
-        if scalar::maximum(own, colmax) == 0.0 {
-            return Choice::ZeroColumn;
-        }
-        if own >= PivotRule::threshold(colmax) {
-            return own_diagonal;
-        }
-        PivotRule::choose_by_row(panel, at, k, own, colmax, column.at)
     }
 
     // What a block's determinant must pass.

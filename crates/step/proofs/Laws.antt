@@ -20,7 +20,7 @@ use Rattle.model.specs.declared.LocalRow.{LocalRow}
 use Rattle.model.specs.declared.Refusal.TheVariants as refusal
 use Rattle.model.specs.declared.Choice.{Choice}
 use Rattle.model.specs.declared.Choice.TheVariants.{ZeroColumn, Single, Block}
-use Rattle.model.specs.declared.PivotTest.{PivotTest}
+use Rattle.model.specs.declared.Chosen.{Chosen}
 use Rattle.model.specs.declared.OneSettled.{OneSettled}
 use Rattle.model.specs.declared.TwoSettled.{TwoSettled}
 use Rattle.model.specs.declared.Unfit.{Unfit}
@@ -49,55 +49,53 @@ two-pre at k kp len len' len_m h e =
 pub corner-in : (nrow ncol k i j len : ℕ) → BlockPre nrow ncol k len → i ≤ k + 1 → j ≤ k + 1 → In nrow i j len
 corner-in nrow ncol k i j len h a b = in-panel nrow ncol i j len h.panel (omega arith) (omega arith)
 
--- ---- a 1x1: x is the number at row kp, S its settlement, B the matrix exchanged, B' and M' what is left
+-- ---- a 1x1, c as chosen: x is the number at its row kp, S its settlement, B the matrix exchanged, B' and M' what is left
 
-single-by : (t : PivotTest) (ke k kp : ℕ) (A M : Mat) (mode : Mode) (x : Float) (S o : Option OneSettled) → x ≡ A kp kp → S ≡ settled_one mode x → S ≡ o
-    → after_one ke A M t k kp o ≡ single_of ke A M mode t k kp
+single-by : (ke k : ℕ) (c : Chosen) (A M : Mat) (mode : Mode) (x : Float) (S o : Option OneSettled) → x ≡ A c.kp.0 c.kp.0 → S ≡ settled_one mode x → S ≡ o
+    → after_one ke A M k c o ≡ single_of ke A M mode k c
 unfolding single_of
-single-by t ke k kp A M mode x S o e s z = ap (after_one ke A M t k kp) (sym z ∙ s ∙ ap (settled_one mode) e)
+single-by ke k c A M mode x S o e s z = ap (after_one ke A M k c) (sym z ∙ s ∙ ap (settled_one mode) e)
 
-pub single-stop : (t : PivotTest) (ke : ℕ) (k : Elim) (kp : ℕ) (A M B N : Mat) (mode : Mode) (x : Float) (S : Option OneSettled)
-    → x ≡ A kp kp → S ≡ settled_one mode x → S ≡ None → tried (Err (refusal.ZeroPivot k)) B N ≡ single_of ke A M mode t k.0 kp
+pub single-stop : (ke : ℕ) (k : Elim) (c : Chosen) (A M B N : Mat) (mode : Mode) (x : Float) (S : Option OneSettled)
+    → x ≡ A c.kp.0 c.kp.0 → S ≡ settled_one mode x → S ≡ None → tried (Err (refusal.ZeroPivot k)) B N ≡ single_of ke A M mode k.0 c
 unfolding tried
-single-stop t ke k kp A M B N mode x S e s z = single-by t ke k.0 kp A M mode x S None e s z
+single-stop ke k c A M B N mode x S e s z = single-by ke k.0 c A M mode x S None e s z
 
-pub single-took : (t : PivotTest) (ke k kp : ℕ) (A M B B' M' : Mat) (mode : Mode) (x : Float) (o : OneSettled) (S : Option OneSettled)
-    → x ≡ A kp kp → S ≡ settled_one mode x → S ≡ Some o → B ≡ exchanged k kp ke A
+pub single-took : (ke k : ℕ) (c : Chosen) (A M B B' M' : Mat) (mode : Mode) (x : Float) (o : OneSettled) (S : Option OneSettled)
+    → x ≡ A c.kp.0 c.kp.0 → S ≡ settled_one mode x → S ≡ Some o → B ≡ exchanged k c.kp.0 ke A
     → B' ≡ head_one ke k o.d B → M' ≡ kept_one ke k o.d B M
-    → tried (Ok (record { test = t; p = record { 0 = k }; kp = record { 0 = kp }; diagonal = One o.d; lift = o.lift; rounds = 0 })) B' M'
-    ≡ single_of ke A M mode t k kp
+    → tried (Ok (record { chosen = c; diagonal = One o.d; lift = o.lift; rounds = 0 })) B' M' ≡ single_of ke A M mode k c
 unfolding tried
-single-took t ke k kp A M B B' M' mode x o S e s z b b' m' =
-    rw (m', b', b) (single-by t ke k kp A M mode x S (Some o) e s z)
+single-took ke k c A M B B' M' mode x o S e s z b b' m' =
+    rw (m', b', b) (single-by ke k c A M mode x S (Some o) e s z)
 
--- ---- a block: B is the matrix exchanged, b its block, S the settlement, B' and M' what is left
+-- ---- a block, c as chosen: B is the matrix exchanged, b its block, S the settlement, B' and M' what is left
 
-block-by : (t : PivotTest) (ke k p kp limit : ℕ) (A M B : Mat) (mode : Mode) (b : Numbers) (S o : Result TwoSettled Unfit) → B ≡ exchanged (k + 1) kp ke A → b ≡ block_in B k
-    → S ≡ settled_two mode limit b → S ≡ o → after_two ke A M t k p kp o ≡ two_of ke A M mode limit t k p kp
+block-by : (ke k limit : ℕ) (c : Chosen) (A M B : Mat) (mode : Mode) (b : Numbers) (S o : Result TwoSettled Unfit) → B ≡ exchanged (k + 1) c.kp.0 ke A
+    → b ≡ block_in B k → S ≡ settled_two mode limit b → S ≡ o → after_two ke A M k c o ≡ two_of ke A M mode limit k c
 unfolding two_of
-block-by t ke k p kp limit A M B mode b S o x e s z =
-    ap (after_two ke A M t k p kp) (sym z ∙ s ∙ ap (settled_two mode limit) (e ∙ ap (λ (P : Mat). block_in P k) x))
+block-by ke k limit c A M B mode b S o x e s z =
+    ap (after_two ke A M k c) (sym z ∙ s ∙ ap (settled_two mode limit) (e ∙ ap (λ (P : Mat). block_in P k) x))
 
-pub block-stop : (t : PivotTest) (ke : ℕ) (k : Elim) (p kp limit : ℕ) (A M B N : Mat) (mode : Mode) (b : Numbers) (S : Result TwoSettled Unfit)
-    → B ≡ exchanged (k.0 + 1) kp ke A → b ≡ block_in B k.0 → S ≡ settled_two mode limit b → S ≡ Err Low
-    → tried (Err (refusal.LowBlock k)) B N ≡ two_of ke A M mode limit t k.0 p kp
+pub block-stop : (ke : ℕ) (k : Elim) (limit : ℕ) (c : Chosen) (A M B N : Mat) (mode : Mode) (b : Numbers) (S : Result TwoSettled Unfit)
+    → B ≡ exchanged (k.0 + 1) c.kp.0 ke A → b ≡ block_in B k.0 → S ≡ settled_two mode limit b → S ≡ Err Low
+    → tried (Err (refusal.LowBlock k)) B N ≡ two_of ke A M mode limit k.0 c
 unfolding tried
-block-stop t ke k p kp limit A M B N mode b S x e s z = block-by t ke k.0 p kp limit A M B mode b S (Err Low) x e s z
+block-stop ke k limit c A M B N mode b S x e s z = block-by ke k.0 limit c A M B mode b S (Err Low) x e s z
 
-pub block-rounds : (t : PivotTest) (ke : ℕ) (k : Elim) (p kp limit : ℕ) (A M B N : Mat) (mode : Mode) (b : Numbers) (S : Result TwoSettled Unfit)
-    → B ≡ exchanged (k.0 + 1) kp ke A → b ≡ block_in B k.0 → S ≡ settled_two mode limit b → S ≡ Err OutOfRounds
-    → tried (Err (refusal.Rounds k)) B N ≡ two_of ke A M mode limit t k.0 p kp
+pub block-rounds : (ke : ℕ) (k : Elim) (limit : ℕ) (c : Chosen) (A M B N : Mat) (mode : Mode) (b : Numbers) (S : Result TwoSettled Unfit)
+    → B ≡ exchanged (k.0 + 1) c.kp.0 ke A → b ≡ block_in B k.0 → S ≡ settled_two mode limit b → S ≡ Err OutOfRounds
+    → tried (Err (refusal.Rounds k)) B N ≡ two_of ke A M mode limit k.0 c
 unfolding tried
-block-rounds t ke k p kp limit A M B N mode b S x e s z = block-by t ke k.0 p kp limit A M B mode b S (Err OutOfRounds) x e s z
+block-rounds ke k limit c A M B N mode b S x e s z = block-by ke k.0 limit c A M B mode b S (Err OutOfRounds) x e s z
 
-pub block-took : (t : PivotTest) (ke k p kp limit : ℕ) (A M B B' M' : Mat) (mode : Mode) (b : Numbers) (o : TwoSettled) (S : Result TwoSettled Unfit)
-    → B ≡ exchanged (k + 1) kp ke A → b ≡ block_in B k → S ≡ settled_two mode limit b → S ≡ Ok o
+pub block-took : (ke k limit : ℕ) (c : Chosen) (A M B B' M' : Mat) (mode : Mode) (b : Numbers) (o : TwoSettled) (S : Result TwoSettled Unfit)
+    → B ≡ exchanged (k + 1) c.kp.0 ke A → b ≡ block_in B k → S ≡ settled_two mode limit b → S ≡ Ok o
     → B' ≡ head_two ke k o.block B → M' ≡ kept_two ke k o.block B M
-    → tried (Ok (record { test = t; p = record { 0 = p }; kp = record { 0 = kp }; diagonal = Two o.block; lift = o.lift; rounds = o.rounds })) B' M'
-    ≡ two_of ke A M mode limit t k p kp
+    → tried (Ok (record { chosen = c; diagonal = Two o.block; lift = o.lift; rounds = o.rounds })) B' M' ≡ two_of ke A M mode limit k c
 unfolding tried
-block-took t ke k p kp limit A M B B' M' mode b o S x e s z b' m' =
-    rw (m', b', x) (block-by t ke k p kp limit A M B mode b S (Ok o) x e s z)
+block-took ke k limit c A M B B' M' mode b o S x e s z b' m' =
+    rw (m', b', x) (block-by ke k limit c A M B mode b S (Ok o) x e s z)
 
 -- ---- the choice C, and D, what the mode makes of it
 
@@ -106,8 +104,8 @@ by_mode_lem : (ke : ℕ) (A M : Mat) (mode : Mode) (limit : ℕ) (k : Elim) (C :
     → try_by ke A M mode limit k.0 (by_mode mode k C) ≡ try_by ke A M mode limit k.0 C
 by_mode_lem ke A M Fail limit k C = refl
 by_mode_lem ke A M (Lift floor) limit k ZeroColumn = refl
-by_mode_lem ke A M (Lift floor) limit k (Single t kp) = refl
-by_mode_lem ke A M (Lift floor) limit k (Block t p kp) = refl
+by_mode_lem ke A M (Lift floor) limit k (Single c) = refl
+by_mode_lem ke A M (Lift floor) limit k (Block c) = refl
 
 -- and so is where it can stand
 pub within-mode : (ke : ℕ) (mode : Mode) (k : Elim) (C D : Choice) → k.0 < ke → ChosenWithin k.0 ke C → D ≡ by_mode mode k C → ChosenWithin k.0 ke D
@@ -116,8 +114,8 @@ within-mode ke mode k C D h w e = subst (ChosenWithin k.0 ke) (sym e) (go mode C
     go : (mode : Mode) (C : Choice) → ChosenWithin k.0 ke C → ChosenWithin k.0 ke (by_mode mode k C)
     go Fail C w = w
     go (Lift floor) ZeroColumn w = record { low = omega arith; high = h }
-    go (Lift floor) (Single t kp) w = w
-    go (Lift floor) (Block t p kp) w = w
+    go (Lift floor) (Single c) w = w
+    go (Lift floor) (Block c) w = w
 
 by-choice : (ke : ℕ) (A M : Mat) (how : Pivoting) (k : Elim) (C D o : Choice) → C ≡ choose_of A k.0 ke → D ≡ by_mode how.mode k C
     → D ≡ o → try_by ke A M how.mode how.limit k.0 o ≡ try_of ke A M how k.0
@@ -133,20 +131,19 @@ zero-by : (ke : ℕ) (A M B N : Mat) (mode : Mode) (limit : ℕ) (k : Elim) (C :
 unfolding tried
 zero-by ke A M B N Fail limit k C e = refl
 zero-by ke A M B N (Lift floor) limit k ZeroColumn e = cc
-zero-by ke A M B N (Lift floor) limit k (Single t kp) e = cc
-zero-by ke A M B N (Lift floor) limit k (Block t p kp) e = cc
+zero-by ke A M B N (Lift floor) limit k (Single c) e = cc
+zero-by ke A M B N (Lift floor) limit k (Block c) e = cc
 
-one-by : (ke : ℕ) (A M : Mat) (mode : Mode) (limit k : ℕ) (t : PivotTest) (kp : LocalRow)
-    → single_of ke A M mode t k kp.0 ≡ try_by ke A M mode limit k (Single t kp)
+one-by : (ke : ℕ) (A M : Mat) (mode : Mode) (limit k : ℕ) (c : Chosen) → single_of ke A M mode k c ≡ try_by ke A M mode limit k (Single c)
 unfolding single_of
-one-by ke A M Fail limit k t kp = refl
-one-by ke A M (Lift floor) limit k t kp = refl
+one-by ke A M Fail limit k c = refl
+one-by ke A M (Lift floor) limit k c = refl
 
-two-by : (ke : ℕ) (A M : Mat) (mode : Mode) (limit k : ℕ) (t : PivotTest) (p kp : LocalRow)
-    → two_of ke (exchanged k p.0 ke A) M mode limit t k p.0 kp.0 ≡ try_by ke A M mode limit k (Block t p kp)
+two-by : (ke : ℕ) (A M : Mat) (mode : Mode) (limit k : ℕ) (c : Chosen)
+    → two_of ke (exchanged k c.p.0 ke A) M mode limit k c ≡ try_by ke A M mode limit k (Block c)
 unfolding two_of
-two-by ke A M Fail limit k t p kp = refl
-two-by ke A M (Lift floor) limit k t p kp = refl
+two-by ke A M Fail limit k c = refl
+two-by ke A M (Lift floor) limit k c = refl
 
 -- ---- what the answer keeps to
 
@@ -158,35 +155,35 @@ fail-limit ke A M limit k = by (choose_of A k ke)
   where
     by : (o : Choice) → try_by ke A M Fail limit k o ≡ try_by ke A M Fail 0 k o
     by ZeroColumn = refl
-    by (Single t kp) = refl
-    by (Block t p kp) = refl
+    by (Single c) = refl
+    by (Block c) = refl
 
-tried-in : (mode : Mode) (ke k limit : ℕ) (T : Taken) (A' M' : Mat) (R : Tried) → limit ≤ most_rounds → Good mode ke limit k R → tried T A' M' ≡ R
+tried-in : (how : Pivoting) (ke k : ℕ) (T : Taken) (A' M' : Mat) (R : Tried) → k < ke → how.limit ≤ most_rounds → Good how ke k R → tried T A' M' ≡ R
     → TakenIn ke k T
 unfolding tried
-tried-in mode ke k limit (Err r) A' M' R l g e = tt
-tried-in mode ke k limit (Ok v) A' M' R l g e =
-    let w = subst (Good mode ke limit k) (sym e) g in
-    record { last = w.last; row = w.row; first = w.first; few = omega (arith, w.few) }
+tried-in how ke k (Err r) A' M' R h l g e = tt
+tried-in how ke k (Ok v) A' M' R h l g e =
+    let w = subst (Good how ke k) (sym e) g in
+    record { last = w.last; row = w.row; first = omega (arith, w.own); few = omega (arith, w.few) }
 
 kept : (ke : ℕ) (A M : Mat) (mode : Mode) (limit k : ℕ) (T : Taken) (A' M' : Mat)
     → k < ke → LimitPre mode limit → tried T A' M' ≡ try_of ke A M (record { mode = mode; limit = limit }) k → TakenIn ke k T
 kept ke A M Fail limit k T A' M' h l e =
     let none : Pivoting = record { mode = Fail; limit = 0 } in
-    tried-in Fail ke k 0 T A' M' (try_of ke A M none k) (omega arith) (try-good ke A M none k h) (e ∙ fail-limit ke A M limit k)
+    tried-in none ke k T A' M' (try_of ke A M none k) h (omega arith) (try-good ke A M none k h) (e ∙ fail-limit ke A M limit k)
 kept ke A M (Lift floor) limit k T A' M' h l e =
     let how : Pivoting = record { mode = Lift floor; limit = limit } in
-    tried-in (Lift floor) ke k limit T A' M' (try_of ke A M how k) l (try-good ke A M how k h) e
+    tried-in how ke k T A' M' (try_of ke A M how k) h l (try-good ke A M how k h) e
 
 -- ---- a step: C is the choice, T the answer, A' and M' what is left
 
-pub single-pre : (at : Frame) (k : ℕ) (t : PivotTest) (kp : LocalRow) (len len_m : ℕ) (C : Choice) → StepPre at k k len len_m → C ≡ Single t kp
-    → ChosenWithin k at.ke C → PivotPre at k k kp.0 len len_m
-single-pre at k t kp len len_m C h z g = let w = subst (ChosenWithin k at.ke) z g in record { step = h; from = w.low; row = w.high }
+pub single-pre : (at : Frame) (k : ℕ) (c : Chosen) (len len_m : ℕ) (C : Choice) → StepPre at k k len len_m → C ≡ Single c → ChosenWithin k at.ke C
+    → PivotPre at k k c.kp.0 len len_m
+single-pre at k c len len_m C h z g = let w = subst (ChosenWithin k at.ke) z g in record { step = h; from = w.low; row = w.high }
 
-pub block-pre : (at : Frame) (k : ℕ) (t : PivotTest) (p kp : LocalRow) (len len_m : ℕ) (C : Choice) → StepPre at k k len len_m → C ≡ Block t p kp
-    → ChosenWithin k at.ke C → PivotPre at k (k + 1) kp.0 len len_m × Within k at.ke p.0
-block-pre at k t p kp len len_m C h z g =
+pub block-pre : (at : Frame) (k : ℕ) (c : Chosen) (len len_m : ℕ) (C : Choice) → StepPre at k k len len_m → C ≡ Block c → ChosenWithin k at.ke C
+    → PivotPre at k (k + 1) c.kp.0 len len_m × Within k at.ke c.p.0
+block-pre at k c len len_m C h z g =
     let w = subst (ChosenWithin k at.ke) z g in
     let r = w.1 in
     (record { step = record { sizes = h.sizes; from = h.from; last = omega (arith, r.low, r.high) }; from = r.low; row = r.high }, w.0)
@@ -205,11 +202,10 @@ module _ (ke : ℕ) (A M A' M' : Mat) (how : Pivoting) (k : Elim) (C D : Choice)
       stepped (Err (refusal.ZeroColumn k))
       (zero-by ke A M A' M' how.mode how.limit k C (sym m ∙ z) ∙ by-choice ke A M how k C D ZeroColumn c m z)
 
-  pub step-single : (t : PivotTest) (kp : LocalRow) (T : Taken) → D ≡ Single t kp → tried T A' M' ≡ single_of ke A M how.mode t k.0 kp.0 → Stepped T
-  step-single t kp T z r =
-      stepped T (r ∙ one-by ke A M how.mode how.limit k.0 t kp ∙ by-choice ke A M how k C D (Single t kp) c m z)
+  pub step-single : (o : Chosen) (T : Taken) → D ≡ Single o → tried T A' M' ≡ single_of ke A M how.mode k.0 o → Stepped T
+  step-single o T z r =
+      stepped T (r ∙ one-by ke A M how.mode how.limit k.0 o ∙ by-choice ke A M how k C D (Single o) c m z)
 
-  pub step_block : (t : PivotTest) (p kp : LocalRow) (T : Taken) → D ≡ Block t p kp
-      → tried T A' M' ≡ two_of ke (exchanged k.0 p.0 ke A) M how.mode how.limit t k.0 p.0 kp.0 → Stepped T
-  step_block t p kp T z r =
-      stepped T (r ∙ two-by ke A M how.mode how.limit k.0 t p kp ∙ by-choice ke A M how k C D (Block t p kp) c m z)
+  pub step_block : (o : Chosen) (T : Taken) → D ≡ Block o → tried T A' M' ≡ two_of ke (exchanged k.0 o.p.0 ke A) M how.mode how.limit k.0 o → Stepped T
+  step_block o T z r =
+      stepped T (r ∙ two-by ke A M how.mode how.limit k.0 o ∙ by-choice ke A M how k C D (Block o) c m z)

@@ -14,8 +14,8 @@ use Rattle.step.specs.Answers.{Taken}
 -- a pivot's last column and its row stand within the panel; its rounds are few
 pub record PivotIn (ke k : ℕ) (v : Pivot) : Type 0 where
   pub last : last_of k (is_block v.diagonal) < ke
-  pub row : v.kp.0 < ke
-  pub first : v.p.0 < ke
+  pub row : v.chosen.kp.0 < ke
+  pub first : v.chosen.p.0 < ke
   pub few : v.rounds ≤ most_rounds
 
 -- of a step's answer

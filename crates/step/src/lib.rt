@@ -13,8 +13,8 @@ ghost use Rattle.step.specs.Answers.{tried, by_mode, single_of, two_of};
 ghost use Rattle.step.specs.Terms.{StepPre, PivotPre, BlockPre, LimitPre, TakenIn};
 
 use model::{
-    Block, Choice, Diagonal, Elim, Frame, LocalRow, Mode, Pivot, PivotTest, Pivoting, Refusal,
-    Unfit,
+    Block, Choice, Chosen, Diagonal, Elim, Frame, LocalRow, Mode, Pivot, PivotTest, Pivoting,
+    Refusal, Unfit,
 };
 use rule::PivotRule;
 
@@ -29,59 +29,54 @@ fn block_at(panel: &[f64], at: Frame, k: Elim) -> Block
     diagonal::block_of(d11, d21, d22)
 }
 
-// A 1x1 pivot that the test chose, from row kp: settled by the mode, exchanged with k, eliminated.
+// A 1x1 pivot as chosen, from its row kp: settled by the mode, exchanged with k, eliminated.
 fn single(
     panel: &mut [f64],
     mult: &mut [f64],
     at: Frame,
     k: Elim,
-    test: PivotTest,
-    kp: LocalRow,
+    chosen: Chosen,
     mode: Mode,
 ) -> Result<Pivot, Refusal>
-    requires { PivotPre at k.0 k.0 kp.0 (length panel.old) (length mult.old) }
+    requires { PivotPre at k.0 k.0 chosen.kp.0 (length panel.old) (length mult.old) }
     ensures { tried result (view at.nrow panel.new)
         (in_panel at.kb at.ke (view at.nb mult.new))
         ≡ single_of at.ke (view at.nrow panel.old)
-        (in_panel at.kb at.ke (view at.nb mult.old)) mode test k.0 kp.0 }
+        (in_panel at.kb at.ke (view at.nb mult.old)) mode k.0 chosen }
 {
-    let own = grid::get(panel, at.nrow, kp.0, kp.0);
+    let row = chosen.kp;
+    let own = grid::get(panel, at.nrow, row.0, row.0);
     let Some(settled) = settle::settle_one(mode, own) else {
         return Err(Refusal::ZeroPivot(k));
     };
-    exchange::exchange_if(panel, at, LocalRow(k.0), kp);
+    exchange::exchange_if(panel, at, LocalRow(k.0), row);
     eliminate::head_one(panel, mult, at, k, settled.d);
     Ok(Pivot {
-        test,
-        p: LocalRow(k.0),
-        kp,
+        chosen,
         diagonal: Diagonal::One(settled.d),
         lift: settled.lift,
         rounds: 0,
     })
 }
 
-// A block at k and k + 1 that the test chose: row kp exchanged with k + 1, settled by the mode, eliminated. Row p was
+// A block at k and k + 1 as chosen: its row kp exchanged with k + 1, settled by the mode, eliminated. Its row p was
 // exchanged with k before.
 fn block(
     panel: &mut [f64],
     mult: &mut [f64],
     at: Frame,
     k: Elim,
-    test: PivotTest,
-    p: LocalRow,
-    kp: LocalRow,
+    chosen: Chosen,
     how: Pivoting,
 ) -> Result<Pivot, Refusal>
-    requires { PivotPre at k.0 (k.0 + 1) kp.0 (length panel.old) (length mult.old) }
+    requires { PivotPre at k.0 (k.0 + 1) chosen.kp.0 (length panel.old) (length mult.old) }
     ensures { tried result (view at.nrow panel.new)
         (in_panel at.kb at.ke (view at.nb mult.new))
         ≡ two_of at.ke (view at.nrow panel.old)
-        (in_panel at.kb at.ke (view at.nb mult.old)) how.mode how.limit test k.0 p.0
-        kp.0 }
+        (in_panel at.kb at.ke (view at.nb mult.old)) how.mode how.limit k.0 chosen }
 {
     let second = k.0 + 1;
-    exchange::exchange_if(panel, at, LocalRow(second), kp);
+    exchange::exchange_if(panel, at, LocalRow(second), chosen.kp);
     let own = block_at(panel, at, k);
     let settled = match settle::settle_two(how.mode, how.limit, own) {
         Ok(settled) => settled,
@@ -90,36 +85,31 @@ fn block(
     };
     eliminate::head_two(panel, mult, at, k, settled.block);
     Ok(Pivot {
-        test,
-        p,
-        kp,
+        chosen,
         diagonal: Diagonal::Two(settled.block),
         lift: settled.lift,
         rounds: settled.rounds,
     })
 }
 
-// A block of rows p and kp: p exchanged with k, then the block.
+// A block as chosen: its row p exchanged with k, then the block.
 fn moved_block(
     panel: &mut [f64],
     mult: &mut [f64],
     at: Frame,
     k: Elim,
-    test: PivotTest,
-    p: LocalRow,
-    kp: LocalRow,
+    chosen: Chosen,
     how: Pivoting,
 ) -> Result<Pivot, Refusal>
-    requires pivot_pre { PivotPre at k.0 (k.0 + 1) kp.0 (length panel.old) (length mult.old) }
-    requires within { Within k.0 at.ke p.0 }
+    requires pivot_pre { PivotPre at k.0 (k.0 + 1) chosen.kp.0 (length panel.old) (length mult.old) }
+    requires within { Within k.0 at.ke chosen.p.0 }
     ensures { tried result (view at.nrow panel.new)
         (in_panel at.kb at.ke (view at.nb mult.new))
-        ≡ two_of at.ke (exchanged k.0 p.0 at.ke (view at.nrow panel.old))
-        (in_panel at.kb at.ke (view at.nb mult.old)) how.mode how.limit test k.0 p.0
-        kp.0 }
+        ≡ two_of at.ke (exchanged k.0 chosen.p.0 at.ke (view at.nrow panel.old))
+        (in_panel at.kb at.ke (view at.nb mult.old)) how.mode how.limit k.0 chosen }
 {
-    exchange::exchange_if(panel, at, LocalRow(k.0), p);
-    block(panel, mult, at, k, test, p, kp, how)
+    exchange::exchange_if(panel, at, LocalRow(k.0), chosen.p);
+    block(panel, mult, at, k, chosen, how)
 }
 
 // What the mode makes of the choice at k: in Lift a zero column is a 1x1 from its own row. (With `_ => choice` the
@@ -130,10 +120,12 @@ fn by_mode(choice: Choice, mode: Mode, k: Elim) -> Choice
     match choice {
         Choice::ZeroColumn => match mode {
             Mode::Fail => Choice::ZeroColumn,
-            Mode::Lift(_) => Choice::Single(PivotTest::ZeroColumn, LocalRow(k.0)),
+            Mode::Lift(_) => {
+                Choice::Single(rule::with_row(PivotTest::ZeroColumn, k, LocalRow(k.0)))
+            }
         },
-        Choice::Single(test, kp) => Choice::Single(test, kp),
-        Choice::Block(test, p, kp) => Choice::Block(test, p, kp),
+        Choice::Single(chosen) => Choice::Single(chosen),
+        Choice::Block(chosen) => Choice::Block(chosen),
     }
 }
 
@@ -156,7 +148,7 @@ pub fn step(
     let choice = PivotRule::choose(panel, at, k);
     match by_mode(choice, how.mode, k) {
         Choice::ZeroColumn => Err(Refusal::ZeroColumn(k)),
-        Choice::Single(test, kp) => single(panel, mult, at, k, test, kp, how.mode),
-        Choice::Block(test, p, kp) => moved_block(panel, mult, at, k, test, p, kp, how),
+        Choice::Single(chosen) => single(panel, mult, at, k, chosen, how.mode),
+        Choice::Block(chosen) => moved_block(panel, mult, at, k, chosen, how),
     }
 }

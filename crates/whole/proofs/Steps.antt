@@ -8,7 +8,7 @@ use native.Mathlib.Omega.{arith}
 use borrow.Author.Tests.{eqb-true, ltb-true}
 use lib.Dec.{ltb, eqb}
 use Rattle.model.specs.Matrix.{Mat, put, exchanged}
-use Rattle.model.specs.Choice.{choose_of}
+use Rattle.model.specs.Choice.{with_row, choose_of}
 use Rattle.model.specs.Step.{Pivots, is_block, block_in}
 use Rattle.model.specs.Head.{settled_one, settled_two, after_one, after_two, try_block, try_by, try_of}
 use Rattle.model.specs.Head.{State, Tried, refused_by, took, last_of, byte_of, noted, Progress, stopped, going, after, panel_of}
@@ -19,7 +19,7 @@ use Rattle.model.specs.declared.Mode.TheVariants.{Fail, Lift}
 use Rattle.model.specs.declared.Pivot.{Pivot}
 use Rattle.model.specs.declared.Choice.{Choice}
 use Rattle.model.specs.declared.Choice.TheVariants as choice
-use Rattle.model.specs.declared.PivotTest.{PivotTest}
+use Rattle.model.specs.declared.Chosen.{Chosen}
 use Rattle.model.specs.declared.PivotTest.TheVariants as by
 use Rattle.model.specs.declared.OneSettled.{OneSettled}
 use Rattle.model.specs.declared.TwoSettled.{TwoSettled}
@@ -96,19 +96,19 @@ abbrev pub Keeps : ℕ → Mat → Tried → Type 0
 Keeps ke a (refused_by r) = Unit {0}
 Keeps ke a (took v b m) = (i j : ℕ) → Untouched ke i j → b i j ≡ a i j
 
-module _ (ke : ℕ) (a m : Mat) where
-  one-keeps : (t : PivotTest) (k kp : ℕ) (s : Option OneSettled) → k < ke → Keeps ke a (after_one ke a m t k kp s)
-  one-keeps t k kp None hk = tt
-  one-keeps t k kp (Some s) hk = λ i j.
-      ⊎_elim (λ h. head_one-up ke k s.d (exchanged k kp ke a) i j h ∙ exchanged-up k kp ke a i j h)
-      (λ h. head_one-past ke k s.d (exchanged k kp ke a) i j (omega arith) h ∙ exchanged-past k kp ke a i j h)
+module _ (ke : ℕ) (a m : Mat) (k : ℕ) (c : Chosen) where
+  one-keeps : (s : Option OneSettled) → k < ke → Keeps ke a (after_one ke a m k c s)
+  one-keeps None hk = tt
+  one-keeps (Some s) hk = λ i j.
+      ⊎_elim (λ h. head_one-up ke k s.d (exchanged k c.kp.0 ke a) i j h ∙ exchanged-up k c.kp.0 ke a i j h)
+      (λ h. head_one-past ke k s.d (exchanged k c.kp.0 ke a) i j (omega arith) h ∙ exchanged-past k c.kp.0 ke a i j h)
 
-  two-keeps : (t : PivotTest) (k p kp : ℕ) (s : Result TwoSettled Unfit) → Keeps ke a (after_two ke a m t k p kp s)
-  two-keeps t k p kp (Err Low) = tt
-  two-keeps t k p kp (Err OutOfRounds) = tt
-  two-keeps t k p kp (Ok s) = λ i j.
-      ⊎_elim (λ h. head_two-up ke k s.block (exchanged (k + 1) kp ke a) i j h ∙ exchanged-up (k + 1) kp ke a i j h)
-      (λ h. head_two-past ke k s.block (exchanged (k + 1) kp ke a) i j h ∙ exchanged-past (k + 1) kp ke a i j h)
+  two-keeps : (s : Result TwoSettled Unfit) → Keeps ke a (after_two ke a m k c s)
+  two-keeps (Err Low) = tt
+  two-keeps (Err OutOfRounds) = tt
+  two-keeps (Ok s) = λ i j.
+      ⊎_elim (λ h. head_two-up ke k s.block (exchanged (k + 1) c.kp.0 ke a) i j h ∙ exchanged-up (k + 1) c.kp.0 ke a i j h)
+      (λ h. head_two-past ke k s.block (exchanged (k + 1) c.kp.0 ke a) i j h ∙ exchanged-past (k + 1) c.kp.0 ke a i j h)
 
 -- what keeps a matrix that was exchanged keeps the matrix
 exchange-keeps : (ke k p : ℕ) (a : Mat) (t : Tried) → Keeps ke (exchanged k p ke a) t → Keeps ke a t
@@ -117,18 +117,19 @@ exchange-keeps ke k p a (took v b m) w = λ i j u.
     w i j u ∙ ⊎_elim (λ h. exchanged-up k p ke a i j h) (λ h. exchanged-past k p ke a i j h) u
 
 module _ (ke : ℕ) (a m : Mat) where
-  block-keeps : (mode : Mode) (limit : ℕ) (t : PivotTest) (k p kp : ℕ) → Keeps ke a (try_block ke (exchanged k p ke a) m mode limit t k p kp)
-  block-keeps mode limit t k p kp =
-      exchange-keeps ke k p a (try_block ke (exchanged k p ke a) m mode limit t k p kp) (two-keeps ke (exchanged k p ke a) m t k p kp
-      (settled_two mode limit (block_in (exchanged (k + 1) kp ke (exchanged k p ke a)) k)))
+  block-keeps : (mode : Mode) (limit k : ℕ) (c : Chosen) → Keeps ke a (try_block ke (exchanged k c.p.0 ke a) m mode limit k c)
+  block-keeps mode limit k c =
+      exchange-keeps ke k c.p.0 a (try_block ke (exchanged k c.p.0 ke a) m mode limit k c) (two-keeps ke (exchanged k c.p.0 ke a) m k c
+      (settled_two mode limit (block_in (exchanged (k + 1) c.kp.0 ke (exchanged k c.p.0 ke a)) k)))
 
   by-keeps : (mode : Mode) (limit k : ℕ) (o : Choice) → k < ke → Keeps ke a (try_by ke a m mode limit k o)
   by-keeps Fail limit k choice.ZeroColumn hk = tt
-  by-keeps (Lift floor) limit k choice.ZeroColumn hk = one-keeps ke a m by.ZeroColumn k k (settled_one (Lift floor) (a k k)) hk
-  by-keeps Fail limit k (choice.Single t kp) hk = one-keeps ke a m t k kp.0 (settled_one Fail (a kp.0 kp.0)) hk
-  by-keeps (Lift floor) limit k (choice.Single t kp) hk = one-keeps ke a m t k kp.0 (settled_one (Lift floor) (a kp.0 kp.0)) hk
-  by-keeps Fail limit k (choice.Block t p kp) hk = block-keeps Fail limit t k p.0 kp.0
-  by-keeps (Lift floor) limit k (choice.Block t p kp) hk = block-keeps (Lift floor) limit t k p.0 kp.0
+  by-keeps (Lift floor) limit k choice.ZeroColumn hk =
+      one-keeps ke a m k (with_row by.ZeroColumn k (record { 0 = k })) (settled_one (Lift floor) (a k k)) hk
+  by-keeps Fail limit k (choice.Single c) hk = one-keeps ke a m k c (settled_one Fail (a c.kp.0 c.kp.0)) hk
+  by-keeps (Lift floor) limit k (choice.Single c) hk = one-keeps ke a m k c (settled_one (Lift floor) (a c.kp.0 c.kp.0)) hk
+  by-keeps Fail limit k (choice.Block c) hk = block-keeps Fail limit k c
+  by-keeps (Lift floor) limit k (choice.Block c) hk = block-keeps (Lift floor) limit k c
 
   pub try-keeps : (how : Pivoting) (k : ℕ) → k < ke → Keeps ke a (try_of ke a m how k)
   unfolding try_of
@@ -166,13 +167,13 @@ byte-block : (b : Bool) → byte_of b ≡ 1 → b ≡ true
 byte-block true e = refl
 byte-block false e = let z : ◌≡◌ {A = ℕ} 0 1 = e in let n : ⊥ = omega arith in absurd n
 
-noted-inside : (mode : Mode) (ke limit k : ℕ) (p : Pivots) (v : Pivot) → GoodPivot mode ke limit k v → PivotsInside ke p
+noted-inside : (how : Pivoting) (ke k : ℕ) (p : Pivots) (v : Pivot) → k < ke → GoodPivot how ke k v → PivotsInside ke p
     → PivotsInside ke (noted p k (last_of k (is_block v.diagonal)) v)
 unfolding noted put
-noted-inside mode ke limit k p v g w =
+noted-inside how ke k p v h g w =
     record {
       partner = λ j. test (eqb j k) (λ t. rw t g.row)
-          (λ t. rw t (test (eqb j (last_of k (is_block v.diagonal))) (λ u. rw u g.first) (λ u. rw u (w.partner j))));
+          (λ t. rw t (test (eqb j (last_of k (is_block v.diagonal))) (λ u. rw u (omega (arith, g.own))) (λ u. rw u (w.partner j))));
       pair = λ j. test (eqb j k)
           (λ t. rw t (λ e. omega (arith, eqb-true j k t, last_block k (is_block v.diagonal) (byte-block (is_block v.diagonal) e), g.last)))
           (λ t. rw t (test (eqb j (last_of k (is_block v.diagonal)))
@@ -184,5 +185,4 @@ pub panel-inside : (ke : ℕ) (how : Pivoting) (n k : ℕ) (s : State) → Pivot
     → Went (λ t. PivotsInside ke t.pivots) (panel_of ke how n k s)
 panel-inside ke how n k s w =
     panel-went ke how (λ t. PivotsInside ke t.pivots)
-    (λ t k v a m hk e p. let g : GoodPivot how.mode ke how.limit k v = subst (λ (o : Tried). Good how.mode ke how.limit k o) e (try-good ke t.a t.mult how k hk) in
-    noted-inside how.mode ke how.limit k t.pivots v g p) n k s w
+    (λ t k v a m hk e p. noted-inside how ke k t.pivots v hk (subst (λ (o : Tried). Good how ke k o) e (try-good ke t.a t.mult how k hk)) p) n k s w

@@ -1,25 +1,26 @@
 -- The cut to the head goes through a step: through the choice, and with the parts of Masked through `try_of`. Assumes nothing.
 use Prim.Native.Nat.{ℕ, zero, suc, ◌+◌, ◌-◌, ◌<◌, ◌≤◌}
 use mathlib.Core.Path.{◌≡◌, refl, ◌∙◌, ap}
+use mathlib.Core.Bool.{true}
 use native.Mathlib.Omega.{arith}
 use Rattle.model.specs.Matrix.{Row, Mat, head_of, exchanged}
-use Rattle.model.specs.Choice.{greatest, column_greatest, row_greatest, none_yet, choose_of}
+use Rattle.model.specs.Choice.{greatest, column_greatest, row_greatest, none_yet, with_row, choose_of}
 use Rattle.model.specs.Step.{block_in}
-use Rattle.model.specs.Head.{settled_one, settled_two, after_one, after_two, try_block, try_by, try_of}
+use Rattle.model.specs.Head.{settled_one, settled_two, after_one, after_two, try_block, try_by, try_of, last_of}
 use Rattle.model.specs.declared.Mode.{Mode}
 use Rattle.model.specs.declared.Pivoting.{Pivoting}
 use Rattle.model.specs.declared.Mode.TheVariants.{Fail, Lift}
 use Rattle.model.specs.declared.Greatest.{Greatest}
 use Rattle.model.specs.declared.Choice.{Choice}
 use Rattle.model.specs.declared.Choice.TheVariants as choice
-use Rattle.model.specs.declared.PivotTest.{PivotTest}
+use Rattle.model.specs.declared.Chosen.{Chosen}
 use Rattle.model.specs.declared.PivotTest.TheVariants as by
 use Rattle.model.specs.declared.OneSettled.{OneSettled}
 use Rattle.model.specs.declared.TwoSettled.{TwoSettled}
 use Rattle.model.specs.declared.Unfit.{Unfit}
 use Rattle.model.specs.declared.Unfit.TheVariants.{Low, OutOfRounds}
 use Rattle.std.specs.Prelude.{Option, Some, None, Result, Ok, Err}
-use Rattle.model.proofs.Bounds.{column-in, Chosen, choose-in}
+use Rattle.model.proofs.Bounds.{column-in, ChosenIn, ChoiceIn, choose-in}
 use Rattle.whole.specs.Whole.{cut_tried}
 use Rattle.whole.proofs.Masked.{head_at, exchanged-masked, head_one-masked, head_two-masked, kept_one-masked, kept_two-masked}
 
@@ -52,48 +53,49 @@ module _ (c : ℕ) (a : Mat) (k ke : ℕ) (hk : k < ke) (hc : ke ≤ c) where
 
 -- ---- the step
 
-module _ (c ke : ℕ) (a m : Mat) (hc : ke ≤ c) where
-  one-tried : (t : PivotTest) (k kp : ℕ) (s : Option OneSettled) → k < ke → kp < ke → after_one ke (head_of c a) m t k kp s ≡ cut_tried c (after_one ke a m t k kp s)
-  one-tried t k kp None hk hp = refl
-  one-tried t k kp (Some s) hk hp =
-      let x = exchanged k kp ke a in
-      rw (exchanged-masked c k kp ke a hk hp hc, head_one-masked c ke k s.d x hk hc, kept_one-masked c ke k x m hc s.d)
+module _ (c ke : ℕ) (a m : Mat) (hc : ke ≤ c) (k : ℕ) (o : Chosen) (hp : o.kp.0 < ke) where
+  one-tried : (s : Option OneSettled) → k < ke → after_one ke (head_of c a) m k o s ≡ cut_tried c (after_one ke a m k o s)
+  one-tried None hk = refl
+  one-tried (Some s) hk =
+      let x = exchanged k o.kp.0 ke a in
+      rw (exchanged-masked c k o.kp.0 ke a hk hp hc, head_one-masked c ke k s.d x hk hc, kept_one-masked c ke k x m hc s.d)
 
-  two-tried : (t : PivotTest) (k p kp : ℕ) (s : Result TwoSettled Unfit) → k + 1 < ke → kp < ke → after_two ke (head_of c a) m t k p kp s ≡ cut_tried c (after_two ke a m t k p kp s)
-  two-tried t k p kp (Err Low) hk hp = refl
-  two-tried t k p kp (Err OutOfRounds) hk hp = refl
-  two-tried t k p kp (Ok s) hk hp =
-      let x = exchanged (k + 1) kp ke a in
-      rw (exchanged-masked c (k + 1) kp ke a hk hp hc, head_two-masked c ke k s.block x hc, kept_two-masked c ke k x m hc s.block)
+  two-tried : (s : Result TwoSettled Unfit) → k + 1 < ke → after_two ke (head_of c a) m k o s ≡ cut_tried c (after_two ke a m k o s)
+  two-tried (Err Low) hk = refl
+  two-tried (Err OutOfRounds) hk = refl
+  two-tried (Ok s) hk =
+      let x = exchanged (k + 1) o.kp.0 ke a in
+      rw (exchanged-masked c (k + 1) o.kp.0 ke a hk hp hc, head_two-masked c ke k s.block x hc, kept_two-masked c ke k x m hc s.block)
 
-  single-tried : (mode : Mode) (t : PivotTest) (k kp : ℕ) → k < ke → kp < ke
-      → after_one ke (head_of c a) m t k kp (settled_one mode (head_of c a kp kp)) ≡ cut_tried c (after_one ke a m t k kp (settled_one mode (a kp kp)))
-  single-tried mode t k kp hk hp = rw (head_at c a kp kp (omega arith) (omega arith)) (one-tried t k kp (settled_one mode (a kp kp)) hk hp)
+  single-tried : (mode : Mode) → k < ke
+      → after_one ke (head_of c a) m k o (settled_one mode (head_of c a o.kp.0 o.kp.0)) ≡ cut_tried c (after_one ke a m k o (settled_one mode (a o.kp.0 o.kp.0)))
+  single-tried mode hk = rw (head_at c a o.kp.0 o.kp.0 (omega arith) (omega arith)) (one-tried (settled_one mode (a o.kp.0 o.kp.0)) hk)
 
-  block-tried : (mode : Mode) (limit : ℕ) (t : PivotTest) (k p kp : ℕ) → k + 1 < ke → kp < ke
-      → try_block ke (head_of c a) m mode limit t k p kp ≡ cut_tried c (try_block ke a m mode limit t k p kp)
-  block-tried mode limit t k p kp hk hp =
-      let x = exchanged (k + 1) kp ke a in
-      rw (exchanged-masked c (k + 1) kp ke a hk hp hc) (
+  block-tried : (mode : Mode) (limit : ℕ) → k + 1 < ke → try_block ke (head_of c a) m mode limit k o ≡ cut_tried c (try_block ke a m mode limit k o)
+  block-tried mode limit hk =
+      let x = exchanged (k + 1) o.kp.0 ke a in
+      rw (exchanged-masked c (k + 1) o.kp.0 ke a hk hp hc) (
       let at : (i j : ℕ) → j ≤ i → i < ke → head_of c x i j ≡ x i j = λ i j h l. head_at c x i j h (omega arith) in
       rw (at k k (omega arith) (omega arith), at (k + 1) k (omega arith) hk, at (k + 1) (k + 1) (omega arith) hk)
-      (two-tried t k p kp (settled_two mode limit (block_in x k)) hk hp))
+      (two-tried (settled_two mode limit (block_in x k)) hk))
 
 module _ (c ke : ℕ) (a m : Mat) (hc : ke ≤ c) where
   -- a block's first exchange, then the block
-  pair-tried : (mode : Mode) (limit : ℕ) (t : PivotTest) (k p kp : ℕ) → k + 1 < ke → kp < ke → p < ke
-      → try_block ke (exchanged k p ke (head_of c a)) m mode limit t k p kp ≡ cut_tried c (try_block ke (exchanged k p ke a) m mode limit t k p kp)
-  pair-tried mode limit t k p kp hk hp h =
-      rw (exchanged-masked c k p ke a (omega arith) h hc) (block-tried c ke (exchanged k p ke a) m hc mode limit t k p kp hk hp)
+  pair-tried : (mode : Mode) (limit k : ℕ) (o : Chosen) → k < ke → ChosenIn k ke true o
+      → try_block ke (exchanged k o.p.0 ke (head_of c a)) m mode limit k o ≡ cut_tried c (try_block ke (exchanged k o.p.0 ke a) m mode limit k o)
+  unfolding last_of
+  pair-tried mode limit k o hk w =
+      rw (exchanged-masked c k o.p.0 ke a hk (omega (arith, w.own)) hc)
+      (block-tried c ke (exchanged k o.p.0 ke a) m hc k o w.row mode limit (omega (arith, w.from, w.row)))
 
-  tried-by : (mode : Mode) (limit k : ℕ) (o : Choice) → k < ke → Chosen k ke o
+  tried-by : (mode : Mode) (limit k : ℕ) (o : Choice) → k < ke → ChoiceIn k ke o
       → try_by ke (head_of c a) m mode limit k o ≡ cut_tried c (try_by ke a m mode limit k o)
-  tried-by Fail limit k choice.ZeroColumn hk p = refl
-  tried-by (Lift floor) limit k choice.ZeroColumn hk p = single-tried c ke a m hc (Lift floor) by.ZeroColumn k k hk hk
-  tried-by Fail limit k (choice.Single t kp) hk p = single-tried c ke a m hc Fail t k kp.0 hk p.1
-  tried-by (Lift floor) limit k (choice.Single t kp) hk p = single-tried c ke a m hc (Lift floor) t k kp.0 hk p.1
-  tried-by Fail limit k (choice.Block t q kp) hk p = pair-tried Fail limit t k q.0 kp.0 (omega (arith, p.0, p.1)) p.1 p.3
-  tried-by (Lift floor) limit k (choice.Block t q kp) hk p = pair-tried (Lift floor) limit t k q.0 kp.0 (omega (arith, p.0, p.1)) p.1 p.3
+  tried-by Fail limit k choice.ZeroColumn hk w = refl
+  tried-by (Lift floor) limit k choice.ZeroColumn hk w = single-tried c ke a m hc k (with_row by.ZeroColumn k (record { 0 = k })) hk (Lift floor) hk
+  tried-by Fail limit k (choice.Single o) hk w = single-tried c ke a m hc k o w.row Fail hk
+  tried-by (Lift floor) limit k (choice.Single o) hk w = single-tried c ke a m hc k o w.row (Lift floor) hk
+  tried-by Fail limit k (choice.Block o) hk w = pair-tried Fail limit k o hk w
+  tried-by (Lift floor) limit k (choice.Block o) hk w = pair-tried (Lift floor) limit k o hk w
 
   -- the cut goes through a step
   pub try-masked : (how : Pivoting) (k : ℕ) → k < ke → try_of ke (head_of c a) m how k ≡ cut_tried c (try_of ke a m how k)

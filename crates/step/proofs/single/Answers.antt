@@ -9,5 +9,5 @@ pub returns-in_default : goal.returns-in_default
 returns-in_default c = search single-stop
 
 pub returns : goal.returns
-returns c = single-took _ _ _ _ _ _ _ _ _ _ _ _ _ c.get-own.ensures c.settle_one.ensures c.in-Some.is
+returns c = single-took _ _ _ _ _ _ _ _ _ _ _ _ c.get-own.ensures c.settle_one.ensures c.in-Some.is
     c.exchange_if.ensures c.head_one.ensures.rows c.head_one.ensures.kept
