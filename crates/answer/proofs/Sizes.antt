@@ -23,7 +23,8 @@ part-clear n e m v q h = rw q (take-replicate n m v (omega arith))
 
 pub cleared-is : {xs : List ℕ} (c : Settings) (input : List Float) {panel d sub amounts work : List Float} {blocks lifts tests order marks : List ℕ}
     → panel ≡ replicate (c.nrow * c.ncol) zero_f → d ≡ replicate c.ncol zero_f → sub ≡ replicate c.ncol zero_f → blocks ≡ replicate c.ncol 0
-    → lifts ≡ replicate c.ncol 0 → amounts ≡ replicate c.ncol zero_f → tests ≡ replicate c.ncol 0 → order ≡ replicate c.nrow 0 → marks ≡ replicate (c.nrow - c.ncol) 0
+    → lifts ≡ replicate c.ncol 0 → amounts ≡ replicate c.ncol zero_f → tests ≡ replicate c.ncol 0
+    → order ≡ replicate c.nrow 0 → marks ≡ replicate (c.nrow - c.ncol) 0
     → work ≡ replicate (work_length c.nrow c.nb) zero_f
     → xs ≡ outcome_lines c (factor_of c input (record {
       panel = panel;

@@ -163,7 +163,8 @@ accepted-is x r e = by-check (entry_check x.settings x.input x.lent) refl
     by-check (Err why) h = absurd (refused-not why r (outcome_of x).answer (ap (λ (k : Check). answer_by k head_of_call) h) e)
 
 -- the run of a head that stands was done
-pub stands-kept : (mode : Mode) (ncol : ℕ) (g : Run) (s : State) (ps : List Panel) → AtEnd mode ncol g → judged_run ncol g ≡ stands s ps → Kept mode ncol ncol s.pivots
+pub stands-kept : (mode : Mode) (ncol : ℕ) (g : Run) (s : State) (ps : List Panel) → AtEnd mode ncol g
+    → judged_run ncol g ≡ stands s ps → Kept mode ncol ncol s.pivots
 stands-kept mode ncol (head.refused r) s ps w e = absurd (let z : ◌≡◌ {A = ℕ} 0 1 = cc in omega arith)
 stands-kept mode ncol (done t qs) s ps w e = by-check (result_check ncol t.pivots.diagonals t.a ncol 0) e
   where

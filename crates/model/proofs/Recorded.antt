@@ -183,7 +183,8 @@ Reached P ke (stopped r) = Unit {0}
 Reached P ke (going k s) = (k ≡ ke) × P ke s.pivots
 
 module _ (ke : ℕ) (how : Pivoting) (P : ℕ → Pivots → Type 0)
-    (step : (k : ℕ) (p : Pivots) (v : Pivot) → GoodPivot how ke k v → P k p → P (last_of k (is_block v.diagonal) + 1) (noted p k (last_of k (is_block v.diagonal)) v)) where
+    (step : (k : ℕ) (p : Pivots) (v : Pivot) → GoodPivot how ke k v → P k p
+    → P (last_of k (is_block v.diagonal) + 1) (noted p k (last_of k (is_block v.diagonal)) v)) where
   -- through what a step leads to: a refusal, or the next column
   pub after-reached : (k : ℕ) (s : State) (f : ℕ → State → Progress) (t : Tried) → Good how ke k t → P k s.pivots
       → ((m : ℕ) (u : State) → k < m → m ≤ ke → P m u.pivots → Reached P ke (f m u)) → Reached P ke (after t s k f)

@@ -1,8 +1,8 @@
 -- What test numbers tell of a record of pivots goes through every step: the pivot's own number stands at its positions, and those before it keep theirs.
 -- Assumes nothing.
-use mathlib.Core.Path.{◌≡◌, refl, sym, ◌∙◌, ap, subst}
-use mathlib.Core.Bool.{Bool, true, false, ◌&&◌}
-use Prim.Native.Nat.{ℕ, ◌+◌, ◌-◌, ◌≤◌, ◌<◌}
+use mathlib.Core.Path.{◌≡◌, refl, sym, ◌∙◌, subst}
+use mathlib.Core.Bool.{Bool, true, false}
+use Prim.Native.Nat.{ℕ, ◌+◌, ◌-◌, ◌<◌}
 use native.Mathlib.Omega.{arith}
 use borrow.Author.Tests.{eqb-true, ltb-true, lt-ltb}
 use lib.Dec.{ltb, eqb}
@@ -74,5 +74,6 @@ pub none-told : (mode : Mode) (f g : ℕ → ℕ) → Told mode 0 f g
 none-told mode f g = λ c h. absurd (omega arith)
 
 -- what is told of some bytes and numbers is told of those that agree with them before n
-pub told-alike : (mode : Mode) (n : ℕ) (f g f' g' : ℕ → ℕ) → ((k : ℕ) → k < n → f' k ≡ f k) → ((k : ℕ) → k < n → g' k ≡ g k) → Told mode n f g → Told mode n f' g'
+pub told-alike : (mode : Mode) (n : ℕ) (f g f' g' : ℕ → ℕ) → ((k : ℕ) → k < n → f' k ≡ f k) → ((k : ℕ) → k < n → g' k ≡ g k)
+    → Told mode n f g → Told mode n f' g'
 told-alike mode n f g f' g' b t w = λ k h. told-same (w k h) (in-alike f' f k (b k h) (b (k - 1) (omega arith))) (t k h)

@@ -222,7 +222,8 @@ stations =
     (factor_gives (fail 0 3 1) [] ⇒ (0 ∷ []) ∷ (0 ∷ 0 ∷ 0 ∷ []) ∷ (0 ∷ 1 ∷ 2 ∷ []) ∷ [] ∷ [] ∷ [] ∷ [] ∷ [] ∷ [] ∷ [] ∷ (0 ∷ 0 ∷ 0 ∷ []) ∷ []) ∷
     -- [4], tail 6: d 4, L 1.5, mark 0
     (factor_gives (fail 1 2 1) (four ∷ six ∷ [])
-    ⇒ (0 ∷ []) ∷ (1 ∷ 0 ∷ 0 ∷ []) ∷ (0 ∷ 1 ∷ []) ∷ (four ∷ []) ∷ (0 ∷ []) ∷ (0 ∷ []) ∷ (0 ∷ []) ∷ (0 ∷ []) ∷ (1 ∷ []) ∷ (four ∷ one_half ∷ []) ∷ (0 ∷ []) ∷ []) ∷
+    ⇒ (0 ∷ []) ∷ (1 ∷ 0 ∷ 0 ∷ []) ∷ (0 ∷ 1 ∷ []) ∷ (four ∷ []) ∷ (0 ∷ []) ∷ (0 ∷ []) ∷ (0 ∷ []) ∷ (0 ∷ []) ∷ (1 ∷ []) ∷
+    (four ∷ one_half ∷ []) ∷ (0 ∷ []) ∷ []) ∷
     -- [0]: 7 at 0
     (factor_gives (fail 1 1 1) (0 ∷ []) ⇒ (7 ∷ 0 ∷ 0 ∷ []) ∷ []) ∷
     -- [0], Lift 0.5: d 0.5, amount 0.5, test number 0
@@ -230,32 +231,39 @@ stations =
     ⇒ (0 ∷ []) ∷ (1 ∷ 0 ∷ 0 ∷ []) ∷ (0 ∷ []) ∷ (half ∷ []) ∷ (0 ∷ []) ∷ (0 ∷ []) ∷ (1 ∷ []) ∷ (half ∷ []) ∷ (0 ∷ []) ∷ (half ∷ []) ∷ [] ∷ []) ∷
     -- [−0.25], Lift 0.5: −0.5, amount −0.25, test number 1
     (factor_gives (lift 1 1 half 1) (minus_quarter ∷ [])
-    ⇒ (0 ∷ []) ∷ (0 ∷ 1 ∷ 0 ∷ []) ∷ (0 ∷ []) ∷ (minus_half ∷ []) ∷ (0 ∷ []) ∷ (0 ∷ []) ∷ (1 ∷ []) ∷ (minus_quarter ∷ []) ∷ (1 ∷ []) ∷ (minus_half ∷ []) ∷ [] ∷ []) ∷
+    ⇒ (0 ∷ []) ∷ (0 ∷ 1 ∷ 0 ∷ []) ∷ (0 ∷ []) ∷ (minus_half ∷ []) ∷ (0 ∷ []) ∷ (0 ∷ []) ∷ (1 ∷ []) ∷ (minus_quarter ∷ []) ∷
+    (1 ∷ []) ∷ (minus_half ∷ []) ∷ [] ∷ []) ∷
     -- [−0.5], Lift 0.5: unlifted
     (factor_gives (lift 1 1 half 1) (minus_half ∷ [])
     ⇒ (0 ∷ []) ∷ (0 ∷ 1 ∷ 0 ∷ []) ∷ (0 ∷ []) ∷ (minus_half ∷ []) ∷ (0 ∷ []) ∷ (0 ∷ []) ∷ (0 ∷ []) ∷ (0 ∷ []) ∷ (1 ∷ []) ∷ (minus_half ∷ []) ∷ [] ∷ []) ∷
     -- [0,1; 0]: one block, counts 1 1 0, test numbers 4 4
     (factor_gives (fail 2 2 2) zero_diagonal
-    ⇒ (0 ∷ []) ∷ (1 ∷ 1 ∷ 0 ∷ []) ∷ (0 ∷ 1 ∷ []) ∷ (0 ∷ 0 ∷ []) ∷ (one ∷ 0 ∷ []) ∷ (1 ∷ 0 ∷ []) ∷ (0 ∷ 0 ∷ []) ∷ (0 ∷ 0 ∷ []) ∷ (4 ∷ 4 ∷ []) ∷ zero_diagonal ∷ [] ∷ []) ∷
+    ⇒ (0 ∷ []) ∷ (1 ∷ 1 ∷ 0 ∷ []) ∷ (0 ∷ 1 ∷ []) ∷ (0 ∷ 0 ∷ []) ∷ (one ∷ 0 ∷ []) ∷ (1 ∷ 0 ∷ []) ∷ (0 ∷ 0 ∷ []) ∷ (0 ∷ 0 ∷ []) ∷
+    (4 ∷ 4 ∷ []) ∷ zero_diagonal ∷ [] ∷ []) ∷
     -- [1,2; 8]: order 1 0, test numbers 3 1
     (factor_gives (fail 2 2 2) exchanging
-    ⇒ (0 ∷ []) ∷ (2 ∷ 0 ∷ 0 ∷ []) ∷ (1 ∷ 0 ∷ []) ∷ (eight ∷ half ∷ []) ∷ (0 ∷ 0 ∷ []) ∷ (0 ∷ 0 ∷ []) ∷ (0 ∷ 0 ∷ []) ∷ (0 ∷ 0 ∷ []) ∷ (3 ∷ 1 ∷ []) ∷ (eight ∷ quarter ∷ 0 ∷ half ∷ []) ∷ [] ∷ []) ∷
+    ⇒ (0 ∷ []) ∷ (2 ∷ 0 ∷ 0 ∷ []) ∷ (1 ∷ 0 ∷ []) ∷ (eight ∷ half ∷ []) ∷ (0 ∷ 0 ∷ []) ∷ (0 ∷ 0 ∷ []) ∷ (0 ∷ 0 ∷ []) ∷
+    (0 ∷ 0 ∷ []) ∷ (3 ∷ 1 ∷ []) ∷ (eight ∷ quarter ∷ 0 ∷ half ∷ []) ∷ [] ∷ []) ∷
     -- [0.5,1,0; 0,8; 0]: test numbers 2 4 4
     (factor_gives (fail 3 3 3) (half ∷ one ∷ 0 ∷ 0 ∷ 0 ∷ eight ∷ 0 ∷ 0 ∷ 0 ∷ [])
-    ⇒ (0 ∷ []) ∷ (2 ∷ 1 ∷ 0 ∷ []) ∷ (0 ∷ 1 ∷ 2 ∷ []) ∷ (half ∷ minus_two ∷ 0 ∷ []) ∷ (0 ∷ eight ∷ 0 ∷ []) ∷ (0 ∷ 1 ∷ 0 ∷ []) ∷ zeros ∷ zeros ∷ (2 ∷ 4 ∷ 4 ∷ []) ∷ (half ∷ two ∷ 0 ∷ 0 ∷ minus_two ∷ eight ∷ 0 ∷ 0 ∷ 0 ∷ []) ∷ [] ∷ []) ∷
+    ⇒ (0 ∷ []) ∷ (2 ∷ 1 ∷ 0 ∷ []) ∷ (0 ∷ 1 ∷ 2 ∷ []) ∷ (half ∷ minus_two ∷ 0 ∷ []) ∷ (0 ∷ eight ∷ 0 ∷ []) ∷ (0 ∷ 1 ∷ 0 ∷ []) ∷
+    zeros ∷ zeros ∷ (2 ∷ 4 ∷ 4 ∷ []) ∷ (half ∷ two ∷ 0 ∷ 0 ∷ minus_two ∷ eight ∷ 0 ∷ 0 ∷ 0 ∷ []) ∷ [] ∷ []) ∷
     -- [1e-200,1e-200; 1]: test numbers 1 1, a diagonal over a square that vanishes
     (factor_gives (fail 2 2 2) (faint ∷ faint ∷ 0 ∷ one ∷ [])
-    ⇒ (0 ∷ []) ∷ (2 ∷ 0 ∷ 0 ∷ []) ∷ (0 ∷ 1 ∷ []) ∷ (faint ∷ one ∷ []) ∷ (0 ∷ 0 ∷ []) ∷ (0 ∷ 0 ∷ []) ∷ (0 ∷ 0 ∷ []) ∷ (0 ∷ 0 ∷ []) ∷ (1 ∷ 1 ∷ []) ∷ (faint ∷ one ∷ 0 ∷ one ∷ []) ∷ [] ∷ []) ∷
+    ⇒ (0 ∷ []) ∷ (2 ∷ 0 ∷ 0 ∷ []) ∷ (0 ∷ 1 ∷ []) ∷ (faint ∷ one ∷ []) ∷ (0 ∷ 0 ∷ []) ∷ (0 ∷ 0 ∷ []) ∷ (0 ∷ 0 ∷ []) ∷
+    (0 ∷ 0 ∷ []) ∷ (1 ∷ 1 ∷ []) ∷ (faint ∷ one ∷ 0 ∷ one ∷ []) ∷ [] ∷ []) ∷
     -- [0,1; 0], nb 1: 7 at 0
     (factor_gives (fail 2 2 1) zero_diagonal ⇒ (7 ∷ 0 ∷ 0 ∷ []) ∷ []) ∷
     -- [0,1; 0], nb 1, Lift 0.5: d 0.5, −2, L 2, test numbers 0 1, since the search stays in the panel
     (factor_gives (lift 2 1 half 1) zero_diagonal
-    ⇒ (0 ∷ []) ∷ (1 ∷ 1 ∷ 0 ∷ []) ∷ (0 ∷ 1 ∷ []) ∷ (half ∷ minus_two ∷ []) ∷ (0 ∷ 0 ∷ []) ∷ (0 ∷ 0 ∷ []) ∷ (1 ∷ 0 ∷ []) ∷ (half ∷ 0 ∷ []) ∷ (0 ∷ 1 ∷ []) ∷ (half ∷ two ∷ 0 ∷ minus_two ∷ []) ∷ [] ∷ []) ∷
+    ⇒ (0 ∷ []) ∷ (1 ∷ 1 ∷ 0 ∷ []) ∷ (0 ∷ 1 ∷ []) ∷ (half ∷ minus_two ∷ []) ∷ (0 ∷ 0 ∷ []) ∷ (0 ∷ 0 ∷ []) ∷ (1 ∷ 0 ∷ []) ∷
+    (half ∷ 0 ∷ []) ∷ (0 ∷ 1 ∷ []) ∷ (half ∷ two ∷ 0 ∷ minus_two ∷ []) ∷ [] ∷ []) ∷
     -- [0,1; 0], Lift 2, limit 1: 8 at 0
     (factor_gives (lift 2 2 two 1) zero_diagonal ⇒ (8 ∷ 0 ∷ 0 ∷ []) ∷ []) ∷
     -- limit 2: d 4, 4, rounds 2, counts 2 0 0
     (factor_gives (lift 2 2 two 2) zero_diagonal
-    ⇒ (2 ∷ []) ∷ (2 ∷ 0 ∷ 0 ∷ []) ∷ (0 ∷ 1 ∷ []) ∷ (four ∷ four ∷ []) ∷ (one ∷ 0 ∷ []) ∷ (1 ∷ 0 ∷ []) ∷ (1 ∷ 1 ∷ []) ∷ (four ∷ four ∷ []) ∷ (4 ∷ 4 ∷ []) ∷ zero_diagonal ∷ [] ∷ []) ∷
+    ⇒ (2 ∷ []) ∷ (2 ∷ 0 ∷ 0 ∷ []) ∷ (0 ∷ 1 ∷ []) ∷ (four ∷ four ∷ []) ∷ (one ∷ 0 ∷ []) ∷ (1 ∷ 0 ∷ []) ∷ (1 ∷ 1 ∷ []) ∷
+    (four ∷ four ∷ []) ∷ (4 ∷ 4 ∷ []) ∷ zero_diagonal ∷ [] ∷ []) ∷
     -- [0,1e-160,0; 0,1e150; 0]: 23 at 0
     (factor_gives (fail 3 3 3) (0 ∷ small ∷ 0 ∷ 0 ∷ 0 ∷ large ∷ 0 ∷ 0 ∷ 0 ∷ []) ⇒ (23 ∷ 0 ∷ 0 ∷ []) ∷ []) ∷
     -- [0,1e200; 0]: 24 at 0

@@ -8,7 +8,6 @@ use Rattle.model.specs.Choice.{row_greatest, with_row}
 use Rattle.model.specs.declared.LocalRow.{LocalRow}
 use Rattle.model.specs.declared.Choice.{Choice}
 use Rattle.model.specs.declared.Choice.TheVariants.{ZeroColumn, Single, Block}
-use Rattle.model.specs.declared.Chosen.{Chosen}
 use Rattle.model.specs.declared.PivotTest.TheVariants as by
 use Rattle.greatest.specs.Greatest.{Within}
 

@@ -16,7 +16,6 @@ use Rattle.model.specs.declared.Block.{Block as Numbers}
 use Rattle.model.specs.declared.Diagonal.TheVariants.{One, Two}
 use Rattle.model.specs.declared.Elim.{Elim}
 use Rattle.model.specs.declared.Frame.{Frame}
-use Rattle.model.specs.declared.LocalRow.{LocalRow}
 use Rattle.model.specs.declared.Refusal.TheVariants as refusal
 use Rattle.model.specs.declared.Choice.{Choice}
 use Rattle.model.specs.declared.Choice.TheVariants.{ZeroColumn, Single, Block}

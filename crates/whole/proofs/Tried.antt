@@ -68,7 +68,8 @@ module _ (c ke : ℕ) (a m : Mat) (hc : ke ≤ c) (k : ℕ) (o : Chosen) (hp : o
       rw (exchanged-masked c (k + 1) o.kp.0 ke a hk hp hc, head_two-masked c ke k s.block x hc, kept_two-masked c ke k x m hc s.block)
 
   single-tried : (mode : Mode) → k < ke
-      → after_one ke (head_of c a) m k o (settled_one mode (head_of c a o.kp.0 o.kp.0)) ≡ cut_tried c (after_one ke a m k o (settled_one mode (a o.kp.0 o.kp.0)))
+      → after_one ke (head_of c a) m k o (settled_one mode (head_of c a o.kp.0 o.kp.0))
+      ≡ cut_tried c (after_one ke a m k o (settled_one mode (a o.kp.0 o.kp.0)))
   single-tried mode hk = rw (head_at c a o.kp.0 o.kp.0 (omega arith) (omega arith)) (one-tried (settled_one mode (a o.kp.0 o.kp.0)) hk)
 
   block-tried : (mode : Mode) (limit : ℕ) → k + 1 < ke → try_block ke (head_of c a) m mode limit k o ≡ cut_tried c (try_block ke a m mode limit k o)

@@ -21,6 +21,6 @@ returns-in-Single c = let h = step-single _ _ _ _ _ _ _ _ _ c.requires.step_pre.
     record { mult_after = h.0; taken_in = h.1 }
 
 pub returns-in-Block : goal.returns-in-Block
-returns-in-Block c = let h = step_block _ _ _ _ _ _ _ _ _ c.requires.step_pre.last c.requires.limit_pre c.choose-choice.ensures.value c.by_mode.ensures _ _ c.in-Block.is
-    c.moved_block.ensures in
+returns-in-Block c = let h = step_block _ _ _ _ _ _ _ _ _ c.requires.step_pre.last c.requires.limit_pre c.choose-choice.ensures.value c.by_mode.ensures _ _
+    c.in-Block.is c.moved_block.ensures in
     record { mult_after = h.0; taken_in = h.1 }

@@ -8,8 +8,10 @@ returns-then-own-threshold c = search (rules, way-row)
 
 pub returns-then-magnitude-threshold : goal.returns-then-magnitude-threshold
 returns-then-magnitude-threshold c = rw c.with_row-then-magnitude-threshold.ensures
-    (way-other _ _ _ _ _ _ _ _ _ c.threshold.ensures c.row_greatest-row.ensures.value c.root_of-rowmax.ensures _ _ _ c.get.ensures c.magnitude.ensures c.threshold-2.ensures c.if-own-threshold.false c.if-magnitude-threshold.true)
+    (way-other _ _ _ _ _ _ _ _ _ c.threshold.ensures c.row_greatest-row.ensures.value c.root_of-rowmax.ensures _ _ _
+    c.get.ensures c.magnitude.ensures c.threshold-2.ensures c.if-own-threshold.false c.if-magnitude-threshold.true)
 
 pub returns-else-magnitude-threshold : goal.returns-else-magnitude-threshold
 returns-else-magnitude-threshold c = rw c.with_row-else-magnitude-threshold.ensures
-    (way_block _ _ _ _ _ _ _ _ _ c.threshold.ensures c.row_greatest-row.ensures.value c.root_of-rowmax.ensures _ _ _ c.get.ensures c.magnitude.ensures c.threshold-2.ensures c.if-own-threshold.false c.if-magnitude-threshold.false)
+    (way_block _ _ _ _ _ _ _ _ _ c.threshold.ensures c.row_greatest-row.ensures.value c.root_of-rowmax.ensures _ _ _
+    c.get.ensures c.magnitude.ensures c.threshold-2.ensures c.if-own-threshold.false c.if-magnitude-threshold.false)
