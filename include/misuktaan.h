@@ -115,7 +115,7 @@ extern "C" {
  *   EXCHANGED_DIAGONAL   |diagonal of imax| >= alpha * rowmax: a 1x1 from row imax, exchanged with the position's row.
  *   BLOCK                none of these: a block of the position's row and imax; both of its positions have the number.
  *
- * A lift changes no number. Later versions may have more of them.
+ * A lift changes no number. Later versions may have more tests, with numbers of their own.
  */
 #define MISUKTAAN_TEST_ZERO_COLUMN 0
 #define MISUKTAAN_TEST_OWN_DIAGONAL 1

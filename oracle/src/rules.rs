@@ -104,8 +104,8 @@ fn judge(f: &Factor, ran: Ran) -> Result<Answer, Refusal> {
     }
 }
 
-/// The test numbers by position of a run's steps up to a position, by what they looked at. How far they looked and the
-/// head as it stands say the same; what is left of it, too.
+/// The test numbers by position of a run's steps up to a position, by the numbers that they compared; and the head as
+/// the text leaves it. How far the steps looked, and the text alone, must give the same numbers.
 fn numbered(f: &Factor, steps: &[Step], until: usize) -> (Vec<u8>, Node) {
     let by_numbers: Vec<_> = steps.iter().map(|step| (step.at, test_numbers::of_step(step))).collect();
     let by_shape: Vec<_> = steps.iter().map(|step| (step.at, step.number())).collect();

@@ -74,7 +74,7 @@ fn candidate(at: &At, imax: usize) -> f64 {
 
 // ---- what decides
 
-/// Whether the first three tests do not hold and the fourth is left.
+/// The number of the first test that holds; 4 if none does.
 pub fn decided(Looked { own, colmax, rowmax, candidate }: Looked) -> u8 {
     if own.max(colmax) == 0.0 {
         0

@@ -34,7 +34,7 @@ use Rattle.model.proofs.Numbered.{refused-not}
 use Rattle.model.proofs.Independence.{bytes-tabulate}
 use Rattle.model.proofs.Entry.{Passed, passed as entry-passed, past-entry}
 use Rattle.model.proofs.Bounds.{GoodPivot}
-use Rattle.model.proofs.Recorded.{last-from, step_bytes, Reached, panel-reached, noted-recorded, none-recorded, step_puts}
+use Rattle.model.proofs.Recorded.{last-from, Reached, panel-reached, noted-recorded, none-recorded, step_puts}
 use Rattle.model.proofs.Tests.{step-told, none-told, told-alike}
 
 -- ---- the run keeps all four
@@ -55,7 +55,7 @@ walked-noted : (how : Pivoting) (ncol ke k : ℕ) (p : Pivots) (v : Pivot) → k
     → Walked ncol k p.notes.order p.diagonals.blocks
     → let e = last_of k (is_block v.diagonal) in
     Walked ncol (e + 1) (noted p k e v).notes.order (noted p k e v).diagonals.blocks
-unfolding noted step_bytes
+unfolding noted step_puts
 walked-noted how ncol ke k p v h g w =
     let none : swapped p.notes.order k v.chosen.p.0 ≡ p.notes.order = sym (swapped_same p.notes.order k v.chosen.p.0 (sym g.own)) in
     rw none (step-walked ncol k p.notes.order p.diagonals.blocks (is_block v.diagonal) v.chosen.kp.0 (omega (arith, g.last)) g.from
@@ -64,7 +64,7 @@ walked-noted how ncol ke k p v h g w =
 -- a step keeps all four
 pub noted-kept : (how : Pivoting) (ncol ke k : ℕ) (p : Pivots) (v : Pivot) → ke ≤ ncol → GoodPivot how ke k v → Kept how.mode ncol k p
     → KeptPast how.mode ncol k p v
-unfolding noted step_bytes step_puts
+unfolding noted step_puts
 noted-kept how ncol ke k p v h g w =
     let block = is_block v.diagonal in
     let e = last_of k block in
@@ -172,7 +172,7 @@ stands-kept mode ncol (done t qs) s ps w e = by-check (result_check ncol t.pivot
     by-check (Ok u) h = let z : t ≡ s = cc in subst (λ (u : State). Kept mode ncol ncol u.pivots) z w
     by-check (Err why) h = absurd (let z : ◌≡◌ {A = ℕ} 0 1 = cc in omega arith)
 
--- its order and block bytes at the end
+-- what its run has kept at the end
 pub accepted-kept : (x : Call) (w : Accepted x) → Kept x.settings.mode x.settings.ncol x.settings.ncol w.state.pivots
 unfolding head_answer_of
 accepted-kept x w =

@@ -61,14 +61,17 @@ greatest-where f lo (suc n) best =
 
 -- ---- the choice
 
--- what was chosen at k: its rows stand in the panel, none before k, the first exchange is none, as the tests stand; by a test that chooses such a pivot in
--- either mode
+-- a test that chooses a block, or a 1x1, in either mode
+pub record Chooses (block : Bool) (t : PivotTest) : Type 0 where
+  pub kind : chooses_block t ≡ block
+  pub allowed : (mode : Mode) → AllowedIn mode t
+
+-- what was chosen at k: its rows stand in the panel, none before k, the first exchange is none, as the tests stand; by a test that chooses such a pivot
 pub record ChosenIn (k ke : ℕ) (block : Bool) (c : Chosen) : Type 0 where
   pub from : last_of k block ≤ c.kp.0
   pub row : c.kp.0 < ke
   pub own : c.p.0 ≡ k
-  pub kind : chooses_block c.test ≡ block
-  pub allowed : (mode : Mode) → AllowedIn mode c.test
+  pub by_test : Chooses block c.test
 
 -- what a choice may name
 abbrev pub ChoiceIn : ℕ → ℕ → Choice → Type 0
@@ -113,39 +116,29 @@ column-in a k ke h =
 abbrev row : ℕ → LocalRow
 row i = record { 0 = i }
 
--- a test that chooses a 1x1 in either mode; one that chooses a block
-record Alone (t : PivotTest) : Type 0 where
-  kind : chooses_block t ≡ false
-  allowed : (mode : Mode) → AllowedIn mode t
+with-row-in : {block : Bool} {t : PivotTest} (k ke : ℕ) (at : LocalRow) → last_of k block ≤ at.0 → at.0 < ke → Chooses block t
+    → ChosenIn k ke block (with_row t k at)
+with-row-in k ke at l h w = record { from = l; row = h; own = refl; by_test = w }
 
-record Together (t : PivotTest) : Type 0 where
-  kind : chooses_block t ≡ true
-  allowed : (mode : Mode) → AllowedIn mode t
-
-single-in : {t : PivotTest} (k ke : ℕ) (at : LocalRow) → k ≤ at.0 → at.0 < ke → Alone t → ChosenIn k ke false (with_row t k at)
-unfolding last_of
-single-in k ke at l h w = record { from = l; row = h; own = refl; kind = w.kind; allowed = w.allowed }
-
-block-in : {t : PivotTest} (k ke : ℕ) (at : LocalRow) → k < at.0 → at.0 < ke → Together t → ChosenIn k ke true (with_row t k at)
-unfolding last_of
-block-in k ke at l h w = record { from = omega arith; row = h; own = refl; kind = w.kind; allowed = w.allowed }
-
-none-chosen : {t : PivotTest} (k ke : ℕ) (x : Float) (rest : Choice) → k < ke → Alone t
+none-chosen : {t : PivotTest} (k ke : ℕ) (x : Float) (rest : Choice) → k < ke → Chooses false t
     → ChoiceIn k ke (cond (eq (maximum_of (magnitude_of x) zero_f) zero_f) choice.ZeroColumn
     (cond (le zero_f (magnitude_of x)) (choice.Single (with_row t k (row k))) rest))
+unfolding last_of
 none-chosen k ke x rest h w =
     ⊎_elim
-    (λ t. rw t (either-chosen k ke (eq (maximum_of (magnitude_of x) zero_f) zero_f) choice.ZeroColumn _ tt (single-in k ke (row k) (omega arith) h w)))
+    (λ t. rw t (either-chosen k ke (eq (maximum_of (magnitude_of x) zero_f) zero_f) choice.ZeroColumn _ tt (with-row-in k ke (row k) (omega arith) h w)))
     (λ t. rw t tt) (own-or-zero x)
 
-some-chosen : {t u v w : PivotTest} (k ke : ℕ) (at : LocalRow) (zero own by_row other : Bool) → k < at.0 → at.0 < ke → Alone t → Alone u → Alone v → Together w
+some-chosen : {t u v w : PivotTest} (k ke : ℕ) (at : LocalRow) (zero own by_row other : Bool) → k < at.0 → at.0 < ke
+    → Chooses false t → Chooses false u → Chooses false v → Chooses true w
     → ChoiceIn k ke (cond zero choice.ZeroColumn (cond own (choice.Single (with_row t k (row k)))
     (cond by_row (choice.Single (with_row u k (row k))) (cond other (choice.Single (with_row v k at)) (choice.Block (with_row w k at))))))
+unfolding last_of
 some-chosen k ke at true own by_row other l r a b c d = tt
-some-chosen k ke at false true by_row other l r a b c d = single-in k ke (row k) (omega arith) (omega arith) a
-some-chosen k ke at false false true other l r a b c d = single-in k ke (row k) (omega arith) (omega arith) b
-some-chosen k ke at false false false true l r a b c d = single-in k ke at (omega arith) r c
-some-chosen k ke at false false false false l r a b c d = block-in k ke at l r d
+some-chosen k ke at false true by_row other l r a b c d = with-row-in k ke (row k) (omega arith) (omega arith) a
+some-chosen k ke at false false true other l r a b c d = with-row-in k ke (row k) (omega arith) (omega arith) b
+some-chosen k ke at false false false true l r a b c d = with-row-in k ke at (omega arith) r c
+some-chosen k ke at false false false false l r a b c d = with-row-in k ke at (omega arith) r d
 
 -- a block's two rows are different rows of the panel, so it never crosses ke
 pub choose-in : (a : Mat) (k ke : ℕ) → k < ke → ChoiceIn k ke (choose_of a k ke)
@@ -223,8 +216,8 @@ module _ (how : Pivoting) (ke : ℕ) (a m : Mat) (k : ℕ) (c : Chosen) where
     row = w.row;
     own = w.own;
     few = f;
-    kind = w.kind;
-    allowed = w.allowed how.mode;
+    kind = w.by_test.kind;
+    allowed = w.by_test.allowed how.mode;
   }
 
   block-good : ChosenIn k ke true c → Good how ke k (try_block ke a m how.mode how.limit k c)
@@ -235,7 +228,7 @@ module _ (ke : ℕ) (a m : Mat) (limit k : ℕ) where
   single-good : (mode : Mode) (c : Chosen) (s : Option OneSettled) → ChosenIn k ke false c
       → Good (record { mode = mode; limit = limit }) ke k (after_one ke a m k c s)
   unfolding last_of
-  single-good mode c s w = one-good (record { mode = mode; limit = limit }) ke a m k c s w.from w.row w.own w.kind (w.allowed mode)
+  single-good mode c s w = one-good (record { mode = mode; limit = limit }) ke a m k c s w.from w.row w.own w.by_test.kind (w.by_test.allowed mode)
 
   by-good : (mode : Mode) (o : Choice) → k < ke → ChoiceIn k ke o → Good (record { mode = mode; limit = limit }) ke k (try_by ke a m mode limit k o)
   by-good Fail choice.ZeroColumn h w = tt

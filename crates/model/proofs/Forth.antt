@@ -21,7 +21,7 @@ use Rattle.model.specs.declared.Refusal.TheVariants.{BlockRow}
 use Rattle.model.proofs.Cases.{test, cmp}
 use Rattle.model.proofs.Bytes.{bytes-paired}
 use Rattle.model.proofs.Order.{order-inside, order-apart, swapped-permutes}
-use Rattle.model.proofs.Recorded.{last-from, last_block, last-single, step_bytes, bytes-before, bytes-at, bytes-second}
+use Rattle.model.proofs.Recorded.{last-from, last_block, last-single, step_puts, step_bytes, bytes-before, bytes-at, bytes-second}
 use Rattle.model.proofs.Walk.{same-ok, walk-turn, walk-over}
 use Rattle.model.proofs.Lapack.{negative-number, size-number, place-found, Faultless, read-past}
 
@@ -52,7 +52,7 @@ with-number-in list k false z i h l = let e : i ≡ k = omega arith in rw (e, eq
 -- a pivot by its kind and by the row, from 0, that its number names
 pub pivot-is : (rows before : ℕ → ℕ) (k : ℕ) (z : ℤ) (block : Bool) (p : ℕ) → is_negative z ≡ block → unsigned_abs z ≡ p + 1
     → past_pivot (record { rows = rows; blocks = before }) k z ≡ record { rows = swapped rows (last_of k block) p; blocks = step_bytes before k block }
-unfolding past_pivot step_bytes
+unfolding past_pivot step_puts
 pivot-is rows before k z block p sign size = let less : unsigned_abs z - 1 ≡ p = omega arith in rw (sign, less) refl
 
 -- ---- to LAPACK, and back

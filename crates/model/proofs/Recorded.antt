@@ -28,27 +28,44 @@ pub last-single : (k : ℕ) (block : Bool) → block ≡ false → last_of k blo
 unfolding last_of
 last-single k block e = rw e
 
+-- ---- what a step puts at a pivot's columns
+
+-- y at its last column, then x at k: block bytes, partners and test numbers are put so
+unfoldable pub step_puts : (ℕ → ℕ) → ℕ → Bool → ℕ → ℕ → ℕ → ℕ
+step_puts f k two y x = put (put f (last_of k two) y) k x
+
+-- before k they are as they were
+pub puts-before : (f : ℕ → ℕ) (k : ℕ) (two : Bool) (y x c : ℕ) → c < k → step_puts f k two y x c ≡ f c
+unfolding step_puts put
+puts-before f k two y x c h = rw (ne_eqb c k (λ e. omega arith), ne_eqb c (last_of k two) (λ e. omega (arith, last-from k two)))
+
+-- at k is x
+pub puts-at : (f : ℕ → ℕ) (k : ℕ) (two : Bool) (y x : ℕ) → step_puts f k two y x k ≡ x
+unfolding step_puts put
+puts-at f k two y x = rw (eq-eqb k k refl)
+
+-- at a block's second column is y
+pub puts-second : (f : ℕ → ℕ) (k y x : ℕ) → step_puts f k true y x (k + 1) ≡ y
+unfolding step_puts put last_of
+puts-second f k y x = rw (ne_eqb (k + 1) k (λ e. omega arith), eq-eqb (k + 1) (k + 1) refl)
+
 -- ---- block bytes
 
 -- a step's bytes: 0 at its last column, then 1 at k for a block
-unfoldable pub step_bytes : (ℕ → ℕ) → ℕ → Bool → ℕ → ℕ
-step_bytes f k two = put (put f (last_of k two) 0) k (byte_of two)
+abbrev pub step_bytes : (ℕ → ℕ) → ℕ → Bool → ℕ → ℕ
+step_bytes f k two = step_puts f k two 0 (byte_of two)
 
 -- before k they are as they were
 pub bytes-before : (f : ℕ → ℕ) (k : ℕ) (two : Bool) (c : ℕ) → c < k → step_bytes f k two c ≡ f c
-unfolding step_bytes put last_of
-bytes-before f k true c h = rw (ne_eqb c k (λ e. omega arith), ne_eqb c (k + 1) (λ e. omega arith))
-bytes-before f k false c h = rw (ne_eqb c k (λ e. omega arith))
+bytes-before f k two = puts-before f k two 0 (byte_of two)
 
 -- at k is the pivot's own
 pub bytes-at : (f : ℕ → ℕ) (k : ℕ) (two : Bool) → step_bytes f k two k ≡ byte_of two
-unfolding step_bytes put
-bytes-at f k two = rw (eq-eqb k k refl)
+bytes-at f k two = puts-at f k two 0 (byte_of two)
 
 -- at a block's second column is 0
 pub bytes-second : (f : ℕ → ℕ) (k : ℕ) → step_bytes f k true (k + 1) ≡ 0
-unfolding step_bytes put last_of
-bytes-second f k = rw (ne_eqb (k + 1) k (λ e. omega arith), eq-eqb (k + 1) (k + 1) refl)
+bytes-second f k = puts-second f k 0 1
 
 -- a step keeps block bytes well formed
 pub step-paired : (f : ℕ → ℕ) (k : ℕ) (two : Bool) → Paired k f → Paired (last_of k two + 1) (step_bytes f k two)
@@ -77,27 +94,6 @@ step-paired f k false w = record {
   where
     own : (c : ℕ) → c ≡ k → step_bytes f k false c ≡ 1 → ⊥
     own c x e = omega (arith, ap (step_bytes f k false) x, bytes-at f k false)
-
--- ---- what a step puts at a pivot's columns
-
--- y at its last column, then x at k: both the partners and the test numbers are put so
-unfoldable pub step_puts : (ℕ → ℕ) → ℕ → Bool → ℕ → ℕ → ℕ → ℕ
-step_puts f k two y x = put (put f (last_of k two) y) k x
-
--- before k they are as they were
-pub puts-before : (f : ℕ → ℕ) (k : ℕ) (two : Bool) (y x c : ℕ) → c < k → step_puts f k two y x c ≡ f c
-unfolding step_puts put
-puts-before f k two y x c h = rw (ne_eqb c k (λ e. omega arith), ne_eqb c (last_of k two) (λ e. omega (arith, last-from k two)))
-
--- at k is x
-pub puts-at : (f : ℕ → ℕ) (k : ℕ) (two : Bool) (y x : ℕ) → step_puts f k two y x k ≡ x
-unfolding step_puts put
-puts-at f k two y x = rw (eq-eqb k k refl)
-
--- at a block's second column is y
-pub puts-second : (f : ℕ → ℕ) (k y x : ℕ) → step_puts f k true y x (k + 1) ≡ y
-unfolding step_puts put last_of
-puts-second f k y x = rw (ne_eqb (k + 1) k (λ e. omega arith), eq-eqb (k + 1) (k + 1) refl)
 
 -- ---- exchanges
 
@@ -151,7 +147,7 @@ step-ahead f q k two p kp w hp hk c h s =
 -- the record after a step keeps to both
 pub noted-recorded : (how : Pivoting) (ke k : ℕ) (p : Pivots) (v : Pivot) → GoodPivot how ke k v → Recorded k p.diagonals.blocks p.partners
     → Recorded (last_of k (is_block v.diagonal) + 1) (noted p k (last_of k (is_block v.diagonal)) v).diagonals.blocks (noted p k (last_of k (is_block v.diagonal)) v).partners
-unfolding noted step_bytes step_puts
+unfolding noted step_puts
 noted-recorded how ke k p v g w = record {
   paired = step-paired p.diagonals.blocks k (is_block v.diagonal) w.paired;
   ahead = step-ahead p.diagonals.blocks p.partners k (is_block v.diagonal) v.chosen.p.0 v.chosen.kp.0 w

@@ -112,7 +112,7 @@ pub enum PivotTest {
 }
 
 // A chosen pivot at k: the test that decided on it; the row that is exchanged with k before anything else, which is k's
-// own but for a rook block; and the row that is then exchanged with the pivot's last column.
+// own in every choice as the tests stand; and the row that is then exchanged with the pivot's last column.
 #[derive(Clone, Copy)]
 pub struct Chosen {
     pub test: PivotTest,

@@ -1,4 +1,4 @@
--- Laws of the constants, of numbers that are not negative, of the first test without a root, of the roots of squares, of the ways
+-- Laws of the constants, of numbers that are not negative, of the own diagonal's test without a root, of the roots of squares, of the ways
 -- through the choice.
 pub mod Laws
 pub mod Units

@@ -1,4 +1,4 @@
--- Why a diagonal surely reaches the first test's threshold, without the root. Where the rounded square of a number `low` is above `square`, its exact
+-- Why a diagonal surely reaches its own test's threshold, without the root. Where the rounded square of a number `low` is above `square`, its exact
 -- square is so too, since rounding keeps the order; so `low` is not below the rounded root, and the threshold beside `low` is not below that beside the
 -- root. No error of rounding is estimated. A reader may rely on `reached`. Assumes nothing.
 use mathlib.Core.Path.{◌≡◌, refl, sym, ap, ◌∙◌, subst}

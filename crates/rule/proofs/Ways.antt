@@ -17,16 +17,16 @@ use Rattle.model.specs.declared.PivotTest.{PivotTest}
 use Rattle.model.specs.declared.PivotTest.TheVariants as by
 use Rattle.model.proofs.Bounds.{ChoiceIn, choose-in}
 use Rattle.greatest.proofs.Squares.{greatest-keeps}
-use Rattle.rule.specs.Chosen.{by_row, ChosenWithin}
+use Rattle.rule.specs.Chosen.{by_row, ChoiceWithin}
 use Rattle.rule.specs.Reach.{Reaches, ReachPre}
 use Rattle.rule.proofs.Units.{ahead-unsigned, ahead-round}
 
 -- a choice stands within the panel, a block's second row below k
-pub chosen : (a : Mat) (k ke : ℕ) (c : Choice) → k < ke → c ≡ choose_of a k ke → (c ≡ choose_of a k ke) × ChosenWithin k ke c
+pub chosen : (a : Mat) (k ke : ℕ) (c : Choice) → k < ke → c ≡ choose_of a k ke → (c ≡ choose_of a k ke) × ChoiceWithin k ke c
 unfolding last_of
 chosen a k ke c h e = (e, go c (subst (λ (x : Choice). ChoiceIn k ke x) (sym e) (choose-in a k ke h)))
   where
-    go : (c : Choice) → ChoiceIn k ke c → ChosenWithin k ke c
+    go : (c : Choice) → ChoiceIn k ke c → ChoiceWithin k ke c
     go ZeroColumn w = tt
     go (Single c) w = record { low = w.from; high = w.row }
     go (Block c) w = (record { low = omega (arith, w.own); high = omega (arith, w.own, w.from, w.row) }, record { low = w.from; high = w.row })
@@ -34,7 +34,7 @@ chosen a k ke c h e = (e, go c (subst (λ (x : Choice). ChoiceIn k ke x) (sym e)
 abbrev here : PivotTest → ℕ → Choice
 here t k = Single (with_row t k (record { 0 = k }))
 
--- ---- the first test without the root: neither the diagonal's magnitude nor the greatest square has a sign
+-- ---- the own diagonal's test without the root: neither the diagonal's magnitude nor the greatest square has a sign
 
 square-unsigned : (x : Float) → magnitude_of (square_of x) ≡ square_of x
 unfolding magnitude_of mul

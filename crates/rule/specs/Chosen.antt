@@ -12,10 +12,10 @@ use Rattle.model.specs.declared.PivotTest.TheVariants as by
 use Rattle.greatest.specs.Greatest.{Within}
 
 -- the rows exchanged stand within the panel that ends at ke, a block's second one below k, so that a block never crosses ke
-abbrev pub ChosenWithin : ℕ → ℕ → Choice → Type 0
-ChosenWithin k ke ZeroColumn = Unit {0}
-ChosenWithin k ke (Single c) = Within k ke c.kp.0
-ChosenWithin k ke (Block c) = Within k ke c.p.0 × Within (k + 1) ke c.kp.0
+abbrev pub ChoiceWithin : ℕ → ℕ → Choice → Type 0
+ChoiceWithin k ke ZeroColumn = Unit {0}
+ChoiceWithin k ke (Single c) = Within k ke c.kp.0
+ChoiceWithin k ke (Block c) = Within k ke c.p.0 × Within (k + 1) ke c.kp.0
 
 -- the tests of the choice that look at row imax, which holds the column's greatest magnitude, colmax; own is the diagonal's
 unfoldable pub by_row : Mat → ℕ → ℕ → (own colmax : Float) → (imax : LocalRow) → Choice

@@ -1,3 +1,3 @@
--- What the pivot rule chooses, and what its first test asks.
+-- What the pivot rule chooses, and what the own diagonal's test asks.
 pub mod Chosen
 pub mod Reach

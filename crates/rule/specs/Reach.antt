@@ -1,4 +1,4 @@
--- What the first test of the choice asks of a diagonal, by its magnitude `own` and its column's greatest square. Definitions only. Assumes nothing.
+-- What the own diagonal's test asks, by its magnitude `own` and its column's greatest square. Definitions only. Assumes nothing.
 use Rattle.std.specs.Prelude.{◌≡◌, true, false, Float}
 use Rattle.std.specs.Float.Ieee.{le, eq}
 use Rattle.model.specs.Scalar.{◌⊗◌, zero_f, magnitude_of, maximum_of}

@@ -9,7 +9,7 @@ ghost use Rattle.model.specs.Matrix.{view};
 ghost use Rattle.model.specs.Choice.{with_row, choose_of, column_greatest};
 ghost use Rattle.model.specs.Head.{scale_of, growth_floor_of};
 ghost use Rattle.greatest.specs.Greatest.{ColumnPre, Within, SquareOf, FoundIn};
-ghost use Rattle.rule.specs.Chosen.{by_row, ChosenWithin};
+ghost use Rattle.rule.specs.Chosen.{by_row, ChoiceWithin};
 ghost use Rattle.rule.specs.Reach.{Reaches, ReachPre};
 
 use model::{Block, Choice, Chosen, Elim, Frame, Greatest, LocalRow, PivotTest};
@@ -80,8 +80,8 @@ impl PivotRule {
         square_root::sqrt(square)
     }
 
-    // The last two tests at k, where the diagonal's magnitude, own, has lost the first against colmax, the greatest of
-    // its column, in row imax: one against the greatest of row and column imax, one of that row's own diagonal.
+    // The row test and the exchanged diagonal's at k, where k's own diagonal has lost its test: own is its magnitude,
+    // colmax the greatest of its column, in row imax. A block where neither holds.
     // origin: src/numeric/ldlt/bunch_kaufman.rs, fn ll_bk_panel_step
     fn choose_by_row(
         panel: &[f64],
@@ -134,7 +134,7 @@ impl PivotRule {
     pub fn choose(panel: &[f64], at: Frame, k: Elim) -> Choice
         requires { ColumnPre at.nrow at.ncol k.0 at.ke (length panel.now) }
         ensures value { result ≡ choose_of (view at.nrow panel.now) k.0 at.ke }
-        ensures chosen_within { ChosenWithin k.0 at.ke result }
+        ensures chosen_within { ChoiceWithin k.0 at.ke result }
     {
         let own = scalar::magnitude(grid::get(panel, at.nrow, k.0, k.0));
         let column = greatest::column_greatest(panel, at, k);

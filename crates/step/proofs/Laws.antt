@@ -29,7 +29,7 @@ use Rattle.grid.specs.Grid.{In}
 use Rattle.grid.proofs.Laws.{in-panel}
 use Rattle.greatest.specs.Greatest.{Within}
 use Rattle.eliminate.specs.Eliminate.{TwoPre}
-use Rattle.rule.specs.Chosen.{ChosenWithin}
+use Rattle.rule.specs.Chosen.{ChoiceWithin}
 use Rattle.step.specs.Answers.{Taken, tried, by_mode, single_of, two_of}
 use Rattle.step.specs.Terms.{TakenIn, LimitPre, PanelPre, StepPre, PivotPre, BlockPre}
 
@@ -107,10 +107,10 @@ by_mode_lem ke A M (Lift floor) limit k (Single c) = refl
 by_mode_lem ke A M (Lift floor) limit k (Block c) = refl
 
 -- and so is where it can stand
-pub within-mode : (ke : ℕ) (mode : Mode) (k : Elim) (C D : Choice) → k.0 < ke → ChosenWithin k.0 ke C → D ≡ by_mode mode k C → ChosenWithin k.0 ke D
-within-mode ke mode k C D h w e = subst (ChosenWithin k.0 ke) (sym e) (go mode C w)
+pub within-mode : (ke : ℕ) (mode : Mode) (k : Elim) (C D : Choice) → k.0 < ke → ChoiceWithin k.0 ke C → D ≡ by_mode mode k C → ChoiceWithin k.0 ke D
+within-mode ke mode k C D h w e = subst (ChoiceWithin k.0 ke) (sym e) (go mode C w)
   where
-    go : (mode : Mode) (C : Choice) → ChosenWithin k.0 ke C → ChosenWithin k.0 ke (by_mode mode k C)
+    go : (mode : Mode) (C : Choice) → ChoiceWithin k.0 ke C → ChoiceWithin k.0 ke (by_mode mode k C)
     go Fail C w = w
     go (Lift floor) ZeroColumn w = record { low = omega arith; high = h }
     go (Lift floor) (Single c) w = w
@@ -176,14 +176,14 @@ kept ke A M (Lift floor) limit k T A' M' h l e =
 
 -- ---- a step: C is the choice, T the answer, A' and M' what is left
 
-pub single-pre : (at : Frame) (k : ℕ) (c : Chosen) (len len_m : ℕ) (C : Choice) → StepPre at k k len len_m → C ≡ Single c → ChosenWithin k at.ke C
+pub single-pre : (at : Frame) (k : ℕ) (c : Chosen) (len len_m : ℕ) (C : Choice) → StepPre at k k len len_m → C ≡ Single c → ChoiceWithin k at.ke C
     → PivotPre at k k c.kp.0 len len_m
-single-pre at k c len len_m C h z g = let w = subst (ChosenWithin k at.ke) z g in record { step = h; from = w.low; row = w.high }
+single-pre at k c len len_m C h z g = let w = subst (ChoiceWithin k at.ke) z g in record { step = h; from = w.low; row = w.high }
 
-pub block-pre : (at : Frame) (k : ℕ) (c : Chosen) (len len_m : ℕ) (C : Choice) → StepPre at k k len len_m → C ≡ Block c → ChosenWithin k at.ke C
+pub block-pre : (at : Frame) (k : ℕ) (c : Chosen) (len len_m : ℕ) (C : Choice) → StepPre at k k len len_m → C ≡ Block c → ChoiceWithin k at.ke C
     → PivotPre at k (k + 1) c.kp.0 len len_m × Within k at.ke c.p.0
 block-pre at k c len len_m C h z g =
-    let w = subst (ChosenWithin k at.ke) z g in
+    let w = subst (ChoiceWithin k at.ke) z g in
     let r = w.1 in
     (record { step = record { sizes = h.sizes; from = h.from; last = omega (arith, r.low, r.high) }; from = r.low; row = r.high }, w.0)
 

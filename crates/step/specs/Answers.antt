@@ -26,7 +26,7 @@ by_mode (Lift floor) k (Block c) = Block c
 unfoldable pub single_of : ℕ → Mat → Mat → Mode → ℕ → Chosen → Tried
 single_of ke a m mode k c = after_one ke a m k c (settled_one mode (a c.kp.0 c.kp.0))
 
--- a block at k and k + 1 as chosen, with row kp exchanged for k + 1, after p was exchanged for k
+-- a block at k and k + 1 as chosen, with row kp exchanged for k + 1, after p was exchanged for k (`try_block`, closed, so that a clause does not open it)
 unfoldable pub two_of : ℕ → Mat → Mat → Mode → ℕ → ℕ → Chosen → Tried
 two_of ke a m mode limit k c = try_block ke a m mode limit k c
 

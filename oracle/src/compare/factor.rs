@@ -39,6 +39,7 @@ impl Met {
             self.panels += u64::from(s.nb < s.ncol);
             let tests = &mut self.tests[usize::from(s.mode.floor().is_some())];
             tests.iter_mut().zip(0..).for_each(|(calls, test)| *calls += u64::from(b.tests.contains(&test)));
+            assert!(b.tests.iter().zip(&b.lifted).all(|at| at != (&0, &0)), "a zero column that is not lifted");
         }
     }
 

@@ -1,4 +1,4 @@
--- `rule::PivotRule::choose` meets its contract: the first test is told without the root, or all of them by it. Assumes nothing.
+-- `rule::PivotRule::choose` meets its contract: the own diagonal's test is told without the root, or all of them by it. Assumes nothing.
 use Rattle.rule.proofs.Ways.{chosen, unsigned-both, way-reached}
 use borrow.Author.Rules.{rules}
 use Rattle.rule.proofs.PivotRule.choose.Goals as goal
