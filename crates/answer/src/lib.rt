@@ -4,7 +4,7 @@
 // (its buffers), read_and_factor (its input), factored.
 #![tactic(auto)]
 
-ghost use Rattle.std.specs.Prelude.{◌*◌, ◌≤◌, ◌≡◌, length, Ok};
+ghost use Rattle.std.specs.Prelude.{◌*◌, ◌≤◌, ◌≡◌, [], length, Ok};
 ghost use Rattle.model.specs.Factor.{work_length, factor_of, lent_in};
 ghost use Rattle.record.specs.Record.{panel_length, fault_number, asked_of};
 ghost use Rattle.answer.specs.Lines.{outcome_lines, cleared, printed};
@@ -29,12 +29,14 @@ const WORK: usize = 3 * ROWS * (COLUMNS + 1) + COLUMNS * COLUMNS;
 // Enough for the longest answer.
 pub const ROOM: usize = 32768;
 
-// The factor call, and what it says.
-fn run(c: Settings, input: &[f64], b: &mut LentBuffers) -> Text<ROOM>
-    requires { LinesPre c (length b.old.panel.now) (length b.old.d.now) (length b.old.sub.now)
+// The factor call, and what it says. (The text is lent here and below: given back by value, each function of the chain
+// would have room for one of its own on the stack, and copy it.)
+fn run(c: Settings, input: &[f64], b: &mut LentBuffers, out: &mut Text<ROOM>)
+    requires lists { LinesPre c (length b.old.panel.now) (length b.old.d.now) (length b.old.sub.now)
         (length b.old.blocks.now) (length b.old.lifts.now) (length b.old.amounts.now)
         (length b.old.tests.now) (length b.old.order.now) (length b.old.marks.now) }
-    ensures { result ≡ outcome_lines c (factor_of c input.now (lent_in b.old)) }
+    requires empty { out.old ≡ [] }
+    ensures { out.new ≡ outcome_lines c (factor_of c input.now (lent_in b.old)) }
 {
     let answer = factor::factor(c, input, b);
     let panel = &mut *b.panel;
@@ -58,9 +60,7 @@ fn run(c: Settings, input: &[f64], b: &mut LentBuffers) -> Text<ROOM>
         order,
         marks,
     };
-    let mut out = Text::new();
-    lines::put_said(answer, left, &mut out);
-    out
+    lines::put_said(answer, left, out);
 }
 
 // How many numbers the panel has.
@@ -81,9 +81,10 @@ fn work_size(nrow: usize, nb: usize) -> usize
 
 // The factor call with buffers of the stated lengths, which are parts of arrays of the program's sizes: there is no
 // heap.
-fn with_buffers(c: Settings, input: &[f64]) -> Text<ROOM>
-    requires { SizesPre c }
-    ensures { result ≡ outcome_lines c (factor_of c input.now (cleared c)) }
+fn with_buffers(c: Settings, input: &[f64], out: &mut Text<ROOM>)
+    requires sizes { SizesPre c }
+    requires empty { out.old ≡ [] }
+    ensures { out.new ≡ outcome_lines c (factor_of c input.now (cleared c)) }
 {
     let mut panel = [0.0; NUMBERS];
     let mut d = [0.0; COLUMNS];
@@ -112,36 +113,48 @@ fn with_buffers(c: Settings, input: &[f64]) -> Text<ROOM>
         marks: &mut marks[..tail],
         work: &mut work[..size],
     };
-    run(c, input, &mut b)
+    run(c, input, &mut b, out);
 }
 
 // The panel of a stream that asks for a factor, read into its place and factored.
-fn read_and_factor(c: Settings, stream: &[u8], input: &mut [f64]) -> Text<ROOM>
+fn read_and_factor(c: Settings, stream: &[u8], input: &mut [f64], out: &mut Text<ROOM>)
     requires stream_value { asked_of stream.now ≡ Ok c }
     requires input_len { length input.old ≡ panel_length c }
-    ensures { result ≡ printed stream.now }
+    requires empty { out.old ≡ [] }
+    ensures { out.new ≡ printed stream.now }
 {
     little_endian::numbers_at(stream, 30, input);
-    with_buffers(c, input)
+    with_buffers(c, input, out);
 }
 
 // A stream that asks for a factor.
-fn factored(c: Settings, stream: &[u8]) -> Text<ROOM>
-    requires { asked_of stream.now ≡ Ok c }
-    ensures { result ≡ printed stream.now }
+fn factored(c: Settings, stream: &[u8], out: &mut Text<ROOM>)
+    requires stream_value { asked_of stream.now ≡ Ok c }
+    requires empty { out.old ≡ [] }
+    ensures { out.new ≡ printed stream.now }
 {
     let mut input = [0.0; NUMBERS];
     let numbers = panel_size(c.nrow, c.ncol);
-    read_and_factor(c, stream, &mut input[..numbers])
+    read_and_factor(c, stream, &mut input[..numbers], out);
 }
 
 // A stream that is turned away, with no place named.
-fn refused(fault: Fault) -> Text<ROOM>
-    ensures { result ≡ refused_line (fault_number fault) 0 0 }
+fn refused(fault: Fault, out: &mut Text<ROOM>)
+    requires { out.old ≡ [] }
+    ensures { out.new ≡ refused_line (fault_number fault) 0 0 }
 {
-    let mut out = Text::new();
-    lines::put_refused(fault.number(), 0, 0, &mut out);
-    out
+    lines::put_refused(fault.number(), 0, 0, out);
+}
+
+// What is printed for a stream, in a text with nothing in it.
+fn put_printed(stream: &[u8], out: &mut Text<ROOM>)
+    requires { out.old ≡ [] }
+    ensures { out.new ≡ printed stream.now }
+{
+    match record::asked_by(stream) {
+        Ok(c) => factored(c, stream, out),
+        Err(fault) => refused(fault, out),
+    }
 }
 
 // What is printed for a stream.
@@ -149,8 +162,7 @@ fn refused(fault: Fault) -> Text<ROOM>
 pub fn respond(stream: &[u8]) -> Text<ROOM>
     ensures { result ≡ printed stream.now }
 {
-    match record::asked_by(stream) {
-        Ok(c) => factored(c, stream),
-        Err(fault) => refused(fault),
-    }
+    let mut out = Text::new();
+    put_printed(stream, &mut out);
+    out
 }

@@ -1,11 +1,12 @@
 -- Laws of the buffers before the first panel and after a refusal. Assumes nothing.
-use mathlib.Core.Path.{◌≡◌, fun_ext}
+use mathlib.Core.Path.{◌≡◌, ◌∙◌, fun_ext}
 use mathlib.Core.List.{List}
-use Prim.Native.Nat.{ℕ, ◌<◌, ◌≤◌}
+use Prim.Native.Nat.{ℕ, ◌+◌, ◌<◌, ◌≤◌}
 use native.Mathlib.Omega.{arith}
-use borrow.Author.Tests.{ltb-true, ltb-false}
-use lib.Dec.{ltb}
-use lib.ListN.{length, get_or, replicate, get_or-eq_default}
+use borrow.Author.Tests.{ltb-true, ltb-false, eqb-true, eqb-false}
+use lib.Dec.{ltb, eqb}
+use lib.ListN.{length, get_or, set, replicate, get_or-eq_default}
+use lib.Seq.{get_or-set_same, get_or-set_other}
 use lib.Ieee.{Float}
 use Rattle.model.specs.Matrix.{view, naturals, places, tabulate}
 use Rattle.model.specs.Step.{pivots_of}
@@ -18,6 +19,12 @@ use Rattle.model.proofs.Cases.{test}
 use Rattle.buffers.specs.Buffers.{in_order, begun_of}
 
 -- ---- the order
+
+pub order-step : (xs : List ℕ) (i n : ℕ) → i < n → length xs ≡ n → ((k : ℕ) → k < i → get_or xs k 0 ≡ k) → (k : ℕ) → k < i + 1 → get_or (set xs i i) k 0 ≡ k
+order-step xs i n h l e k m =
+    test (eqb k i)
+    (λ p. rw (eqb-true k i p) (get_or-set_same xs i i 0 (omega arith)))
+    (λ p. get_or-set_other xs i k i 0 (eqb-false k i p) ∙ e k (omega (arith, eqb-false k i p)))
 
 pub order-end : (xs : List ℕ) (i n : ℕ) → n ≤ i → length xs ≡ n → ((k : ℕ) → k < i → get_or xs k 0 ≡ k) → xs ≡ in_order n
 unfolding in_order

@@ -77,11 +77,11 @@ column-found a k ke G h e =
     (greatest-keeps P (λ i. a i k) (ke - (k + 1)) (k + 1) (none_yet k) (none_found k ke (a k k) h)
     (λ i l u. record { place = record { low = omega arith; high = omega arith }; of = inr refl }))
 
-across-left : (a : Mat) (r i : ℕ) → i < r → a r i ≡ across a r i
+pub across-left : (a : Mat) (r i : ℕ) → i < r → a r i ≡ across a r i
 unfolding across
 across-left a r i h = rw (lt-ltb i r h)
 
-across-below : (a : Mat) (r i : ℕ) → r ≤ i → a i r ≡ across a r i
+pub across-below : (a : Mat) (r i : ℕ) → r ≤ i → a i r ≡ across a r i
 unfolding across
 across-below a r i h = rw (le-ltb i r h)
 

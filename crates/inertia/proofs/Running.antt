@@ -84,6 +84,9 @@ module _ (d sub : Row) (blocks : ℕ → ℕ) where
       rw l (fuel n m o (past_of blocks k) (pivot_counted d sub blocks k t) (omega arith) (omega arith)))
       (λ l. rw l)
 
+  pub tally-none : (n : ℕ) (t : Tally) → tallied_from d sub blocks n (n - 0) 0 t ≡ tallied_from d sub blocks n n 0 t
+  tally-none n t = let e : n - 0 ≡ n = omega arith in rw e
+
   pub tally-step : (n k l : ℕ) (t u w : Tally) (p : Diagonal) → k < n → p ≡ diagonal_at d sub blocks k → u ≡ counted_of t p → l ≡ past_of blocks k
       → tallied_from d sub blocks n (n - k) k t ≡ w → tallied_from d sub blocks n (n - l) l u ≡ w
   unfolding tallied_from

@@ -3,6 +3,7 @@ use Prim.Native.Nat.{ℕ, ◌+◌, ◌-◌, ◌<◌, ◌≤◌}
 use mathlib.Core.Path.{◌≡◌, refl, ◌∙◌, ap, fun_ext}
 use mathlib.Core.Bool.{cond}
 use mathlib.Core.List.{List, ◌++◌}
+use native.Mathlib.Nat.{le_antisymm}
 use native.Mathlib.Omega.{arith}
 use borrow.Author.Tests.{lt-ltb, le-ltb, le-leb, lt-leb, eqb-true, eqb-false, eq-eqb, ne_eqb, ltb-true, ltb-false}
 use lib.Dec.{ltb, leb, eqb}
@@ -61,6 +62,9 @@ with_part-more f lo hi N h =
 pub with_part-step : (f p q : ℕ → Float) (lo i : ℕ) (N : ℕ → Float) (v : Float) → lo ≤ i → p ≡ with_part f lo i N → v ≡ N i → q ≡ put p i v
     → q ≡ with_part f lo (i + 1) N
 with_part-step f p q lo i N v h e n u = u ∙ rw (n, e) (with_part-more f lo i N h)
+
+pub with_part-end : (f p : ℕ → Float) (lo hi i : ℕ) (N : ℕ → Float) → i ≤ hi → hi ≤ i → p ≡ with_part f lo i N → p ≡ with_part f lo hi N
+with_part-end f p lo hi i N h l e = e ∙ ap (λ (k : ℕ). with_part f lo k N) (le_antisymm h l)
 
 -- ---- a part of a vector that was lent from a to e, and is back as ys: for regions of one buffer
 

@@ -2,6 +2,20 @@
 use Rattle.std.specs.Prelude.{◌≡◌, ℕ, ◌-◌, ◌*◌, ◌≤◌}
 use Rattle.model.specs.declared.Settings.{Settings}
 
+-- lists by position, all of one length
+pub record PivotsPre (d sub blocks lifts amounts tests : ℕ) : Type 0 where
+  pub subs : sub ≡ d
+  pub bytes : blocks ≡ d
+  pub lifted : lifts ≡ d
+  pub added : amounts ≡ d
+  pub decided : tests ≡ d
+
+-- a panel of few columns, and the marks of its tail rows
+pub record RowsPre (nrow ncol panel marks : ℕ) : Type 0 where
+  pub columns : ncol ≤ 16
+  pub numbers : panel ≡ nrow * ncol
+  pub tail : marks ≡ nrow - ncol
+
 -- the lists of a factor call at the program's sizes
 pub record LinesPre (c : Settings) (panel d sub blocks lifts amounts tests order marks : ℕ) : Type 0 where
   pub columns : c.ncol ≤ 16

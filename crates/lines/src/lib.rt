@@ -7,12 +7,12 @@ ghost use Rattle.std.specs.Prelude.{◌+◌, ◌*◌, ◌≤◌, ◌<◌, ◌≡
 ghost use Rattle.model.specs.Answer.{factored_says};
 ghost use Rattle.lines.specs.Lines.{field, number, three, each, refused_line, accepted_line, inertia_line};
 ghost use Rattle.lines.specs.Lines.{order_field, order_line, entry_field, mark_field};
-ghost use Rattle.lines.specs.Lines.{accepted_lines, said_lines, pivot_of, row_of};
-ghost use Rattle.lines.specs.Left.{left_in};
+ghost use Rattle.lines.specs.Lines.{accepted_lines, said_lines};
+ghost use Rattle.lines.specs.Left.{left_in, pivot_in, row_in};
 
 mod left;
 
-pub use left::Left;
+pub use left::{Left, Pivots, Rows};
 use model::{Refusal, Report, Tally};
 use refusal::NumberAndPlace;
 use text::Text;
@@ -121,85 +121,84 @@ pub fn put_order<const ROOM: usize>(order: &[usize], out: &mut Text<ROOM>)
 // ---- pivots
 
 // Position k, in at most 5 + 4·21 + 3·17 + 1 bytes.
-fn put_pivot<const ROOM: usize>(left: Left, k: usize, out: &mut Text<ROOM>)
-    requires place { k < left.c.ncol }
+fn put_pivot<const ROOM: usize>(p: Pivots, k: usize, out: &mut Text<ROOM>)
+    requires place { k < length p.d.now }
     requires room { length out.old + 141 ≤ ROOM }
-    ensures writes { out.new ≡ out.old ++ pivot_of (left_in left.entry) k }
+    ensures writes { out.new ≡ out.old ++ pivot_in p.entry k }
     ensures upper_bound { length out.new ≤ length out.old + 141 }
 {
     out.push_word(b"pivot");
     put_field(k, out);
-    put_field(usize::from(left.blocks[k]), out);
-    put_number(left.d[k], out);
-    put_number(left.sub[k], out);
-    put_field(usize::from(left.lifts[k]), out);
-    put_number(left.amounts[k], out);
-    put_field(usize::from(left.tests[k]), out);
+    put_field(usize::from(p.blocks[k]), out);
+    put_number(p.d[k], out);
+    put_number(p.sub[k], out);
+    put_field(usize::from(p.lifts[k]), out);
+    put_number(p.amounts[k], out);
+    put_field(usize::from(p.tests[k]), out);
     out.push(NEWLINE);
 }
 
 // A line for each position.
-fn put_pivots<const ROOM: usize>(left: Left, out: &mut Text<ROOM>)
-    requires { length out.old + 141 * left.c.ncol ≤ ROOM }
-    ensures writes { out.new ≡ out.old ++ each (pivot_of (left_in left.entry)) left.entry.c.ncol }
-    ensures upper_bound { length out.new ≤ length out.old + 141 * left.entry.c.ncol }
+pub fn put_pivots<const ROOM: usize>(p: Pivots, out: &mut Text<ROOM>)
+    requires { length out.old + 141 * length p.d.now ≤ ROOM }
+    ensures writes { out.new ≡ out.old ++ each (pivot_in p.entry) (length p.entry.d.now) }
+    ensures upper_bound { length out.new ≤ length out.old + 141 * length p.entry.d.now }
 {
-    for k in 0..left.c.ncol {
-        put_pivot(left, k, out);
+    for k in 0..p.d.len() {
+        put_pivot(p, k, out);
     }
 }
 
 // ---- rows
 
 // Row i's numbers.
-fn put_entries<const ROOM: usize>(left: Left, i: usize, out: &mut Text<ROOM>)
-    requires row { i < left.c.nrow }
-    requires room { length out.old + 17 * left.c.ncol ≤ ROOM }
-    ensures writes { out.new ≡ out.old ++ each (entry_field left.entry.c.nrow left.entry.panel.now i)
-        left.entry.c.ncol }
-    ensures value { length out.new ≡ length out.old + 17 * left.entry.c.ncol }
+fn put_entries<const ROOM: usize>(r: Rows, i: usize, out: &mut Text<ROOM>)
+    requires row { i < r.nrow }
+    requires room { length out.old + 17 * r.ncol ≤ ROOM }
+    ensures writes { out.new ≡ out.old ++ each (entry_field r.entry.nrow r.entry.panel.now i) r.entry.ncol }
+    ensures value { length out.new ≡ length out.old + 17 * r.entry.ncol }
 {
-    for j in 0..left.c.ncol {
-        put_number(grid::get(left.panel, left.c.nrow, i, j), out);
+    for j in 0..r.ncol {
+        put_number(grid::get(r.panel, r.nrow, i, j), out);
     }
 }
 
 // A tail row's mark.
 #[tactic(auto, unfolding(crate::specs::Lines::mark_field))]
-fn put_mark<const ROOM: usize>(left: Left, i: usize, out: &mut Text<ROOM>)
-    requires row { i < left.c.nrow }
+fn put_mark<const ROOM: usize>(r: Rows, i: usize, out: &mut Text<ROOM>)
+    requires row { i < r.nrow }
     requires room { length out.old + 21 ≤ ROOM }
-    ensures writes { out.new ≡ out.old ++ mark_field left.entry.c.ncol left.entry.marks.now i }
+    ensures writes { out.new ≡ out.old ++ mark_field r.entry.ncol r.entry.marks.now i }
     ensures upper_bound { length out.new ≤ length out.old + 21 }
 {
-    if i >= left.c.ncol {
-        put_field(usize::from(left.marks[i - left.c.ncol]), out);
+    if i >= r.ncol {
+        put_field(usize::from(r.marks[i - r.ncol]), out);
     }
 }
 
 // Row i, in at most 3 + 21 + 16·17 + 21 + 1 bytes.
 #[tactic(auto, unfolding(crate::specs::Lines::row_line))]
-fn put_row<const ROOM: usize>(left: Left, i: usize, out: &mut Text<ROOM>)
-    requires row { i < left.c.nrow }
+fn put_row<const ROOM: usize>(r: Rows, i: usize, out: &mut Text<ROOM>)
+    requires row { i < r.nrow }
     requires room { length out.old + 318 ≤ ROOM }
-    ensures writes { out.new ≡ out.old ++ row_of left.entry.c (left_in left.entry) i }
+    ensures writes { out.new ≡ out.old ++ row_in r.entry i }
     ensures upper_bound { length out.new ≤ length out.old + 318 }
 {
     out.push_word(b"row");
     put_field(i, out);
-    put_entries(left, i, out);
-    put_mark(left, i, out);
+    put_entries(r, i, out);
+    put_mark(r, i, out);
     out.push(NEWLINE);
 }
 
 // A line for each row.
-fn put_rows<const ROOM: usize>(left: Left, out: &mut Text<ROOM>)
-    requires { length out.old + 318 * left.c.nrow ≤ ROOM }
-    ensures writes { out.new ≡ out.old ++ each (row_of left.entry.c (left_in left.entry)) left.entry.c.nrow }
-    ensures upper_bound { length out.new ≤ length out.old + 318 * left.entry.c.nrow }
+pub fn put_rows<const ROOM: usize>(r: Rows, out: &mut Text<ROOM>)
+    requires { length out.old + 318 * r.nrow ≤ ROOM }
+    ensures writes { out.new ≡ out.old ++ each (row_in r.entry) r.entry.nrow }
+    ensures upper_bound { length out.new ≤ length out.old + 318 * r.entry.nrow }
 {
-    for i in 0..left.c.nrow {
-        put_row(left, i, out);
+    for i in 0..r.nrow {
+        put_row(r, i, out);
     }
 }
 
@@ -211,11 +210,25 @@ fn put_factor<const ROOM: usize>(report: Report, left: Left, out: &mut Text<ROOM
     requires { length out.old + 24100 ≤ ROOM }
     ensures { out.new ≡ out.old ++ accepted_lines left.entry.c report (left_in left.entry) }
 {
+    let pivots = Pivots {
+        d: left.d,
+        sub: left.sub,
+        blocks: left.blocks,
+        lifts: left.lifts,
+        amounts: left.amounts,
+        tests: left.tests,
+    };
+    let rows = Rows {
+        nrow: left.c.nrow,
+        ncol: left.c.ncol,
+        panel: left.panel,
+        marks: left.marks,
+    };
     put_accepted(report.rounds, out);
     put_order(left.order, out);
-    put_pivots(left, out);
+    put_pivots(pivots, out);
     put_inertia(report.inertia, out);
-    put_rows(left, out);
+    put_rows(rows, out);
 }
 
 // What a factor call answered, with what it left.

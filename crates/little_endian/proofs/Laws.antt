@@ -4,12 +4,14 @@ use mathlib.Core.Bool.{Bool, true}
 use mathlib.Core.List.{List}
 use Prim.Native.Nat.{ℕ, ◌+◌, ◌*◌, ◌%◌, ◌<◌, ◌≤◌}
 use native.Mathlib.Omega.{arith}
-use borrow.Author.Tests.{lt-ltb}
-use lib.ListN.{length, get_or, take, drop}
-use lib.Seq.{get_or-take, get_or-drop}
+use borrow.Author.Tests.{lt-ltb, eqb-true, eqb-false}
+use lib.Dec.{eqb}
+use lib.ListN.{length, get_or, set, take, drop}
+use lib.Seq.{get_or-take, get_or-drop, get_or-set_same, get_or-set_other}
 use Rattle.std.specs.Int.{w16, w32, w64, from_le_bytes}
 use lib.Ieee.{Float, nan, inf, fin, binary64, of_bits, to_bits, is_nan}
 use lib.Ieee.Bits.{nan_bits_is, nan_bits_above}
+use Rattle.model.proofs.Cases.{test}
 use Rattle.model.proofs.Tabulated.{is-tabulate}
 use Rattle.scalar.proofs.Leaves.{is-nan, is_nan-is}
 use Rattle.little_endian.specs.LittleEndian.{le16, le32, le64, numbers_of}
@@ -64,6 +66,14 @@ nan_pattern (inf s) t e h = cc
 nan_pattern (fin s m x) t e h = cc
 
 -- ---- numbers one after another
+
+pub numbers-step : (xs : List Float) (s : List ℕ) (at i n : ℕ) (v : Float) → i < n → length xs ≡ n → v ≡ of_bits binary64 (le64 s (at + 8 * i))
+    → ((k : ℕ) → k < i → get_or xs k nan ≡ of_bits binary64 (le64 s (at + 8 * k)))
+    → (k : ℕ) → k < i + 1 → get_or (set xs i v) k nan ≡ of_bits binary64 (le64 s (at + 8 * k))
+numbers-step xs s at i n v h l w e k m =
+    test (eqb k i)
+    (λ p. rw (eqb-true k i p) (get_or-set_same xs i v nan (omega arith) ∙ w))
+    (λ p. get_or-set_other xs i k v nan (eqb-false k i p) ∙ e k (omega (arith, eqb-false k i p)))
 
 pub numbers-end : (xs : List Float) (s : List ℕ) (at i n : ℕ) → n ≤ i → length xs ≡ n
     → ((k : ℕ) → k < i → get_or xs k nan ≡ of_bits binary64 (le64 s (at + 8 * k))) → xs ≡ numbers_of s at n

@@ -1,5 +1,5 @@
 // A refusal as the number and the place that docs/REFUSALS.md gives it: the one table of them in code.
-// A reader may rely on each being what `turned_away` says (model, specs/Answer.antt).
+// A reader may rely on each being what `turned_away` says (model, specs/Answer.antt), whatever the call accepts with.
 #![tactic(auto)]
 
 ghost use Rattle.std.specs.Prelude.{◌≡◌};

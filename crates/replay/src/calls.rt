@@ -149,7 +149,7 @@ pub(crate) fn inertia_case(answers: &mut Answers) -> bool {
     let mut of_blocks = [0u8; COLUMNS];
     let d = file::list(answers, length_d, &mut of_d, Answers::number);
     let sub = file::list(answers, length_sub, &mut of_sub, Answers::number);
-    let blocks = file::list(answers, length_blocks, &mut of_blocks, Answers::byte);
+    let blocks = file::list(answers, length_blocks, &mut of_blocks, Answers::block_byte);
     Outcome::from(inertia::inertia(d, sub, blocks)) == recorded
 }
 
@@ -262,7 +262,7 @@ pub(crate) fn update_case(answers: &mut Answers) -> bool {
         panel: file::list(answers, n.kpanel, &mut of_kpanel, Answers::number),
         d: file::list(answers, n.kd, &mut of_kd, Answers::number),
         sub: file::list(answers, n.ksub, &mut of_ksub, Answers::number),
-        blocks: file::list(answers, n.kblocks, &mut of_kblocks, Answers::byte),
+        blocks: file::list(answers, n.kblocks, &mut of_kblocks, Answers::block_byte),
         rows: file::list(answers, n.krows, &mut of_krows, Answers::global_row),
     };
     let answer = update::update(target, panel, descendant);
@@ -308,7 +308,7 @@ pub(crate) fn solve_case(answers: &mut Answers) -> bool {
     let diagonals = DiagonalLists {
         d: file::list(answers, n.d, &mut of_d, Answers::number),
         sub: file::list(answers, n.sub, &mut of_sub, Answers::number),
-        blocks: file::list(answers, n.blocks, &mut of_blocks, Answers::byte),
+        blocks: file::list(answers, n.blocks, &mut of_blocks, Answers::block_byte),
     };
     let order = file::list(answers, n.order, &mut of_order, Answers::count);
     let vector = file::list(answers, n.vector, &mut of_vector, Answers::number);
@@ -345,7 +345,7 @@ pub(crate) fn to_lapack_case(answers: &mut Answers) -> bool {
     let mut of_blocks = [0u8; COLUMNS];
     let mut of_list = [i32::HELD; COLUMNS];
     let order = file::list(answers, length_order, &mut of_order, Answers::count);
-    let blocks = file::list(answers, length_blocks, &mut of_blocks, Answers::byte);
+    let blocks = file::list(answers, length_blocks, &mut of_blocks, Answers::block_byte);
     let list = file::first_of(length_list, &mut of_list);
     let answer = lapack::to_lapack(ncol, order, blocks, list);
     let left = file::holds(answers, outputs_after(recorded.number), list);

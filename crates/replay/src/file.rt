@@ -1,6 +1,6 @@
 // The file of answers: numbers and lists read from it, and buffers held to what it has next. It is read by chunks of
-// 4,096 bytes. A list fills the first places of a room. Where the file ends too early or cannot be read, ones stand for
-// the bits that it lacks.
+// 4,096 bytes, until it ends or cannot be read. A list fills the first places of a room. Ones stand for the bits that
+// the file lacks, but for block bytes, which are 0 then.
 ghost use Rattle.std.specs.Prelude.{◌≤◌, length};
 
 use std::fs::File;
@@ -30,13 +30,15 @@ pub(crate) fn read_full(file: &mut File, place: &mut [u8]) -> usize
     done
 }
 
-// The file, and the chunk of it that was read last, whose bytes from `at` up to `end` are still to come.
+// The file, and the chunk of it that was read last, whose bytes from `at` up to `end` are still to come. A chunk that is
+// not full is the last: nothing is read after it, however many bytes are asked for.
 #[derive(Drop)]
 pub(crate) struct Answers {
     file: File,
     chunk: [u8; CHUNK],
     at: usize,
     end: usize,
+    last: bool,
     ghost inside: { (at ≤ end) × (end ≤ 4096) },
 }
 
@@ -47,6 +49,7 @@ impl Answers {
             chunk: [LACKING; CHUNK],
             at: 0,
             end: 0,
+            last: false,
         }
     }
 
@@ -54,22 +57,41 @@ impl Answers {
         let end = read_full(&mut self.file, &mut self.chunk);
         self.at = 0;
         self.end = end;
+        self.last = end < CHUNK;
     }
 
-    pub(crate) fn byte(&mut self) -> u8 {
-        if self.at == self.end {
+    // The next byte, if the file has one.
+    fn next_byte(&mut self) -> Option<u8> {
+        if self.at == self.end && !self.last {
             self.next_chunk();
         }
         if self.at == self.end {
-            return LACKING;
+            return None;
         }
         let byte = self.chunk[self.at];
         self.at += 1;
-        byte
+        Some(byte)
     }
 
+    pub(crate) fn byte(&mut self) -> u8 {
+        self.next_byte().unwrap_or(LACKING)
+    }
+
+    pub(crate) fn block_byte(&mut self) -> u8 {
+        self.next_byte().unwrap_or(0)
+    }
+
+    // Whether no byte is left.
+    fn has_ended(&self) -> bool {
+        self.last && self.at == self.end
+    }
+
+    // (Where none is left that is seen once, and not at each byte: lists of a damaged file may be long.)
     pub(crate) fn bytes<const N: usize>(&mut self) -> [u8; N] {
         let mut bytes = [LACKING; N];
+        if self.has_ended() {
+            return bytes;
+        }
         for byte in &mut bytes {
             *byte = self.byte();
         }

@@ -47,6 +47,9 @@ column-is a ds subs bs ncol k e f p w g h i j = rw (g, h, i, j)
 
 -- ---- the columns in turn: t is the answer for column k
 
+pub result-none : (ncol : ℕ) (D : Diagonals) (a : Mat) → result_check ncol D a (ncol - 0) 0 ≡ result_check ncol D a ncol 0
+result-none ncol D a = let all : ncol - 0 ≡ ncol = omega arith in rw all
+
 module _ (ncol : ℕ) (D : Diagonals) (a : Mat) (k : ℕ) (R : Check) where
   result-one : k < ncol → result_check ncol D a (ncol - k) k ≡ result_check ncol D a (suc (ncol - (k + 1))) k
   result-one h = let e : ncol - k ≡ suc (ncol - (k + 1)) = omega arith in rw e

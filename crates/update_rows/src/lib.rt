@@ -15,6 +15,7 @@ ghost use Rattle.update_rows.specs.Apply.{SubtractPre, ApplyPre, PartPre};
 use grid::column_start;
 use landing::{Descendant, Target};
 use model::{Elim, GlobalRow, LocalRow};
+use update_sums::Columns;
 
 // How many of the descendant's rows are worked at a time: their acc is a local array, whatever the most rows are.
 const PART: usize = 256;
@@ -75,7 +76,15 @@ fn update_part(
         (view t.entry.nrow panel.old) }
 {
     let nk = k.nk;
-    update_sums::sum(acc, k, LocalRow(nk + c), nk + lo, nk + hi);
+    let columns = Columns {
+        panel: k.panel,
+        rows: nk + k.mk,
+        columns: nk,
+        d: k.d,
+        sub: k.sub,
+        blocks: k.blocks,
+    };
+    update_sums::sum(acc, columns, LocalRow(nk + c), nk + lo, nk + hi);
     subtract(panel, t.nrow, column, places, acc, lo, hi);
 }
 

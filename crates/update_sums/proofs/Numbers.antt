@@ -20,39 +20,39 @@ use Rattle.grid.proofs.Laws.{col-in, view-read}
 use Rattle.kernels.proofs.Laws.{vec-set, with_part-in, with_part-past, with_part-step}
 use Rattle.grid.proofs.Parts.{column-at}
 use Rattle.model.proofs.Bytes.{bytes-paired}
-use Rattle.model.specs.Update.{Descendant}
-use Rattle.update_sums.specs.Acc.{weighed, acc_of, matrix_of, weights_of, sums_of, from_row, two_added, WeightPre, SumPre}
+use Rattle.update_sums.specs.declared.Columns.{Columns}
+use Rattle.update_sums.specs.Acc.{weighed, acc_of, matrix_in, weights_in, sums_in, from_row, two_added, WeightPre, SumPre}
 
 -- ---- v at one column: l is the row's number there; b is whether a block begins at it, g whether it is a block's second
 
-module _ (k : Descendant) (i s : ℕ) (l : Float) (e : l ≡ matrix_of k i s) (b : Bool) (h : b ≡ begins (naturals k.blocks) s) where
-  pub weight-first : (m : Float) → b ≡ true → m ≡ matrix_of k i (s + 1) → l ⊗ vec k.d s ⊕ m ⊗ vec k.sub s ≡ weights_of k i s
+module _ (k : Columns) (i s : ℕ) (l : Float) (e : l ≡ matrix_in k i s) (b : Bool) (h : b ≡ begins (naturals k.blocks.now) s) where
+  pub weight-first : (m : Float) → b ≡ true → m ≡ matrix_in k i (s + 1) → l ⊗ vec k.d.now s ⊕ m ⊗ vec k.sub.now s ≡ weights_in k i s
   unfolding weighed times_d
   weight-first m x f = rw (← h, x, e, f)
 
-  module _ (x : b ≡ false) (g : Bool) (j : g ≡ ends_block (naturals k.blocks) s) where
-    pub weight-second : (a : Float) → g ≡ true → a ≡ matrix_of k i (s - 1) → a ⊗ vec k.sub (s - 1) ⊕ l ⊗ vec k.d s ≡ weights_of k i s
+  module _ (x : b ≡ false) (g : Bool) (j : g ≡ ends_block (naturals k.blocks.now) s) where
+    pub weight-second : (a : Float) → g ≡ true → a ≡ matrix_in k i (s - 1) → a ⊗ vec k.sub.now (s - 1) ⊕ l ⊗ vec k.d.now s ≡ weights_in k i s
     unfolding weighed times_d
     weight-second a y f = rw (← h, x, ← j, y, e, f)
 
-    pub weight-plain : g ≡ false → l ⊗ vec k.d s ≡ weights_of k i s
+    pub weight-plain : g ≡ false → l ⊗ vec k.d.now s ≡ weights_in k i s
     unfolding weighed times_d
     weight-plain y = rw (← h, x, ← j, y, e)
 
-module _ (k : Descendant) (i lo hi room s : ℕ) (w : SumPre k i lo hi room) (h : s < k.nk) where
+module _ (k : Columns) (i lo hi room s : ℕ) (w : SumPre k i lo hi room) (h : s < k.columns) where
   pub sum-weight : WeightPre k i s
   sum-weight = record {
     row = w.row;
-    column = col-in (k.nk + k.mk) k.nk s (length k.panel) w.area h;
+    column = col-in k.rows k.columns s (length k.panel.now) w.area h;
     pivot = omega (arith, w.pivots);
     subdiagonal = omega (arith, w.subdiagonal);
     byte = omega (arith, w.blocks);
-    next = λ o. col-in (k.nk + k.mk) k.nk (s + 1) (length k.panel) w.area
-        (omega (arith, w.blocks, (bytes-paired k.blocks w.check).room s (omega (arith, w.blocks)) o));
+    next = λ o. col-in k.rows k.columns (s + 1) (length k.panel.now) w.area
+        (omega (arith, w.blocks, (bytes-paired k.blocks.now w.check).room s (omega (arith, w.blocks)) o));
   }
 
-  pub sum_rows : RowsPre (k.nk + k.mk) s lo hi (length k.panel)
-  sum_rows = record { col = omega (arith, col-in (k.nk + k.mk) k.nk s (length k.panel) w.area h, w.rows); up = w.up; rows = w.rows }
+  pub sum_rows : RowsPre k.rows s lo hi (length k.panel.now)
+  sum_rows = record { col = omega (arith, col-in k.rows k.columns s (length k.panel.now) w.area h, w.rows); up = w.up; rows = w.rows }
 
 -- ---- the sums
 
@@ -64,11 +64,11 @@ sum-last f c (suc n) acc =
     let g : c + suc n ≡ c + 1 + n = omega arith in
     rw (e, g) (sum-last f (c + 1) n (acc ⊕ f c))
 
-sums-one : (k : Descendant) (s i r : ℕ) → sums_of k (s + 1) i r ≡ sums_of k s i r ⊕ matrix_of k r s ⊗ weights_of k i s
+sums-one : (k : Columns) (s i r : ℕ) → sums_in k (s + 1) i r ≡ sums_in k s i r ⊕ matrix_in k r s ⊗ weights_in k i s
 unfolding acc_of
 sums-one k s i r =
-    sum-last (λ t. matrix_of k r t ⊗ weights_of k i t) 0 s zero_f
-    ∙ ap (λ (t : ℕ). sum_from (λ u. matrix_of k r u ⊗ weights_of k i u) 0 s zero_f ⊕ matrix_of k r t ⊗ weights_of k i t) (omega arith)
+    sum-last (λ t. matrix_in k r t ⊗ weights_in k i t) 0 s zero_f
+    ∙ ap (λ (t : ℕ). sum_from (λ u. matrix_in k r u ⊗ weights_in k i u) 0 s zero_f ⊕ matrix_in k r t ⊗ weights_in k i t) (omega arith)
 
 -- a rule for places lo up to hi, over a function that has another there
 part-over : (f : Row) (lo hi : ℕ) (N O : Row) → with_part (with_part f lo hi N) lo hi O ≡ with_part f lo hi O
@@ -123,27 +123,27 @@ unfolding with_part plus_times
 two-parts g m a b x y = fun_ext λ i. test (within 0 m i) (λ t. rw t) (λ t. rw t)
 
 -- rows lo up to hi of the panel, acc's number 0 for row lo
-module _ (k : Descendant) (i lo hi : ℕ) where
-  pub sums_none : (f g : Row) → g ≡ with_part f 0 (hi - lo) zeroed → g ≡ with_part g 0 (hi - lo) (from_row (sums_of k 0 i) lo)
+module _ (k : Columns) (i lo hi : ℕ) where
+  pub sums_none : (f g : Row) → g ≡ with_part f 0 (hi - lo) zeroed → g ≡ with_part g 0 (hi - lo) (from_row (sums_in k 0 i) lo)
   unfolding from_row acc_of sum_from zeroed
   sums_none f g e = e ∙ sym (ap (λ (x : Row). with_part x 0 (hi - lo) (λ r. zero_f)) e ∙ part-over f 0 (hi - lo) (λ r. zero_f) (λ r. zero_f))
 
-  sums-step : (f g h : Row) (s : ℕ) (x : Float) → x ≡ weights_of k i s
-      → g ≡ with_part f 0 (hi - lo) (from_row (sums_of k s i) lo)
-      → h ≡ with_part g 0 (hi - lo) (plus_times g (from_row (column_of (matrix_of k) s) lo) x)
-      → h ≡ with_part f 0 (hi - lo) (from_row (sums_of k (s + 1) i) lo)
+  pub sums-step : (f g h : Row) (s : ℕ) (x : Float) → x ≡ weights_in k i s
+      → g ≡ with_part f 0 (hi - lo) (from_row (sums_in k s i) lo)
+      → h ≡ with_part g 0 (hi - lo) (plus_times g (from_row (column_of (matrix_in k) s) lo) x)
+      → h ≡ with_part f 0 (hi - lo) (from_row (sums_in k (s + 1) i) lo)
   unfolding plus_times column_of from_row
   sums-step f g h s x w e p =
-      p ∙ part_same g 0 (hi - lo) _ (λ t. sums_of k (s + 1) i (lo + t)) (λ t z l.
+      p ∙ part_same g 0 (hi - lo) _ (λ t. sums_in k (s + 1) i (lo + t)) (λ t z l.
       rw (w, sums-one k s i (lo + t))
-      (ap (λ (y : Float). y ⊕ matrix_of k (lo + t) s ⊗ weights_of k i s)
-      (ap (λ (q : Row). q t) e ∙ with_part-in f 0 (hi - lo) (λ r. sums_of k s i (lo + r)) t z l)))
+      (ap (λ (y : Float). y ⊕ matrix_in k (lo + t) s ⊗ weights_in k i s)
+      (ap (λ (q : Row). q t) e ∙ with_part-in f 0 (hi - lo) (λ r. sums_in k s i (lo + r)) t z l)))
       ∙ rw e (part-over f 0 (hi - lo) _ _)
 
-  pub sums-two : (f g h : Row) (pair : ℕ) (x y : Float) → x ≡ weights_of k i (2 * pair) → y ≡ weights_of k i (2 * pair + 1)
-      → g ≡ with_part f 0 (hi - lo) (from_row (sums_of k (2 * pair) i) lo)
-      → h ≡ with_part g 0 (hi - lo) (two_added g (matrix_of k) (2 * pair) lo x y)
-      → h ≡ with_part f 0 (hi - lo) (from_row (sums_of k (2 * (pair + 1)) i) lo)
+  pub sums-two : (f g h : Row) (pair : ℕ) (x y : Float) → x ≡ weights_in k i (2 * pair) → y ≡ weights_in k i (2 * pair + 1)
+      → g ≡ with_part f 0 (hi - lo) (from_row (sums_in k (2 * pair) i) lo)
+      → h ≡ with_part g 0 (hi - lo) (two_added g (matrix_in k) (2 * pair) lo x y)
+      → h ≡ with_part f 0 (hi - lo) (from_row (sums_in k (2 * (pair + 1)) i) lo)
   unfolding two_added
   sums-two f g h pair x y v w e p =
       let s : ℕ = 2 * pair in
@@ -151,17 +151,17 @@ module _ (k : Descendant) (i lo hi : ℕ) where
       rw z at (sums-step f _ h (s + 1) y w (sums-step f g _ s x v e refl) (p ∙ two-parts g (hi - lo) _ _ x y))
 
   -- z is what was zeroed: all columns were summed, an even number of them; or one was left, and is added
-  sums-from : (f z h : Row) (s : ℕ) → z ≡ with_part f 0 (hi - lo) zeroed
-      → h ≡ with_part z 0 (hi - lo) (from_row (sums_of k s i) lo) → h ≡ with_part f 0 (hi - lo) (from_row (sums_of k s i) lo)
+  pub sums-from : (f z h : Row) (s : ℕ) → z ≡ with_part f 0 (hi - lo) zeroed
+      → h ≡ with_part z 0 (hi - lo) (from_row (sums_in k s i) lo) → h ≡ with_part f 0 (hi - lo) (from_row (sums_in k s i) lo)
   sums-from f z h s e p = p ∙ rw e (part-over f 0 (hi - lo) zeroed _)
 
-  pub sums-even : (f z h : Row) (s : ℕ) → z ≡ with_part f 0 (hi - lo) zeroed → h ≡ with_part z 0 (hi - lo) (from_row (sums_of k s i) lo)
-      → s ≡ k.nk → h ≡ with_part f 0 (hi - lo) (from_row (sums_of k k.nk i) lo)
-  sums-even f z h s e p m = sums-from f z h k.nk e (rw m at p)
+  pub sums-even : (f z h : Row) (s : ℕ) → z ≡ with_part f 0 (hi - lo) zeroed → h ≡ with_part z 0 (hi - lo) (from_row (sums_in k s i) lo)
+      → s ≡ k.columns → h ≡ with_part f 0 (hi - lo) (from_row (sums_in k k.columns i) lo)
+  sums-even f z h s e p m = sums-from f z h k.columns e (rw m at p)
 
-  pub sums-odd : (f z g h : Row) (s : ℕ) (x : Float) → z ≡ with_part f 0 (hi - lo) zeroed → g ≡ with_part z 0 (hi - lo) (from_row (sums_of k s i) lo)
-      → s + 1 ≡ k.nk → x ≡ weights_of k i (k.nk - 1) → h ≡ with_part g 0 (hi - lo) (plus_times g (from_row (column_of (matrix_of k) (k.nk - 1)) lo) x)
-      → h ≡ with_part f 0 (hi - lo) (from_row (sums_of k k.nk i) lo)
+  pub sums-odd : (f z g h : Row) (s : ℕ) (x : Float) → z ≡ with_part f 0 (hi - lo) zeroed → g ≡ with_part z 0 (hi - lo) (from_row (sums_in k s i) lo)
+      → s + 1 ≡ k.columns → x ≡ weights_in k i (k.columns - 1) → h ≡ with_part g 0 (hi - lo) (plus_times g (from_row (column_of (matrix_in k) (k.columns - 1)) lo) x)
+      → h ≡ with_part f 0 (hi - lo) (from_row (sums_in k k.columns i) lo)
   sums-odd f z g h s x e p m w q =
-      let l : k.nk - 1 ≡ s = omega arith in
-      sums-from f z h k.nk e (rw m at (sums-step z g h s x (rw l at w) p (rw l at q)))
+      let l : k.columns - 1 ≡ s = omega arith in
+      sums-from f z h k.columns e (rw m at (sums-step z g h s x (rw l at w) p (rw l at q)))

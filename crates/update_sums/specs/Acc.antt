@@ -9,6 +9,7 @@ use Rattle.model.specs.Inertia.{check_bytes}
 use Rattle.model.specs.Update.{Descendant}
 use Rattle.grid.specs.Rules.{column_of}
 use Rattle.kernels.specs.Rules.{plus_times}
+use Rattle.update_sums.specs.declared.Columns.{Columns}
 
 -- 'v' of a landing row: the row times D; of the descendant only d, subdiagonal and block bytes play a part
 unfoldable pub weighed : List Float → List Float → List ℕ → Row → Row
@@ -18,13 +19,17 @@ weighed d sub blocks = times_d (diagonals_of d sub blocks)
 unfoldable pub acc_of : (n m : ℕ) → (panel d sub : List Float) → (blocks : List ℕ) → (i : ℕ) → Row
 acc_of n m panel d sub blocks i = λ r. sum_from (λ s. view n panel r s ⊗ weighed d sub blocks (view n panel i) s) 0 m zero_f
 
--- the descendant's panel by rows and columns; 'v' of its row i; acc of its row i over m columns
-abbrev pub matrix_of : Descendant → Mat
-matrix_of k = view (k.nk + k.mk) k.panel
+-- the panel by rows and columns; 'v' of its row i; acc of its row i over m columns
+abbrev pub matrix_in : Columns → Mat
+matrix_in k = view k.rows k.panel.now
 
-abbrev pub weights_of : Descendant → ℕ → Row
-weights_of k i = weighed k.d k.sub k.blocks (view (k.nk + k.mk) k.panel i)
+abbrev pub weights_in : Columns → ℕ → Row
+weights_in k i = weighed k.d.now k.sub.now k.blocks.now (view k.rows k.panel.now i)
 
+abbrev pub sums_in : Columns → (m i : ℕ) → Row
+sums_in k m i = acc_of k.rows m k.panel.now k.d.now k.sub.now k.blocks.now i
+
+-- acc of row i of a descendant's panel over m columns
 abbrev pub sums_of : Descendant → (m i : ℕ) → Row
 sums_of k m i = acc_of (k.nk + k.mk) m k.panel k.d k.sub k.blocks i
 
@@ -38,23 +43,23 @@ two_added f a s lo v w = plus_times (plus_times f (from_row (column_of a s) lo) 
 
 -- ---- what the functions ask of their callers
 
--- row i of the descendant's panel has column s, and the next one where a block begins at s
-pub record WeightPre (k : Descendant) (i s : ℕ) : Type 0 where
-  pub row : i < k.nk + k.mk
-  pub column : k.nk + k.mk + s * (k.nk + k.mk) ≤ length k.panel
-  pub pivot : s < length k.d
-  pub subdiagonal : s < length k.sub
-  pub byte : s < length k.blocks
-  pub next : naturals k.blocks s ≡ 1 → k.nk + k.mk + (s + 1) * (k.nk + k.mk) ≤ length k.panel
+-- row i of the panel has column s, and the next one where a block begins at s
+pub record WeightPre (k : Columns) (i s : ℕ) : Type 0 where
+  pub row : i < k.rows
+  pub column : k.rows + s * k.rows ≤ length k.panel.now
+  pub pivot : s < length k.d.now
+  pub subdiagonal : s < length k.sub.now
+  pub byte : s < length k.blocks.now
+  pub next : naturals k.blocks.now s ≡ 1 → k.rows + (s + 1) * k.rows ≤ length k.panel.now
 
--- rows lo up to hi of the descendant's panel, row i, the pivots, and room for acc
-pub record SumPre (k : Descendant) (i lo hi room : ℕ) : Type 0 where
-  pub row : i < k.nk + k.mk
+-- rows lo up to hi of the panel, row i, the pivots, and room for acc
+pub record SumPre (k : Columns) (i lo hi room : ℕ) : Type 0 where
+  pub row : i < k.rows
   pub up : lo ≤ hi
-  pub rows : hi ≤ k.nk + k.mk
+  pub rows : hi ≤ k.rows
   pub fits : hi - lo ≤ room
-  pub area : length k.panel ≡ (k.nk + k.mk) * k.nk
-  pub pivots : length k.d ≡ k.nk
-  pub subdiagonal : length k.sub ≡ k.nk
-  pub blocks : length k.blocks ≡ k.nk
-  pub check : check_bytes k.blocks ≡ Ok tt
+  pub area : length k.panel.now ≡ k.rows * k.columns
+  pub pivots : length k.d.now ≡ k.columns
+  pub subdiagonal : length k.sub.now ≡ k.columns
+  pub blocks : length k.blocks.now ≡ k.columns
+  pub check : check_bytes k.blocks.now ≡ Ok tt

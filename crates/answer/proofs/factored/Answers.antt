@@ -4,5 +4,5 @@ use Rattle.answer.proofs.factored.Goals as goal
 
 pub panel_size-numbers-requires : goal.panel_size-numbers-requires
 panel_size-numbers-requires c =
-    let sizes = asked-sizes c.args.stream.now c.args.c c.requires in
+    let sizes = asked-sizes c.args.stream.now c.args.c c.requires.stream_value in
     (sizes.rows, sizes.columns)

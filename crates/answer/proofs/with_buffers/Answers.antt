@@ -6,8 +6,8 @@ use Rattle.answer.proofs.Sizes.{part-clear, cleared-is}
 use Rattle.answer.proofs.with_buffers.Goals as goal
 
 pub returns : goal.returns
-returns c = let few = c.requires.columns in
-    let rows = c.requires.rows in
+returns c = let few = c.requires.sizes.columns in
+    let rows = c.requires.sizes.rows in
     let numbers = c.panel_size-numbers.ensures in
     let size = c.work_size-size.ensures in
     cleared-is c.args.c c.args.input.now (part-clear _ _ 1024 zero_f numbers.0 numbers.1) (part-clear _ _ 16 zero_f refl few)

@@ -8,6 +8,7 @@ pub less_columns-requires : goal.less_columns-requires
 less_columns-requires c = search (rules, block-pre)
 
 pub returns-then-block : goal.returns-then-block
+unfolding vec
 returns-then-block c = step_block _ _ _ _ _ _ _ _ c.if-block.true (by-two _ _ 0 _ _ _ _ c.less_columns.ensures)
 
 pub returns : goal.returns

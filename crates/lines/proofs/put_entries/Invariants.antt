@@ -5,6 +5,6 @@ use Rattle.lines.proofs.put_entries.Given as goal
 
 abbrev pub invariant-loop-j : goal.invariant-loop-j
 invariant-loop-j g l = record {
-  text : l.out ≡ l.initial.out ++ each (entry_field l.left.c.nrow l.left.panel.now l.i) l.j;
+  text : l.out ≡ l.initial.out ++ each (entry_field l.r.nrow l.r.panel.now l.i) l.j;
   room : length l.out ≡ length l.initial.out + 17 * l.j;
 }

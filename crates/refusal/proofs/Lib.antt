@@ -1,0 +1,2 @@
+-- Laws of a refusal's number and place.
+pub mod Laws
