@@ -1,6 +1,6 @@
 -- Laws of columns that one column loses together. Assumes nothing.
 use Prim.Native.Nat.{ℕ, ◌+◌, ◌-◌, ◌<◌}
-use mathlib.Core.Path.{◌≡◌, sym, ◌∙◌, ap, fun_ext}
+use mathlib.Core.Path.{◌≡◌, refl, sym, ◌∙◌, ap, fun_ext}
 use mathlib.Core.List.{List}
 use native.Mathlib.Omega.{arith}
 use borrow.Author.Tests.{eqb-true, eqb-false}
@@ -26,10 +26,10 @@ places-step xs u w c f r o h e v l =
     (λ p. rw (eqb-true v u p) (get_or-set_same xs u w 0 (omega arith) ∙ e))
     (λ p. get_or-set_other xs u v w 0 (eqb-false v u p) ∙ h v (omega (arith, eqb-false v u p)))
 
--- c columns from k on, each before column j, that begin where `from` says
-module _ (n : ℕ) (xs : List Float) (c k j q lo hi : ℕ) (from : ℕ → ℕ) (own : q ≡ column_start n j) (pre : LaterPre n (k + (c - 1)) j lo hi (length xs))
+-- c columns from k on, whose rows lo stand where `from` says, each before column j, whose row lo stands at q
+module _ (n : ℕ) (xs : List Float) (c k j q lo hi : ℕ) (from : ℕ → ℕ) (own : q ≡ lo + column_start n j) (pre : LaterPre n (k + (c - 1)) j lo hi (length xs))
     (at : (u : ℕ) → u < c → from u ≡ lo + column_start n (k + u)) where
-  pub columns-runs : RunsPre c (hi - lo) (lo + q) (length xs) from
+  pub columns-runs : RunsPre c (hi - lo) q (length xs) from
   columns-runs =
       let rows = pre.rows in
       let up = pre.up in
@@ -39,11 +39,11 @@ module _ (n : ℕ) (xs : List Float) (c k j q lo hi : ℕ) (from : ℕ → ℕ) 
         out = omega arith;
       }
 
-  pub columns-less : (ys : List Float) (m : ℕ → Float) → vec ys ≡ with_part (vec xs) (lo + q) (lo + q + (hi - lo)) (less_runs c (vec xs) (lo + q) from m)
+  pub columns-less : (ys : List Float) (m : ℕ → Float) → vec ys ≡ with_part (vec xs) q (q + (hi - lo)) (less_runs c (vec xs) q from m)
       → view n ys ≡ with_column (view n xs) j lo hi (less_columns c (view n xs) k j m)
   unfolding view vec less_runs less_columns
   columns-less ys m e =
-      view-part n (vec xs) (vec ys) j q lo hi _ _ own pre.rows (e ∙ part-bounds _ _ _ _ _ _ (omega arith) (omega (arith, pre.up)))
+      view-part n (vec xs) (vec ys) j (column_start n j) lo hi _ _ refl pre.rows (e ∙ part-bounds _ _ _ _ _ _ (omega arith) (omega (arith, pre.up)))
       (λ a l g.
       let row : a < n = omega (arith, pre.rows) in
       all_same c _ _ _ _ m

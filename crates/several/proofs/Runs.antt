@@ -114,18 +114,18 @@ module _ (f : Row) (from to : ℕ → ℕ) (m : ℕ → Row) (d c i n len : ℕ)
   disjoint : Apart to n c
   disjoint = apart to n c pre.apart
 
-  pub store-next : (v : ℕ) (xs zs : List Float) (s : Row) → v < c → length zs ≡ len → vec xs ≡ done f from to m d c i
+  pub store-next : (v p : ℕ) (xs zs : List Float) (s : Row) → v < c → p ≡ to v + i → length zs ≡ len → vec xs ≡ done f from to m d c i
       → ((u : ℕ) → u < d → s u ≡ vec xs (from u + i)) → vec zs ≡ stored f from to m d c i v
-      → vec (set zs (to v + i) (less_all d (get_or zs (to v + i) nan) s (m v))) ≡ stored f from to m d c i (v + 1)
+      → vec (set zs p (less_all d (get_or zs p nan) s (m v))) ≡ stored f from to m d c i (v + 1)
   unfolding puts_by runs_less less_runs vec
-  store-next v xs zs s o long e reads w =
+  store-next v p xs zs s o at long e reads w =
       let own : get_or zs (to v + i) nan ≡ f (to v + i) =
       ap (λ (r : Row). r (to v + i)) w ∙ puts-past _ to i _ v (to v + i) (λ u g. omega (arith, disjoint u v g o))
       ∙ runs-next f to n i _ c c v disjoint l (omega arith) o in
       let source : (u : ℕ) → u < d → s u ≡ f (from u + (to v + i - to v)) =
       λ u g. reads u g ∙ ap (λ (r : Row). r (from u + i)) e ∙ runs-before f to i _ c (from u + i) (λ w h. omega (arith, pre.read u w g h))
       ∙ ap f (omega arith) in
-      rw (add-one v) (vec-set zs (to v + i) _ (omega (arith, pre.out v o))
+      rw (at, add-one v) (vec-set zs (to v + i) _ (omega (arith, pre.out v o))
       ∙ ap (λ (r : Row). put r (to v + i) (less_all d (get_or zs (to v + i) nan) s (m v))) w
       ∙ ap (put (stored f from to m d c i v) (to v + i)) (all_same d _ _ _ _ (m v) own source))
 

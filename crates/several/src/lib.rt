@@ -8,6 +8,7 @@ ghost use Rattle.std.specs.Prelude.{◌≡◌, ℕ, ◌+◌, ◌-◌, ◌<◌, l
 ghost use Rattle.std.specs.Int.{w64};
 ghost use Rattle.std.proofs.Common.{Fits};
 ghost use Rattle.model.specs.Matrix.{view, vec, naturals};
+ghost use Rattle.model.specs.Scalar.{◌⊗◌};
 ghost use Rattle.kernels.specs.Rules.{less_all};
 ghost use Rattle.several.specs.Several.{list_at, runs_by, runs_less, columns_by, less_of, RunsPre, ColumnsPre};
 
@@ -26,13 +27,29 @@ fn numbers_at<const R: usize>(x: &[f64], from: [usize; R], i: usize) -> [f64; R]
     s
 }
 
-// y less the numbers s in turn, each times its own multiplier.
-fn less_all<const R: usize>(y: f64, s: [f64; R], m: [f64; R]) -> f64
-    ensures { result ≡ less_all R y (vec s.entry) (vec m.entry) }
+// What the u-th of the runs written loses of the v-th read: that one's number times the written run's own multiplier.
+// (A function by itself, so that each product is promised, and not only what is left.)
+#[tactic(auto, unfolding(model::specs::Matrix::vec, crate::specs::Several::list_at))]
+fn product<const R: usize, const W: usize>(
+    s: [f64; R],
+    m: &[[f64; R]; W],
+    u: usize,
+    v: usize,
+) -> f64
+    requires { (u < W) × (v < R) }
+    ensures { result ≡ vec s.entry v ⊗ list_at m.now u v }
+{
+    s[v] * m[u][v]
+}
+
+// y less what the u-th of the runs written loses of each that is read, in turn.
+fn less_all<const R: usize, const W: usize>(y: f64, s: [f64; R], m: &[[f64; R]; W], u: usize) -> f64
+    requires { u < W }
+    ensures { result ≡ less_all R y (vec s.entry) (list_at m.now u) }
 {
     let mut left = y;
     for v in 0..R {
-        left = left - s[v] * m[v];
+        left = left - product(s, m, u, v);
     }
     left
 }
@@ -56,7 +73,7 @@ fn runs_less<const R: usize, const W: usize>(
         let s = numbers_at(x, from, i);
         for u in 0..W {
             let own = to[u] + i;
-            x[own] = less_all(x[own], s, m[u]);
+            x[own] = less_all(x[own], s, &m, u);
         }
     }
 }

@@ -31,7 +31,7 @@ bounds-g-at g c = let run = c.requires.runs c.loop-u.u c.loop-u-test.true in sea
 
 pub loop-u-preserved : goal.loop-u-preserved
 unfolding less_all naturals vec
-loop-u-preserved g c = rw (add-one c.loop-u.u) (rw c.loop-u.invariant)
+loop-u-preserved g c = rw (add-one c.loop-u.u) (rw c.loop-u.invariant (search rules))
 
 pub loop-i-preserved : goal.loop-i-preserved
 loop-i-preserved g c =

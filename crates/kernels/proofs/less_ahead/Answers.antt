@@ -30,7 +30,7 @@ bounds-x-at g c = let run = c.requires.apart c.loop-u.u c.loop-u-test.true in se
 
 pub loop-u-preserved : goal.loop-u-preserved
 unfolding less_all naturals vec
-loop-u-preserved g c = rw (add-one c.loop-u.u) (rw c.loop-u.invariant)
+loop-u-preserved g c = rw (add-one c.loop-u.u) (rw c.loop-u.invariant (search rules))
 
 pub loop-i-preserved : goal.loop-i-preserved
 loop-i-preserved g c = let i = c.loop-i.i in

@@ -1,7 +1,6 @@
 -- What `several::less_all` owes. Assumes nothing.
 use native.Mathlib.Numerals.{add-one}
 use mathlib.Core.Path.{refl}
-use Rattle.model.specs.Matrix.{vec}
 use Rattle.kernels.specs.Rules.{less_all}
 use Rattle.several.proofs.less_all.Goals as goal
 
@@ -10,5 +9,5 @@ unfolding less_all
 loop-v-init g c = refl
 
 pub loop-v-preserved : goal.loop-v-preserved
-unfolding less_all vec
-loop-v-preserved g c = rw (add-one c.loop-v.v) (rw c.loop-v.invariant)
+unfolding less_all
+loop-v-preserved g c = rw (add-one c.loop-v.v) (rw (c.loop-v.invariant, c.product-left.ensures))

@@ -2,7 +2,6 @@
 use mathlib.Core.Path.{refl}
 use native.Mathlib.Omega.{arith}
 use Rattle.model.specs.Matrix.{vec, naturals}
-use Rattle.several.specs.Several.{list_at}
 use Rattle.several.proofs.Runs.{puts_by, runs_none, store-next, store-all}
 use borrow.Author.Rules.{rules}
 use Rattle.several.proofs.runs_less.Goals as goal
@@ -35,12 +34,12 @@ unfolding naturals
 bounds-x-own-in-loop-u g c = let there = c.requires.out c.loop-u.u c.loop-u-test.true in search rules
 
 pub loop-u-preserved : goal.loop-u-preserved
-unfolding naturals list_at
+unfolding naturals
 loop-u-preserved g c = (
   search rules,
   rw c.less_all.ensures
-      (store-next _ _ _ _ _ _ c.loop-i.i c.args.n _ c.loop-i-test.true c.requires c.loop-u.u c.loop-i.x c.loop-u.x (vec c.numbers_at-s.result)
-      c.loop-u-test.true c.loop-u.invariant.0 c.loop-i.invariant.2 c.numbers_at-s.ensures c.loop-u.invariant.1),
+      (store-next _ _ _ _ _ _ c.loop-i.i c.args.n _ c.loop-i-test.true c.requires c.loop-u.u _ c.loop-i.x c.loop-u.x (vec c.numbers_at-s.result)
+      c.loop-u-test.true (search rules) c.loop-u.invariant.0 c.loop-i.invariant.2 c.numbers_at-s.ensures c.loop-u.invariant.1),
 )
 
 pub loop-i-preserved : goal.loop-i-preserved

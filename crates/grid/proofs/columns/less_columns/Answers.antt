@@ -5,16 +5,15 @@ use borrow.Author.Rules.{rules}
 use Rattle.grid.proofs.columns.less_columns.Goals as goal
 
 pub less_ahead-requires : goal.less_ahead-requires
-less_ahead-requires g c = let a = c.args in (
+less_ahead-requires g c = let a = c.args in let start = c.column_start-own.ensures in (
   search rules,
   (
     search rules,
-    columns-runs a.nrow a.panel.now g.row.N a.k a.j c.column_start-own.result a.lo a.hi (naturals c.places-at.result) c.column_start-own.ensures c.requires
-        c.places-at.ensures,
+    columns-runs a.nrow a.panel.now g.row.N a.k a.j _ a.lo a.hi (naturals c.places-at.result) (search rules) c.requires c.places-at.ensures,
   ),
 )
 
 pub returns : goal.returns
-returns g c = let a = c.args in
-    columns-less a.nrow a.panel.now g.row.N a.k a.j c.column_start-own.result a.lo a.hi (naturals c.places-at.result) c.column_start-own.ensures c.requires
-    c.places-at.ensures _ (vec a.m) c.less_ahead.ensures
+returns g c = let a = c.args in let start = c.column_start-own.ensures in
+    columns-less a.nrow a.panel.now g.row.N a.k a.j _ a.lo a.hi (naturals c.places-at.result) (search rules) c.requires c.places-at.ensures _ (vec a.m)
+    c.less_ahead.ensures
